@@ -1,0 +1,86 @@
+// Bytes as ASCII text: letters without regard to case, digits, white space, trimming.
+ghost use mathlib.Core.Path.{_≡_};
+ghost use Rattle.ascii.specs.Bytes.{between as betweenOf, upper as upperOf, isDigit, isLetter, isSpace};
+ghost use Rattle.ascii.specs.Trim.{leading, solid, trim as trimOf};
+
+// Whether b is one of the bytes low to high.
+pub fn between(low: u8, high: u8, b: u8) -> bool
+    ensures { λ r. ⌜ r ≡ betweenOf low high b ⌝ }
+{
+    if b < low {
+        return false;
+    }
+    b <= high
+}
+
+// a to z become A to Z.
+pub fn upper(b: u8) -> u8
+    ensures { λ r. ⌜ r ≡ upperOf b ⌝ }
+{
+    if b < 97 {
+        return b;
+    }
+    if b > 122 {
+        return b;
+    }
+    b - 32
+}
+
+pub fn is_digit(b: u8) -> bool
+    ensures { λ r. ⌜ r ≡ isDigit b ⌝ }
+{
+    between(48, 57, b)
+}
+
+pub fn is_letter(b: u8) -> bool
+    ensures { λ r. ⌜ r ≡ isLetter b ⌝ }
+{
+    between(65, 90, upper(b))
+}
+
+// The white space that trimming removes.
+pub fn is_space(b: u8) -> bool
+    ensures { λ r. ⌜ r ≡ isSpace b ⌝ }
+{
+    if b == 32 {
+        return true;
+    }
+    between(9, 13, b)
+}
+
+// How many bytes of white space stand in front.
+pub fn leading_space(s: &[u8]) -> usize
+    ensures { λ r. ⌜ r ≡ leading (now (s .entry)) ⌝ }
+{
+    let mut i: usize = 0;
+    while i < s.len() {
+        if !is_space(s[i]) {
+            return i;
+        }
+        i += 1;
+    }
+    i
+}
+
+// How many bytes are left when the white space at the end is not counted.
+pub fn solid_length(s: &[u8]) -> usize
+    ensures { λ r. ⌜ r ≡ solid (now (s .entry)) ⌝ }
+{
+    let mut e: usize = s.len();
+    while 0 < e {
+        if !is_space(s[e - 1]) {
+            return e;
+        }
+        e -= 1;
+    }
+    e
+}
+
+// The part between the white space at both ends.
+pub fn trim(s: &[u8]) -> &[u8]
+    ensures { λ r. ⌜ now r ≡ trimOf (now (s .entry)) ⌝ }
+{
+    let from = leading_space(s);
+    let to = solid_length(s);
+    if from < to { &s[from..to] } else { &s[..0] }
+}

@@ -1,0 +1,54 @@
+-- Document 01, "Numbers of refusal": the table, a line for each row.
+-- Assumes nothing.
+use Prim.Native.Nat.{ℕ}
+use mathlib.Core.List.{List, [], _∷_}
+
+-- a refusal: its number, and the values that it carries, in the order of the table
+pub record Numbered : Type 0 where
+  pub number : ℕ
+  pub carries : List ℕ
+
+abbrev pub textTooLong : ℕ → Numbered
+textTooLong length = record { number = 1; carries = length ∷ [] }
+
+-- the offset of the first byte outside the domain
+abbrev pub badByte : ℕ → Numbered
+badByte offset = record { number = 2; carries = offset ∷ [] }
+
+-- the text line from 1, blank lines counted
+abbrev pub missingLineNumber : ℕ → Numbered
+missingLineNumber line = record { number = 3; carries = line ∷ [] }
+
+abbrev pub lineNumberOutOfRange : ℕ → ℕ → Numbered
+lineNumberOutOfRange line value = record { number = 4; carries = line ∷ value ∷ [] }
+
+abbrev pub addressOverflow : Numbered
+addressOverflow = record { number = 5; carries = [] }
+
+abbrev pub noRoom : ℕ → Numbered
+noRoom needed = record { number = 6; carries = needed ∷ [] }
+
+abbrev pub imageTooLong : ℕ → Numbered
+imageTooLong length = record { number = 7; carries = length ∷ [] }
+
+abbrev pub tooShort : Numbered
+tooShort = record { number = 8; carries = [] }
+
+abbrev pub unexpectedEof : Numbered
+unexpectedEof = record { number = 9; carries = [] }
+
+-- the offset of the link, in this and the next three
+abbrev pub missingEnd : ℕ → Numbered
+missingEnd offset = record { number = 10; carries = offset ∷ [] }
+
+abbrev pub linkBackward : ℕ → Numbered
+linkBackward offset = record { number = 11; carries = offset ∷ [] }
+
+abbrev pub linkOutside : ℕ → Numbered
+linkOutside offset = record { number = 12; carries = offset ∷ [] }
+
+abbrev pub linkNoEnd : ℕ → Numbered
+linkNoEnd offset = record { number = 13; carries = offset ∷ [] }
+
+abbrev pub unknownDialect : Numbered
+unknownDialect = record { number = 14; carries = [] }

@@ -1,0 +1,67 @@
+-- `words::first_live` meets its contract: the search with the test "the word is live and the text begins with it".
+-- Assumes nothing.
+use Prim.Native.Nat.{_-_}
+use lib.ListN.{length, getD}
+use Rattle.words.specs.Compare.{begins}
+use Rattle.words.specs.Find.{liveIn}
+use Rattle.words.specs.Run.{spelled}
+use Rattle.words.proofs.Search.{Sought, sought-start, sought-lies, sought-found, sought-turn, sought-end}
+use mathlib.Core.Bool.{false, _&&_}
+use borrow.Author.Needs.{needs}
+use Rattle.words.proofs.first_live.Statement.{statement}
+use Rattle.words.proofs.first_live.Tie as tie
+
+abbrev Inv-loop : tie.InvT-loop
+Inv-loop bytes starts tokens live text i₀ i =
+    Sought (λ k w. getD live k false && begins w text) bytes starts tokens (liveIn live (spelled bytes starts tokens) text) i
+
+abbrev μ-loop : tie.MeasureT-loop
+μ-loop bytes starts tokens live text i₀ i = length tokens - i
+
+loop-holds : tie.Need-loop-holds Inv-loop μ-loop
+unfolding liveIn
+loop-holds c = sought-start _ _ _ _ (c .before .before .before .before .before .pre .0)
+
+word-at-requires : tie.Need-word-at-requires Inv-loop μ-loop
+word-at-requires c κs = sought-lies (c .before .loop .inv) (c .loop-test .taken)
+
+shared-slice-read-begins-live : tie.Need-shared-slice-read-begins-live Inv-loop μ-loop
+shared-slice-read-begins-live c = search needs
+
+begins-live-requires : tie.Need-begins-live-requires Inv-loop μ-loop
+begins-live-requires c κs = search needs
+
+shared-slice-read-t14 : tie.Need-shared-slice-read-t14 Inv-loop μ-loop
+shared-slice-read-t14 c = search needs
+
+returns : tie.Need-returns Inv-loop μ-loop
+returns c = sought-found (c .before .before .before .before .before .before .loop .inv) (c .before .before .before .before .before .loop-test .taken) (c .before .before .before .before .word-at .ensures) (c .before .before .begins-live .ensures) (c .before .if1 .taken)
+
+add-i : tie.Need-add-i Inv-loop μ-loop
+add-i c = search needs
+
+loop-less : tie.Need-loop-less Inv-loop μ-loop
+loop-less c = search needs
+
+loop-again : tie.Need-loop-again Inv-loop μ-loop
+loop-again c = sought-turn (c .before .before .before .before .before .loop .inv) (c .before .before .before .before .loop-test .taken) (c .before .before .before .word-at .ensures) (c .before .begins-live .ensures) (c .if1 .left)
+
+returns-2 : tie.Need-returns-2 Inv-loop μ-loop
+returns-2 c = sought-end (c .before .loop .inv) (c .loop-test .left)
+
+pub first-live-spec : {M : Type 1} → statement M
+first-live-spec =
+    tie.close
+    (tie.spec
+    Inv-loop
+    μ-loop
+    loop-holds
+    word-at-requires
+    shared-slice-read-begins-live
+    begins-live-requires
+    shared-slice-read-t14
+    returns
+    add-i
+    loop-less
+    loop-again
+    returns-2)

@@ -1,0 +1,20 @@
+-- Words compared with texts, without regard to case (document 01, "Crunching one body": "Words match without regard to case";
+-- "Escapes": "Escape names are compared whole").
+-- Assumes nothing.
+use Prim.Native.Nat.{ℕ}
+use mathlib.Core.Bool.{Bool, true, false, _&&_}
+use mathlib.Core.List.{List, [], _∷_}
+use lib.ListN.{length}
+use lib.Dec.{eqb}
+use Rattle.ascii.specs.Bytes.{upper}
+
+-- the word is a beginning of the text
+unfoldable pub begins : List ℕ → List ℕ → Bool
+begins [] t = true
+begins (x ∷ w) [] = false
+begins (x ∷ w) (y ∷ t) = elim (eqb (upper x) (upper y)) [ true ↦ begins w t | false ↦ false ]
+
+-- the word is the whole text
+unfoldable pub alike : List ℕ → List ℕ → Bool
+unfolding begins
+alike w t = eqb (length w) (length t) && begins w t

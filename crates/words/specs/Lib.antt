@@ -1,0 +1,4 @@
+pub mod Compare
+pub mod Find
+pub mod Order
+pub mod Run
