@@ -1,4 +1,4 @@
--- The loops that trim: for each its invariant, a turn, and its ends.
+-- The loops over a text: for each its invariant, a turn, and its ends.
 -- Assumes nothing.
 use Prim.Native.Nat.{ℕ, zero, suc, _+_, _-_, _≤_, _<_}
 use mathlib.Core.Path.{_≡_, refl, sym, ap, _∙_}
@@ -8,7 +8,9 @@ use native.Mathlib.Numerals.{add-one}
 use native.Mathlib.Omega.{arith}
 use lib.ListN.{length, getD, take, drop, drop-of-length-le, length-append}
 use lib.Seq.{drop-cons, take-suc, take-length, length-take-le}
-use Rattle.ascii.specs.Bytes.{isSpace}
+use lib.Dec.{ltb}
+use borrow.Author.Tests.{lt-ltb, le-ltb}
+use Rattle.ascii.specs.Bytes.{isSpace, isAscii}
 use Rattle.ascii.specs.Trim.{leading, countsWith, solid, trim}
 
 -- ---- white space in front
@@ -99,3 +101,26 @@ module _ (s : List ℕ) {a e : ℕ} (from : a ≡ leading s) (to : e ≡ solid s
 
   pub trim-within : e ≤ length s
   trim-within = omega (arith, solid-le s)
+
+-- ---- each byte below 80
+
+-- the i bytes passed are
+pub record Plain (s : List ℕ) (i : ℕ) : Type 0 where
+  pub within : i ≤ length s
+  pub gives : isAscii (drop i s) ≡ isAscii s
+
+module _ {s : List ℕ} {i : ℕ} (p : Plain s i) where
+  pub plain-end : length s ≤ i → true ≡ isAscii s
+  unfolding isAscii
+  plain-end h = rw (drop-of-length-le s h) at (p .gives)
+
+  module _ (h : i < length s) where
+    pub plain-turn : getD s i 0 < 0x80 → Plain s (i + 1)
+    unfolding isAscii
+    plain-turn l =
+        let e : isAscii (drop i s) ≡ isAscii (drop (i + 1) s) = rw (add-one, drop-cons s i 0 h, isAscii, lt-ltb _ _ l) in
+        record { within = omega arith; gives = sym e ∙ p .gives }
+
+    pub plain-stop : 0x80 ≤ getD s i 0 → false ≡ isAscii s
+    unfolding isAscii
+    plain-stop l = let e : isAscii (drop i s) ≡ false = rw (drop-cons s i 0 h, isAscii, le-ltb _ _ l) in sym e ∙ p .gives

@@ -2,8 +2,9 @@
 -- Document 01: "without regard to case"; "Text lines", "White space for trimming is 09 to 0D and 20".
 -- Assumes nothing.
 use Prim.Native.Nat.{ℕ, _-_}
-use mathlib.Core.Bool.{Bool, cond, _&&_, _||_}
-use lib.Dec.{leb, eqb}
+use mathlib.Core.Bool.{Bool, true, false, cond, _&&_, _||_}
+use mathlib.Core.List.{List, [], _∷_}
+use lib.Dec.{leb, ltb, eqb}
 
 -- one of the bytes low to high
 unfoldable pub between : ℕ → ℕ → ℕ → Bool
@@ -23,3 +24,8 @@ isLetter b = between 65 90 (upper b)
 -- the white space that trimming removes
 abbrev pub isSpace : ℕ → Bool
 isSpace b = eqb b 32 || between 9 13 b
+
+-- each byte is below 80
+unfoldable pub isAscii : List ℕ → Bool
+isAscii [] = true
+isAscii (b ∷ s) = elim (ltb b 0x80) [ true ↦ isAscii s | false ↦ false ]

@@ -1,6 +1,6 @@
 // Bytes as ASCII text: letters without regard to case, digits, white space, trimming.
 ghost use mathlib.Core.Path.{_≡_};
-ghost use Rattle.ascii.specs.Bytes.{between as betweenOf, upper as upperOf, isDigit, isLetter, isSpace};
+ghost use Rattle.ascii.specs.Bytes.{between as betweenOf, upper as upperOf, isDigit, isLetter, isSpace, isAscii};
 ghost use Rattle.ascii.specs.Trim.{leading, solid, trim as trimOf};
 
 // Whether b is one of the bytes low to high.
@@ -46,6 +46,20 @@ pub fn is_space(b: u8) -> bool
         return true;
     }
     between(9, 13, b)
+}
+
+// Whether each byte is below 80.
+pub fn is_ascii(s: &[u8]) -> bool
+    ensures { λ r. ⌜ r ≡ isAscii (now (s .entry)) ⌝ }
+{
+    let mut i: usize = 0;
+    while i < s.len() {
+        if s[i] >= 0x80 {
+            return false;
+        }
+        i += 1;
+    }
+    true
 }
 
 // How many bytes of white space stand in front.

@@ -1,3 +1,5 @@
 pub mod Comparing
+pub mod Sameness
 pub mod Search
+pub mod Sections
 pub mod Order

@@ -18,3 +18,16 @@ begins (x ∷ w) (y ∷ t) = elim (eqb (upper x) (upper y)) [ true ↦ begins w 
 unfoldable pub alike : List ℕ → List ℕ → Bool
 unfolding begins
 alike w t = eqb (length w) (length t) && begins w t
+
+-- the two are the same, case and all
+unfoldable pub same : List ℕ → List ℕ → Bool
+same [] [] = true
+same [] (y ∷ t) = false
+same (x ∷ w) [] = false
+same (x ∷ w) (y ∷ t) = elim (eqb x y) [ true ↦ same w t | false ↦ false ]
+
+-- the text is one of the words
+unfoldable pub member : List ℕ → List (List ℕ) → Bool
+unfolding same
+member t [] = false
+member t (w ∷ ws) = elim (same w t) [ true ↦ true | false ↦ member t ws ]

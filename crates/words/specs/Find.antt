@@ -5,7 +5,7 @@ use Prim.Native.Nat.{ℕ, suc}
 use mathlib.Core.Bool.{Bool, true, false, _&&_}
 use mathlib.Core.List.{List, [], _∷_}
 use lib.ListN.{length, getD}
-use Rattle.words.specs.Compare.{begins, alike}
+use Rattle.words.specs.Compare.{begins, alike, same}
 use Rattle.words.specs.declared.Match.{Match}
 use Rattle.words.specs.declared.Match.the-variants.{Word, Nothing}
 
@@ -34,3 +34,8 @@ liveIn live es t = firstThat (λ k w. getD live k false && begins w t) es 0
 unfoldable pub nameIn : List Entry → List ℕ → Match
 unfolding firstThat alike
 nameIn es t = firstThat (λ k w. alike w t) es 0
+
+-- the first word that is the same as the text, case and all
+unfoldable pub sameIn : List Entry → List ℕ → Match
+unfolding firstThat same
+sameIn es t = firstThat (λ k w. same w t) es 0

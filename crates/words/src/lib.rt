@@ -5,8 +5,8 @@ ghost use mathlib.Core.Bool.{_&&_};
 ghost use Prim.Native.Nat.{_≤_};
 ghost use lib.Dec.{T};
 ghost use lib.ListN.{length};
-ghost use Rattle.words.specs.Compare.{begins as beginsOf, alike as alikeOf};
-ghost use Rattle.words.specs.Find.{wordIn, liveIn, nameIn};
+ghost use Rattle.words.specs.Compare.{begins as beginsOf, alike as alikeOf, same as sameOf};
+ghost use Rattle.words.specs.Find.{wordIn, liveIn, nameIn, sameIn};
 ghost use Rattle.words.specs.Run.{Lies, wordOf, rising, spelled};
 
 pub enum Match {
@@ -46,6 +46,13 @@ pub fn alike(word: &[u8], text: &[u8]) -> bool
         return false;
     }
     begins(word, text)
+}
+
+// Whether the text is the word, case and all.
+pub fn same(word: &[u8], text: &[u8]) -> bool
+    ensures { λ r. ⌜ r ≡ sameOf (now (word .entry)) (now (text .entry)) ⌝ }
+{
+    check::same(word, text)
 }
 
 fn begins_live(live: bool, word: &[u8], text: &[u8]) -> bool
@@ -122,6 +129,26 @@ pub fn first_name(bytes: &[u8], starts: &[u16], tokens: &[u8], text: &[u8]) -> M
     while i < tokens.len() {
         let word = word_at(bytes, starts, i);
         if alike(word, text) {
+            return Match::Word {
+                index: i,
+                used: word.len(),
+                token: tokens[i],
+            };
+        }
+        i += 1;
+    }
+    Match::Nothing
+}
+
+// The first word of the list that the text is, case and all.
+pub fn first_same(bytes: &[u8], starts: &[u16], tokens: &[u8], text: &[u8]) -> Match
+    requires { ⌜ T (rising (length (now bytes)) (now starts) (now tokens)) ⌝ }
+    ensures { λ r. ⌜ r ≡ sameIn (spelled (now (bytes .entry)) (now (starts .entry)) (now (tokens .entry))) (now (text .entry)) ⌝ }
+{
+    let mut i: usize = 0;
+    while i < tokens.len() {
+        let word = word_at(bytes, starts, i);
+        if same(word, text) {
             return Match::Word {
                 index: i,
                 used: word.len(),

@@ -1,0 +1,5 @@
+pub mod Lists
+pub mod Naming
+pub mod Sections
+pub mod TextTable
+pub mod TsbTest

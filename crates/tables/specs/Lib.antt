@@ -1,0 +1,7 @@
+pub mod Dialects
+pub mod Escapes
+pub mod Rom
+pub mod Spelling
+pub mod Texts
+pub mod Tsb
+pub mod Words

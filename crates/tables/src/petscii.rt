@@ -1,0 +1,68 @@
+// The text of one PETSCII byte.
+ghost use mathlib.Core.Path.{_≡_};
+ghost use mathlib.Core.List.{[], _∷_};
+ghost use Rattle.tables.specs.Texts.{hexDigits, byteText, held};
+
+pub const HEX_DIGITS: [u8; 16] = *b"0123456789ABCDEF";
+
+// A text of at most six bytes: the first len of them, and zeros behind.
+pub struct ByteText {
+    pub bytes: [u8; 6],
+    pub len: usize,
+}
+
+fn one(b: u8) -> ByteText
+    ensures { λ r. ⌜ r ≡ held (b ∷ []) ⌝ }
+{
+    ByteText {
+        bytes: [b, 0, 0, 0, 0, 0],
+        len: 1,
+    }
+}
+
+// The text of a byte that is listed as a character.
+pub fn byte_to_string(b: u8) -> ByteText
+    ensures { λ r. ⌜ r ≡ held (byteText b) ⌝ }
+{
+    byte_text(b, &HEX_DIGITS)
+}
+
+// The same, with the digits lent.
+pub fn byte_text(b: u8, hex: &[u8; 16]) -> ByteText
+    requires { ⌜ now hex ≡ hexDigits ⌝ }
+    ensures { λ r. ⌜ r ≡ held (byteText b) ⌝ }
+{
+    if b == 0 {
+        return ByteText {
+            bytes: *b"{null}",
+            len: 6,
+        };
+    }
+    if b == 0x0D {
+        return one(0x0A);
+    }
+    if ascii::between(0x20, 0x5F, b) {
+        return one(b);
+    }
+    if b == 0x60 {
+        return ByteText {
+            bytes: [0xE2, 0x94, 0x80, 0, 0, 0],
+            len: 3,
+        };
+    }
+    if ascii::between(0xC1, 0xDA, b) {
+        return one(b - 0x80);
+    }
+    let high = hex[wide(b / 16)];
+    let low = hex[wide(b % 16)];
+    ByteText {
+        bytes: [0x7B, 0x24, high, low, 0x7D, 0],
+        len: 5,
+    }
+}
+
+fn wide(b: u8) -> usize
+    ensures { λ r. ⌜ r ≡ b ⌝ }
+{
+    b as usize
+}
