@@ -1,0 +1,56 @@
+// Prints the ROM's word table as the tables have it, a row a token: the token that crunching gives the text, in hexadecimal, and the
+// text that listing gives the token. What it must print is the published table, facts/rom-words.tsv.
+use libc::STDOUT_FILENO;
+use tables::{matching, petscii, spellings, texts};
+use words::Match;
+ghost use Rattle.tables.specs.Words.{SpellsWords};
+
+// The token of a V2 word or an operator, or 0.
+fn token_of(bytes: &[u8], starts: &[u16], tokens: &[u8], text: &[u8]) -> u8
+    requires { ⌜ SpellsWords (now bytes) (now starts) (now tokens) ⌝ }
+{
+    match matching::match_v2(bytes, starts, tokens, text) {
+        Match::Word {
+            index: _,
+            used: _,
+            token,
+        } => token,
+        Match::Nothing => match matching::match_operator(bytes, starts, tokens, text) {
+            Match::Word {
+                index: _,
+                used: _,
+                token,
+            } => token,
+            Match::Nothing => 0,
+        },
+    }
+}
+
+fn digit(n: u8) -> u8 {
+    petscii::HEX_DIGITS[(n % 16) as usize]
+}
+
+fn print_row(k: u8) -> bool {
+    let text_bytes = texts::TEXT_BYTES;
+    let text = texts::text_at(&text_bytes, &texts::TEXT_STARTS, k);
+    let token = token_of(
+        &spellings::WORD_BYTES,
+        &spellings::WORD_STARTS,
+        &spellings::WORD_TOKENS,
+        text,
+    );
+    let head = [digit(token / 16), digit(token), b'\t'];
+    io::write_all(STDOUT_FILENO, &head);
+    io::write_all(STDOUT_FILENO, text);
+    io::write_all(STDOUT_FILENO, b"\n")
+}
+
+fn main() {
+    let mut k: u8 = 0x80;
+    while k < 0xCC {
+        if !print_row(k) {
+            return;
+        }
+        k += 1;
+    }
+}
