@@ -1,7 +1,10 @@
 // Prints the ROM's word table as the tables have it, a row a token: the token that crunching gives the text, in hexadecimal, and the
 // text that listing gives the token. What it must print is the published table, facts/rom-words.tsv.
 use libc::STDOUT_FILENO;
-use tables::{matching, petscii, spellings, texts};
+use tables::matching;
+use tables::petscii;
+use tables::spellings;
+use tables::texts;
 use words::Match;
 ghost use Rattle.tables.specs.Words.{SpellsWords};
 
