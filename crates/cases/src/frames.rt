@@ -1,0 +1,153 @@
+// The frames: the numbers of a request, and the answer to it.
+ghost use mathlib.Core.Path.{_≡_};
+ghost use Prim.Native.Nat.{_+_, _*_, _^_, _≤_};
+ghost use lib.ListN.{length};
+ghost use Rattle.cases.specs.Frames.{u16At, u32At, u64At, Sendable};
+use libc::STDOUT_FILENO;
+use refusals::Refusal;
+
+// The number of two bytes at a place, the low byte first; then of four and of eight.
+pub fn u16_at(bytes: &[u8], at: usize) -> u16
+    requires { ⌜ at + 2 ≤ length (now bytes) ⌝ }
+    ensures { λ r. ⌜ r ≡ u16At (now (bytes .entry)) at ⌝ }
+{
+    u16_of(bytes[at], bytes[at + 1])
+}
+
+pub fn u32_at(bytes: &[u8], at: usize) -> u32
+    requires { ⌜ at + 4 ≤ length (now bytes) ⌝ }
+    ensures { λ r. ⌜ r ≡ u32At (now (bytes .entry)) at ⌝ }
+{
+    u32_of(u16_at(bytes, at), u16_at(bytes, at + 2))
+}
+
+pub fn u64_at(bytes: &[u8], at: usize) -> u64
+    requires { ⌜ at + 8 ≤ length (now bytes) ⌝ }
+    ensures { λ r. ⌜ r ≡ u64At (now (bytes .entry)) at ⌝ }
+{
+    u64_of(u32_at(bytes, at), u32_at(bytes, at + 4))
+}
+
+fn u16_of(low: u8, high: u8) -> u16
+    ensures { λ r. ⌜ r ≡ low + 2 ^ 8 * high ⌝ }
+{
+    (low as u16) + 256 * (high as u16)
+}
+
+fn u32_of(low: u16, high: u16) -> u32
+    ensures { λ r. ⌜ r ≡ low + 2 ^ 16 * high ⌝ }
+{
+    (low as u32) + 65_536 * (high as u32)
+}
+
+fn u64_of(low: u32, high: u32) -> u64
+    ensures { λ r. ⌜ r ≡ low + 2 ^ 32 * high ⌝ }
+{
+    (low as u64) + 4_294_967_296 * (high as u64)
+}
+
+// An answer while it is put together. Its first four bytes are kept for the length of its body, which is known last.
+pub struct Answer {
+    pub bytes: [u8; 64],
+    pub len: usize,
+}
+
+impl Answer {
+    fn beginning(first: u8) -> Self
+        ensures { λ r. ⌜ r .len ≡ 5 ⌝ }
+    {
+        let mut bytes = [0u8; 64];
+        bytes[4] = first;
+        Answer { bytes, len: 5 }
+    }
+
+    // A call that was done. Its results follow.
+    pub fn done() -> Self
+        ensures { λ r. ⌜ r .len ≡ 5 ⌝ }
+    {
+        Answer::beginning(0)
+    }
+
+    // A request that stands for no call.
+    pub fn malformed() -> Self
+        ensures { λ r. ⌜ r .len ≡ 5 ⌝ }
+    {
+        Answer::beginning(0xFF)
+    }
+
+    // A call that was refused: the refusal's number and its values.
+    pub fn refused(refusal: Refusal) -> Self
+        ensures { λ r. ⌜ Sendable r ⌝ }
+    {
+        let code = refusals::refusal_code(refusal);
+        let bare = Answer::beginning(code.number);
+        if code.count == 0 {
+            return bare;
+        }
+        let one = bare.number(code.first);
+        if code.count == 1 {
+            return one;
+        }
+        one.number(code.second)
+    }
+
+    pub fn byte(mut self, b: u8) -> Self
+        requires { ⌜ self .len + 1 ≤ 64 ⌝ }
+        ensures { λ r. ⌜ r .len ≡ self .len + 1 ⌝ }
+    {
+        let at = self.len;
+        self.bytes[at] = b;
+        self.len = at + 1;
+        self
+    }
+
+    fn two_bytes(self, n: usize) -> Self
+        requires { ⌜ self .len + 2 ≤ 64 ⌝ }
+        ensures { λ r. ⌜ r .len ≡ self .len + 2 ⌝ }
+    {
+        self.byte((n % 256) as u8).byte((n / 256 % 256) as u8)
+    }
+
+    fn four_bytes(self, n: usize) -> Self
+        requires { ⌜ self .len + 4 ≤ 64 ⌝ }
+        ensures { λ r. ⌜ r .len ≡ self .len + 4 ⌝ }
+    {
+        self.two_bytes(n).two_bytes(n / 65_536)
+    }
+
+    // A number of eight bytes.
+    pub fn number(self, n: usize) -> Self
+        requires { ⌜ self .len + 8 ≤ 64 ⌝ }
+        ensures { λ r. ⌜ r .len ≡ self .len + 8 ⌝ }
+    {
+        self.four_bytes(n).four_bytes(n / 4_294_967_296)
+    }
+
+    // Writes the answer; false where it cannot be written.
+    pub fn send(self) -> bool
+        requires { ⌜ Sendable self ⌝ }
+    {
+        self.send_with(b"")
+    }
+
+    // The same for an answer whose body ends with these bytes.
+    pub fn send_with(self, behind: &[u8]) -> bool
+        requires { ⌜ Sendable self ⌝ }
+    {
+        let len = self.len;
+        let body = len - 4 + behind.len();
+        let mut bytes = self.bytes;
+        bytes[0] = (body % 256) as u8;
+        bytes[1] = (body / 256 % 256) as u8;
+        bytes[2] = (body / 65_536 % 256) as u8;
+        bytes[3] = (body / 16_777_216 % 256) as u8;
+        write_front(&bytes, len) && io::write_all(STDOUT_FILENO, behind)
+    }
+}
+
+fn write_front(bytes: &[u8; 64], len: usize) -> bool
+    requires { ⌜ len ≤ 64 ⌝ }
+{
+    let all: &[u8] = bytes;
+    io::write_all(STDOUT_FILENO, &all[0..len])
+}

@@ -1,0 +1,51 @@
+// The batch driver: answers framed calls of the libraries' public functions, so that any judge can be held against them byte by byte. It reads
+// a frame, calls one function and writes what came back.
+mod dialects;
+mod frames;
+mod rooms;
+mod words;
+
+use frames::Answer;
+use input::Part;
+use libc::STDIN_FILENO;
+
+// Answers one request; false where the answer could not be written.
+fn answer_request(op: u8, payload: &[u8], room: &mut [u8]) -> bool {
+    match op {
+        0x04 => words::dialect_by_name(payload),
+        0x05 => words::is_tsb_word(payload),
+        _ => Answer::malformed().send(),
+    }
+}
+
+// Reads a request and answers it; true if another can follow. The buffers' lengths are the frames' limits: that of payload for a payload, that
+// of room for a lent buffer.
+fn serve(payload: &mut [u8], room: &mut [u8]) -> bool {
+    let mut head = [0u8; 5];
+    let Part::Whole = input::read_part(STDIN_FILENO, &mut head) else {
+        return false;
+    };
+    let length = frames::u32_at(&head, 1) as usize;
+    if length > payload.len() {
+        Answer::malformed().send();
+        return false;
+    }
+    let Part::Whole = input::read_part(STDIN_FILENO, &mut payload[0..length]) else {
+        return false;
+    };
+    answer_request(head[0], &payload[0..length], room)
+}
+
+// A proved loop has to end, and nothing says that the input does. So the loop counts its requests down, from a number that no run uses up.
+fn serve_all(payload: &mut [u8], room: &mut [u8]) {
+    let mut requests = u64::MAX;
+    while requests > 0 && serve(payload, room) {
+        requests -= 1;
+    }
+}
+
+fn main() {
+    let mut payload = [0u8; 1_048_593];
+    let mut room = [0u8; 524_288];
+    serve_all(&mut payload, &mut room);
+}

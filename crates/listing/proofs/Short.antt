@@ -1,0 +1,89 @@
+-- A piece is at most eight times as long as what it takes of the body: from the tables, by a test of each.
+-- Assumes nothing.
+use Prim.Native.Nat.{ℕ, zero, suc, _*_, _-_, _≤_}
+use mathlib.Core.Path.{_≡_, refl}
+use mathlib.Core.Bool.{Bool, true, false, cond, _&&_}
+use mathlib.Core.List.{List, [], _∷_}
+use native.Mathlib.Omega.{arith}
+use lib.Dec.{T, eqb, leb, ltb, leb→le}
+use lib.ListN.{length, getD}
+use Rattle.words.specs.Find.{Entry}
+use Rattle.words.proofs.Search.{and-left, and-right}
+use Rattle.tables.specs.Rom.{romWords}
+use Rattle.tables.specs.Texts.{hexByte, byteText, tokenText}
+use Rattle.tables.specs.Tsb.{tsbWords, withToken, tsbId, tsbText}
+use Rattle.listing.specs.Pieces.{unknownPair, orUnknown, pairText, Shown, afterPrefix, shownPlain, shown}
+use Rattle.listing.proofs.Held.{byte-text-short}
+
+-- no word is longer than eight bytes
+shortWords : List (List ℕ) → Bool
+shortWords [] = true
+shortWords (w ∷ ws) = leb (length w) 8 && shortWords ws
+
+short-at : (ws : List (List ℕ)) → T (shortWords ws) → (k : ℕ) → length (getD ws k []) ≤ 8
+unfolding shortWords
+short-at [] t k = omega arith
+short-at (w ∷ ws) t zero = leb→le _ _ (and-left (leb (length w) 8) _ t)
+short-at (w ∷ ws) t (suc k) = short-at ws (and-right (leb (length w) 8) _ t) k
+
+shortEntries : List Entry → Bool
+shortEntries [] = true
+shortEntries (e ∷ es) = leb (length (e .word)) 8 && shortEntries es
+
+short-with : (es : List Entry) → T (shortEntries es) → (k : ℕ) → length (withToken k es) ≤ 8
+unfolding shortEntries withToken
+short-with [] t k = omega arith
+short-with (e ∷ es) t k = go (eqb k (e .token)) (short-with es (and-right (leb (length (e .word)) 8) _ t) k)
+  where
+    go : (b : Bool) → length (withToken k es) ≤ 8 → length {A = ℕ} (elim b [ true ↦ e .word | false ↦ withToken k es ]) ≤ 8
+    go true h = leb→le _ _ (and-left (leb (length (e .word)) 8) _ t)
+    go false h = h
+
+rom-short : T (shortWords romWords)
+unfolding shortWords romWords
+rom-short = tt
+
+tsb-short : T (shortEntries tsbWords)
+unfolding shortEntries tsbWords
+tsb-short = tt
+
+either : (b : Bool) (x y : List ℕ) → length x ≤ 8 → length y ≤ 8 → length (cond b x y) ≤ 8
+either true x y h k = h
+either false x y h k = k
+
+token-short : (b : ℕ) → length (tokenText b) ≤ 8
+unfolding tokenText hexByte
+token-short b = either (ltb b 0xCC) _ _ (short-at romWords rom-short (b - 0x80)) (either (eqb b 0xFF) _ _ (omega arith) (omega arith))
+
+pair-short : (b : ℕ) → length (pairText b) ≤ 8
+unfolding pairText tsbText unknownPair hexByte
+pair-short b = go (withToken (tsbId b) tsbWords) (short-with tsbWords tsb-short (tsbId b))
+  where
+    go : (t : List ℕ) → length t ≤ 8 → length (orUnknown b t) ≤ 8
+    go [] h = omega arith
+    go (x ∷ t) h = h
+
+-- what a piece of the body shows: it takes a byte or two of those that there are, and is short
+pub record Fine (more : ℕ) (s : Shown) : Type 0 where
+  pub some : 1 ≤ s .used
+  pub within : s .used ≤ suc more
+  pub short : length (s .text) ≤ 8 * s .used
+
+fine-either : (more : ℕ) (b : Bool) (x y : Shown) → Fine more x → Fine more y → Fine more (cond b x y)
+fine-either more true x y h k = h
+fine-either more false x y h k = k
+
+fine-prefix : (rest : List ℕ) → Fine (length rest) (afterPrefix rest)
+fine-prefix [] = record { some = omega arith; within = omega arith; short = omega arith }
+fine-prefix (b ∷ rest) = record { some = omega arith; within = omega arith; short = omega (arith, pair-short b) }
+
+pub fine : (quoted : Bool) (b : ℕ) (rest : List ℕ) → Fine (length rest) (shown quoted b rest)
+unfolding shown
+fine quoted b rest =
+    let char : length (byteText b) ≤ 6 = byte-text-short b in
+    let n = length rest in
+    fine-either n (eqb b 0x22) _ _ (record { some = omega arith; within = omega arith; short = omega arith })
+    (fine-either n quoted _ _ (record { some = omega arith; within = omega arith; short = omega arith })
+    (fine-either n (eqb b 0x64) _ _ (fine-prefix rest)
+    (fine-either n (leb 0x80 b) _ _ (record { some = omega arith; within = omega arith; short = omega (arith, token-short b) })
+    (record { some = omega arith; within = omega arith; short = omega arith }))))

@@ -1,0 +1,1 @@
+// Laws alone: bytes stored in a lent buffer.
