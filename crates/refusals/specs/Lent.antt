@@ -8,7 +8,9 @@ use lib.Dec.{leb}
 use lib.ListN.{length}
 use lib.Seq.{sets}
 use Rattle.refusals.specs.Numbers.{noRoom}
-use Rattle.refusals.specs.Answer.{Answer, done, refused, mapDone}
+use Rattle.refusals.specs.Answer.{Answer, done, refused, mapDone, numbered}
+use Rattle.refusals.specs.declared.Outcome.{Outcome}
+use Rattle.refusals.specs.declared.Outcome.the-variants.{Done, Refused}
 
 -- what a call answers, and what the buffer that it was lent holds then
 pub record Lent : Type 0 where
@@ -26,3 +28,12 @@ intoBuffer (refused n) buffer = record { answer = refused n; buffer = buffer }
 -- the room that a result needs
 abbrev pub roomFor : Answer (List ℕ) → Answer ℕ
 roomFor = mapDone length
+
+-- the enum's cases as document 01 numbers them
+abbrev pub outcomeAnswer : Outcome → Answer ℕ
+outcomeAnswer (Done length) = done length
+outcomeAnswer (Refused r) = refused (numbered r)
+
+-- an outcome, and the buffer as it was left
+abbrev pub left : Outcome → List ℕ → Lent
+left r buffer = record { answer = outcomeAnswer r; buffer = buffer }

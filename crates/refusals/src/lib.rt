@@ -22,6 +22,12 @@ pub enum Refusal {
     UnknownDialect,
 }
 
+// What a call that makes bytes answers: how many they are, or why there are none.
+pub enum Outcome {
+    Done(usize),
+    Refused(Refusal),
+}
+
 // A refusal as numbers, for callers in other languages: its number, how many values it carries, and the values, 0 where there is none.
 pub struct Code {
     pub number: u8,

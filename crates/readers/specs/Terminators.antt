@@ -1,0 +1,35 @@
+-- The reader by terminators (document 01, "Reading and listing": "By terminators").
+-- Assumes nothing.
+use Prim.Native.Nat.{ℕ, suc, _+_, min}
+use mathlib.Core.Bool.{true, false, cond}
+use mathlib.Core.List.{List, [], _∷_}
+use lib.ListN.{length, getD, drop}
+use lib.Dec.{leb, ltb, eqb}
+use Rattle.refusals.specs.Answer.{Answer, done, refused}
+use Rattle.refusals.specs.Numbers.{unexpectedEof}
+use Rattle.readers.specs.declared.Line.{Line}
+use Rattle.readers.specs.Image.{lineAt, Found, line, end, sized}
+
+-- how many bytes stand before the first 00, or all of them where there is none
+unfoldable pub beforeZero : List ℕ → ℕ
+beforeZero [] = 0
+beforeZero (b ∷ s) = elim (eqb b 0) [ true ↦ 0 | false ↦ suc (beforeZero s) ]
+
+-- "A body runs to the first 00, .. or to the image's end"
+abbrev pub bodyEnd : List ℕ → ℕ → ℕ
+bodyEnd s p = p + 4 + beforeZero (drop (p + 4) s)
+
+-- "the next offset being behind it", or the image's end
+abbrev pub terminatedLine : List ℕ → ℕ → Line
+terminatedLine s p = lineAt s p (bodyEnd s p) (min (bodyEnd s p + 1) (length s))
+
+-- "The end is the image's end or a link whose high byte is 0. One lone byte, or a number cut short, is 9"; an offset beyond the
+-- length is the end
+unfoldable pub terminatorStep : List ℕ → ℕ → Answer Found
+terminatorStep s p =
+    sized s
+    (cond (leb (length s) p) (done end)
+    (cond (ltb (length s) (p + 2)) (refused unexpectedEof)
+    (cond (eqb (getD s (p + 1) 0) 0) (done end)
+    (cond (ltb (length s) (p + 4)) (refused unexpectedEof)
+    (done (line (terminatedLine s p)))))))

@@ -1,0 +1,66 @@
+// The two readers of an image: by terminators, as the original reads, and by links, as the machine follows them.
+// Each has three calls: `check` reads the whole image, `step` the line at an offset, `body` hands out that line's bytes.
+ghost use mathlib.Core.Path.{_≡_};
+ghost use Prim.Native.Nat.{_+_, _*_, _≤_, _<_};
+ghost use lib.ListN.{length};
+ghost use Rattle.readers.specs.Image.{lowFirstAt, lineAt};
+use refusals::Refusal;
+
+pub mod links;
+pub mod terminators;
+
+// An image has at most this many bytes.
+const LONGEST: usize = 1048576;
+
+// A line of an image: its link and its number, the offsets of its body's first byte and behind its last, and the offset of what
+// follows the line.
+pub struct Line {
+    pub link: u16,
+    pub number: u16,
+    pub from: usize,
+    pub to: usize,
+    pub next: usize,
+}
+
+// What stands at an offset.
+pub enum Step {
+    Found(Line),
+    End,
+    Refused(Refusal),
+}
+
+// What a whole image is.
+pub enum Checked {
+    Image { load: u16, lines: usize },
+    Refused(Refusal),
+}
+
+// The line at an offset: its link and number stand there, then its body up to an offset; what follows it stands at another.
+fn line_at(image: &[u8], offset: usize, to: usize, next: usize) -> Line
+    requires { ⌜ offset + 4 ≤ length (now image) ⌝ }
+    ensures { λ r. ⌜ r ≡ lineAt (now (image .entry)) offset to next ⌝ }
+{
+    let link = low_first_at(image, offset);
+    let number = low_first_at(image, offset + 2);
+    Line {
+        link,
+        number,
+        from: offset + 4,
+        to,
+        next,
+    }
+}
+
+// The number in two bytes at an offset, low byte first.
+fn low_first_at(image: &[u8], offset: usize) -> u16
+    requires { ⌜ offset + 1 < length (now image) ⌝ }
+    ensures { λ r. ⌜ r ≡ lowFirstAt (now (image .entry)) offset ⌝ }
+{
+    low_first(image[offset], image[offset + 1])
+}
+
+fn low_first(low: u8, high: u8) -> u16
+    ensures { λ r. ⌜ r ≡ low + 256 * high ⌝ }
+{
+    (low as u16) + 256 * (high as u16)
+}

@@ -1,0 +1,106 @@
+// By terminators: a line's body ends at its first 00, whatever its link says.
+ghost use mathlib.Core.Path.{_≡_};
+ghost use Prim.Native.Nat.{_+_, _≤_};
+ghost use lib.ListN.{length};
+ghost use Rattle.readers.specs.Answers.{stepAnswer, checkedAnswer};
+ghost use Rattle.readers.specs.Bodies.{bodyAt};
+ghost use Rattle.readers.specs.Lines.{overview};
+ghost use Rattle.readers.specs.Terminators.{beforeZero, terminatedLine, terminatorStep};
+use crate::Checked;
+use crate::LONGEST;
+use crate::Line;
+use crate::Step;
+use crate::line_at;
+use crate::low_first_at;
+use refusals::Refusal;
+
+// Reads the lines from the first to the end, each byte once.
+pub fn check(image: &[u8]) -> Checked
+    ensures { λ r. ⌜ checkedAnswer r ≡ overview terminatorStep (now (image .entry)) ⌝ }
+{
+    let mut offset: usize = 2;
+    let mut lines: usize = 0;
+    loop {
+        match step(image, offset) {
+            Step::Found(line) => {
+                offset = line.next;
+                lines += 1;
+            }
+            Step::End => {
+                let load = low_first_at(image, 0);
+                return Checked::Image { load, lines };
+            }
+            Step::Refused(refusal) => {
+                return Checked::Refused(refusal);
+            }
+        }
+    }
+}
+
+// The line at an offset, any offset.
+pub fn step(image: &[u8], offset: usize) -> Step
+    ensures { λ r. ⌜ stepAnswer r ≡ terminatorStep (now (image .entry)) offset ⌝ }
+{
+    let length = image.len();
+    if length > LONGEST {
+        return Step::Refused(Refusal::ImageTooLong { length });
+    }
+    if length < 2 {
+        return Step::Refused(Refusal::TooShort);
+    }
+    if offset >= length {
+        return Step::End;
+    }
+    if length - offset < 2 {
+        return Step::Refused(Refusal::UnexpectedEof);
+    }
+    if image[offset + 1] == 0 {
+        return Step::End;
+    }
+    if length - offset < 4 {
+        return Step::Refused(Refusal::UnexpectedEof);
+    }
+    Step::Found(terminated_line(image, offset))
+}
+
+// The body of the line at an offset, as that part of the image; an empty part where no line is.
+pub fn body(image: &[u8], offset: usize) -> &[u8]
+    ensures { λ r. ⌜ now r ≡ bodyAt terminatorStep (now (image .entry)) offset ⌝ }
+{
+    match step(image, offset) {
+        Step::Found(line) => {
+            let from = line.from;
+            let to = line.to;
+            &image[from..to]
+        }
+        Step::End => &image[..0],
+        Step::Refused(_) => &image[..0],
+    }
+}
+
+// The line at an offset: its body runs to the first 00, and the next offset is behind that; or both are the image's end.
+fn terminated_line(image: &[u8], offset: usize) -> Line
+    requires { ⌜ offset + 4 ≤ length (now image) ⌝ }
+    ensures { λ r. ⌜ r ≡ terminatedLine (now (image .entry)) offset ⌝ }
+{
+    let from = offset + 4;
+    let to = from + before_zero(&image[from..]);
+    if to < image.len() {
+        return line_at(image, offset, to, to + 1);
+    }
+    line_at(image, offset, to, to)
+}
+
+// How many bytes stand before the first 00; all of them where there is none.
+fn before_zero(bytes: &[u8]) -> usize
+    ensures { λ r. ⌜ r ≡ beforeZero (now (bytes .entry)) ⌝ }
+{
+    let mut i: usize = 0;
+    while i < bytes.len() {
+        if bytes[i] == 0 {
+            return i;
+        }
+        i += 1;
+    }
+    i
+}

@@ -1,0 +1,73 @@
+//! Requests that are answered by FF alone.
+//!
+//! A length above the limit is not among them: it ends the program, so the
+//! module `endings` asks for it in runs of their own.
+
+use crate::calls::{self, ROOM_LIMIT};
+use crate::frames::Request;
+use crate::random::Random;
+
+/// Ops that stay unknown: those from 10 on are given to later requests in turn.
+const UNKNOWN_OPS: [u8; 8] = [0x00, 0x0C, 0x0D, 0x0E, 0x0F, 0xF0, 0xFE, 0xFF];
+
+/// Bytes that name no dialect; 3 is left out, since BASIC 3.5 will take it.
+const UNKNOWN_DIALECTS: [u8; 5] = [4, 5, 0x7F, 0x80, 0xFF];
+
+const ROOMS_TOO_LARGE: [u32; 4] = [ROOM_LIMIT as u32 + 1, 1 << 20, 1 << 31, u32::MAX];
+
+/// Every kind of malformed request that an op can have, and the unknown ops.
+pub fn listed(op: u8) -> Vec<Request> {
+    let fixed = calls::fixed_part(op);
+    let mut payloads: Vec<Vec<u8>> = (0..fixed).map(|length| vec![0; length]).collect();
+    if let Some(place) = dialect_place(op) {
+        payloads.extend(UNKNOWN_DIALECTS.map(|byte| with_field(fixed, place, &[byte])));
+    }
+    if let Some(place) = room_place(op) {
+        payloads.extend(ROOMS_TOO_LARGE.map(|room| with_field(fixed, place, &room.to_le_bytes())));
+    }
+    let mut requests: Vec<Request> = payloads
+        .into_iter()
+        .map(|payload| Request { op, payload })
+        .collect();
+    requests.extend(UNKNOWN_OPS.map(|op| Request {
+        op,
+        payload: b"tsb".to_vec(),
+    }));
+    requests
+}
+
+/// One of an op's requests, cut short in its fixed part or under an unknown op.
+pub fn any(op: u8, random: &mut Random) -> Request {
+    let mut request = super::any(op, random);
+    let fixed = calls::fixed_part(op);
+    if fixed == 0 || random.one_in(3) {
+        request.op = random.pick(&UNKNOWN_OPS);
+    } else {
+        request.payload.truncate(random.below(fixed));
+    }
+    request
+}
+
+/// Where an op's payload has its dialect, if it has one.
+fn dialect_place(op: u8) -> Option<usize> {
+    match op {
+        calls::CRUNCH | calls::CRUNCH_ROOM => Some(2),
+        calls::RESOLVED_DIALECT => Some(0),
+        _ => None,
+    }
+}
+
+/// Where an op's payload has its room, if it has one.
+fn room_place(op: u8) -> Option<usize> {
+    match op {
+        calls::CRUNCH => Some(3),
+        calls::LISTING => Some(0),
+        _ => None,
+    }
+}
+
+fn with_field(length: usize, place: usize, field: &[u8]) -> Vec<u8> {
+    let mut payload = vec![0; length];
+    payload[place..][..field.len()].copy_from_slice(field);
+    payload
+}

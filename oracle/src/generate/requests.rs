@@ -1,0 +1,181 @@
+//! Turns texts, words and images into requests, with rooms and offsets.
+
+use crate::calls::{self, Call, ROOM_LIMIT, Reader};
+use crate::frames::Request;
+use crate::library;
+use crate::random::Random;
+use crate::tokens::Dialect;
+
+/// Where a BASIC program of the Commodore 64 stands.
+pub const C64_LOAD: u16 = 0x0801;
+
+/// A text, and how it is to be crunched.
+pub struct TextCase {
+    pub load: u16,
+    pub dialect: Dialect,
+    pub text: Vec<u8>,
+}
+
+impl TextCase {
+    pub fn auto(text: impl Into<Vec<u8>>) -> TextCase {
+        TextCase::under(Dialect::Auto, text)
+    }
+
+    pub fn under(dialect: Dialect, text: impl Into<Vec<u8>>) -> TextCase {
+        TextCase {
+            load: C64_LOAD,
+            dialect,
+            text: text.into(),
+        }
+    }
+
+    pub fn at(load: u16, text: impl Into<Vec<u8>>) -> TextCase {
+        TextCase {
+            load,
+            ..TextCase::auto(text)
+        }
+    }
+}
+
+pub fn of_text(op: u8, case: &TextCase, random: &mut Random) -> Request {
+    let &TextCase {
+        load,
+        dialect,
+        ref text,
+    } = case;
+    let call = match op {
+        calls::CRUNCH => {
+            let image = library::crunch(load, dialect, text);
+            Call::Crunch {
+                load,
+                dialect,
+                room: room(image.ok().map(|image| image.len()), random),
+                text,
+            }
+        }
+        calls::CRUNCH_ROOM => Call::CrunchRoom {
+            load,
+            dialect,
+            text,
+        },
+        calls::RESOLVED_DIALECT => Call::ResolvedDialect { dialect, text },
+        _ => unreachable!("op {op:02X} takes no text"),
+    };
+    call.encode()
+}
+
+pub fn of_texts(op: u8, cases: &[TextCase], random: &mut Random) -> Vec<Request> {
+    let request = |case| of_text(op, case, random);
+    cases.iter().map(request).collect()
+}
+
+pub fn of_word(op: u8, word: &[u8]) -> Request {
+    let call = match op {
+        calls::DIALECT_BY_NAME => Call::DialectByName { word },
+        calls::TSB_WORD => Call::TsbWord { word },
+        _ => unreachable!("op {op:02X} takes no word"),
+    };
+    call.encode()
+}
+
+pub fn of_words(op: u8, words: &[Vec<u8>]) -> Vec<Request> {
+    words.iter().map(|word| of_word(op, word)).collect()
+}
+
+pub fn of_image(op: u8, image: &[u8], random: &mut Random) -> Request {
+    let call = match op {
+        calls::CHECK_BY_TERMINATORS => check(Reader::Terminators, image),
+        calls::CHECK_BY_LINKS => check(Reader::Links, image),
+        calls::STEP_BY_TERMINATORS => step(Reader::Terminators, image, random),
+        calls::STEP_BY_LINKS => step(Reader::Links, image, random),
+        calls::LISTING => {
+            let listing = library::listing(image);
+            Call::Listing {
+                room: room(listing.ok().map(|listing| listing.len()), random),
+                image,
+            }
+        }
+        calls::LISTING_ROOM => Call::ListingRoom { image },
+        _ => unreachable!("op {op:02X} takes no image"),
+    };
+    call.encode()
+}
+
+/// Requests for listed images; steps are asked at the first line and elsewhere.
+pub fn of_images(op: u8, images: &[Vec<u8>], random: &mut Random) -> Vec<Request> {
+    let by = match op {
+        calls::STEP_BY_TERMINATORS => Reader::Terminators,
+        calls::STEP_BY_LINKS => Reader::Links,
+        _ => {
+            let request = |image: &Vec<u8>| of_image(op, image, random);
+            return images.iter().map(request).collect();
+        }
+    };
+    images
+        .iter()
+        .flat_map(|image| {
+            let first = Call::Step {
+                by,
+                offset: 2,
+                image,
+            };
+            [first.encode(), step(by, image, random).encode()]
+        })
+        .collect()
+}
+
+fn check(by: Reader, image: &[u8]) -> Call<'_> {
+    Call::Check { by, image }
+}
+
+fn step<'a>(by: Reader, image: &'a [u8], random: &mut Random) -> Call<'a> {
+    let offset = offset(by, image, random);
+    Call::Step { by, offset, image }
+}
+
+/// A room around what the call needs; any small one if it gives no result.
+fn room(needed: Option<usize>, random: &mut Random) -> usize {
+    let Some(needed) = needed else {
+        return random.below(12);
+    };
+    let room = match random.below(8) {
+        0 => random.pick(&[0, needed / 2]),
+        1 => needed.saturating_sub(1),
+        2..6 => needed,
+        6 => needed + 1,
+        _ => needed + random.below(40),
+    };
+    room.min(ROOM_LIMIT)
+}
+
+/// An offset to step from: a line's, one near an end of the image, any, a huge one.
+fn offset(by: Reader, image: &[u8], random: &mut Random) -> u64 {
+    const HUGE: [u64; 6] = [
+        u64::MAX,
+        u64::MAX - 3,
+        1 << 63,
+        1 << 32,
+        (1 << 32) + 2,
+        1 << 31,
+    ];
+    let length = image.len() as u64;
+    match random.below(8) {
+        0..4 => line_offset(by, image, random),
+        4 => random.below(image.len() + 4) as u64,
+        5 => (length + 3).saturating_sub(random.below(7) as u64),
+        6 => random.below(3) as u64,
+        _ => random.pick(&HUGE),
+    }
+}
+
+/// The offset of one of the lines, of the end, or of the refusal.
+fn line_offset(by: Reader, image: &[u8], random: &mut Random) -> u64 {
+    let mut at = 2;
+    for _ in 0..random.below(6) {
+        match library::step(by, at, image) {
+            Ok(Some(line)) => at = line.next,
+            _ => break,
+        }
+    }
+    at
+}

@@ -1,0 +1,137 @@
+//! Answers requests as the batch driver does, with the original behind the calls.
+
+use std::io::{self, Read, Write};
+use std::thread;
+
+use crate::calls::{Call, dialect_byte};
+use crate::frames::{self, Incoming, Request};
+use crate::library::{self, Checked, Step};
+use crate::refusal::Refusal;
+use crate::show;
+
+/// The whole answer to a malformed request.
+const MALFORMED: [u8; 1] = [0xFF];
+
+/// The first byte of an answer that is no refusal.
+pub const DONE: u8 = 0x00;
+
+/// What every byte of a lent room holds before the call.
+pub const ROOM_FILL: u8 = 0xA5;
+
+/// Answers requests until the input ends, each before the next is read.
+pub fn serve(input: &mut impl Read, output: &mut impl Write) -> io::Result<()> {
+    loop {
+        let (body, is_last) = match frames::read_request(input)? {
+            Incoming::Request(request) => (answer(&request), false),
+            Incoming::TooLong => (MALFORMED.to_vec(), true),
+            Incoming::End => return Ok(()),
+        };
+        frames::write_answer(output, &body)?;
+        output.flush()?;
+        if is_last {
+            return Ok(());
+        }
+    }
+}
+
+/// The body of the answer to one request.
+pub fn answer(request: &Request) -> Vec<u8> {
+    let _named = NamedIfPanicking(request);
+    match Call::decode(request) {
+        Some(call) => answer_call(&call),
+        None => MALFORMED.to_vec(),
+    }
+}
+
+/// Says which request the original panicked at, if it did; the panic goes on.
+struct NamedIfPanicking<'a>(&'a Request);
+
+impl Drop for NamedIfPanicking<'_> {
+    fn drop(&mut self) {
+        if thread::panicking() {
+            eprintln!("the original panicked: {}", show::request(self.0));
+        }
+    }
+}
+
+fn answer_call(call: &Call) -> Vec<u8> {
+    match *call {
+        Call::Crunch {
+            load,
+            dialect,
+            room,
+            text,
+        } => lent(library::crunch(load, dialect, text), room),
+        Call::CrunchRoom {
+            load,
+            dialect,
+            text,
+        } => plain(library::crunch(load, dialect, text).map(|image| length(&image))),
+        Call::ResolvedDialect { dialect, text } => {
+            plain(library::resolved_dialect(dialect, text).map(|found| vec![dialect_byte(found)]))
+        }
+        Call::DialectByName { word } => {
+            plain(library::dialect_by_name(word).map(|found| vec![dialect_byte(found)]))
+        }
+        Call::TsbWord { word } => plain(Ok(vec![library::is_tsb_word(word).into()])),
+        Call::Check { by, image } => plain(library::check(by, image).map(checked)),
+        Call::Step { by, offset, image } => plain(library::step(by, offset, image).map(stepped)),
+        Call::Listing { room, image } => {
+            lent(library::listing(image).map(String::into_bytes), room)
+        }
+        Call::ListingRoom { image } => {
+            plain(library::listing(image).map(|listing| length(listing.as_bytes())))
+        }
+    }
+}
+
+fn plain(outcome: Result<Vec<u8>, Refusal>) -> Vec<u8> {
+    match outcome {
+        Ok(results) => [&[DONE], &results[..]].concat(),
+        Err(refusal) => refusal.to_bytes(),
+    }
+}
+
+/// The answer of a call that was lent a room: the room's bytes stand last.
+fn lent(outcome: Result<Vec<u8>, Refusal>, room: usize) -> Vec<u8> {
+    let mut lent = vec![ROOM_FILL; room];
+    let written = outcome.and_then(|result| match lent.get_mut(..result.len()) {
+        Some(part) => {
+            part.copy_from_slice(&result);
+            Ok(length(&result))
+        }
+        None => {
+            let needed = result.len() as u64;
+            Err(Refusal::NoRoom { needed })
+        }
+    });
+    [plain(written), lent].concat()
+}
+
+fn length(bytes: &[u8]) -> Vec<u8> {
+    (bytes.len() as u64).to_le_bytes().to_vec()
+}
+
+fn checked(found: Checked) -> Vec<u8> {
+    fields(&[found.load_address.into(), found.line_count])
+}
+
+fn stepped(found: Option<Step>) -> Vec<u8> {
+    let Some(line) = found else {
+        return vec![0];
+    };
+    let numbers = [
+        line.link.into(),
+        line.number.into(),
+        line.next,
+        line.body.len() as u64,
+    ];
+    [vec![1], fields(&numbers), line.body].concat()
+}
+
+fn fields(numbers: &[u64]) -> Vec<u8> {
+    numbers
+        .iter()
+        .flat_map(|number| number.to_le_bytes())
+        .collect()
+}

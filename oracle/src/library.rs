@@ -1,0 +1,96 @@
+//! The library's calls as document 01 names them, each answered by the original.
+
+use crate::calls::Reader;
+use crate::domain;
+use crate::links;
+use crate::prg::Program;
+use crate::refusal::Refusal;
+use crate::source::{self, TokenizeError};
+use crate::tokens::{self, Dialect};
+
+/// What checking a whole image answers.
+pub struct Checked {
+    pub load_address: u16,
+    pub line_count: u64,
+}
+
+/// The line that one step of a reader finds.
+pub struct Step {
+    pub link: u16,
+    pub number: u16,
+    pub next: u64,
+    pub body: Vec<u8>,
+}
+
+pub fn crunch(load: u16, dialect: Dialect, text: &[u8]) -> Result<Vec<u8>, Refusal> {
+    let text = domain::text(text)?;
+    let crunched = |text: &str| source::tokenize_program_at_with(text, load, dialect);
+    if let Some(cut) = domain::with_counts_cut(text)
+        && let Err(TokenizeError::AddressOverflow) = crunched(&cut)
+    {
+        return Err(Refusal::AddressOverflow);
+    }
+    Ok(crunched(text)?)
+}
+
+pub fn resolved_dialect(dialect: Dialect, text: &[u8]) -> Result<Dialect, Refusal> {
+    Ok(source::resolved_dialect(domain::text(text)?, dialect))
+}
+
+pub fn dialect_by_name(word: &[u8]) -> Result<Dialect, Refusal> {
+    Dialect::parse(domain::dialect_name(word)?).map_err(|_| Refusal::UnknownDialect)
+}
+
+pub fn is_tsb_word(word: &[u8]) -> bool {
+    tokens::is_tsb_keyword_name(word)
+}
+
+pub fn check(by: Reader, image: &[u8]) -> Result<Checked, Refusal> {
+    let image = domain::image(image)?;
+    match by {
+        Reader::Links => links::check(image),
+        Reader::Terminators => {
+            let program = Program::parse(image)?;
+            Ok(Checked {
+                load_address: program.load_address,
+                line_count: program.lines.len() as u64,
+            })
+        }
+    }
+}
+
+pub fn step(by: Reader, offset: u64, image: &[u8]) -> Result<Option<Step>, Refusal> {
+    let image = domain::image(image)?;
+    match by {
+        Reader::Links => links::step(image, offset),
+        Reader::Terminators => step_by_terminators(image, offset),
+    }
+}
+
+pub fn listing(image: &[u8]) -> Result<String, Refusal> {
+    Ok(Program::parse(domain::image(image)?)?.detokenize())
+}
+
+/// The original parses whole images only. So the one line at the offset is given
+/// to it as an image: the load address, and the line up to its terminator.
+fn step_by_terminators(image: &[u8], offset: u64) -> Result<Option<Step>, Refusal> {
+    let load_address = image.get(..2).ok_or(Refusal::TooShort)?;
+    let at = usize::try_from(offset).unwrap_or(usize::MAX);
+    let line = first_line(image.get(at..).unwrap_or_default());
+    let program = Program::parse(&[load_address, line].concat())?;
+    Ok(program.lines.into_iter().next().map(|parsed| Step {
+        link: parsed.next_ptr,
+        number: parsed.number,
+        next: offset + line.len() as u64,
+        body: parsed.body,
+    }))
+}
+
+/// The bytes up to the first 00 behind link and number, that 00 included.
+fn first_line(bytes: &[u8]) -> &[u8] {
+    let body = bytes.get(4..).unwrap_or_default();
+    match body.iter().position(|&byte| byte == 0) {
+        Some(length) => &bytes[..4 + length + 1],
+        None => bytes,
+    }
+}

@@ -1,0 +1,100 @@
+//! The judge: the original Rust behind the frames of the program `cases`, a
+//! generator of requests, and a comparison of the two programs.
+
+use std::fmt::Display;
+use std::io::{self, BufWriter, Write};
+use std::process::ExitCode;
+use std::str::FromStr;
+
+// The modules petscii, prg, source and tokens of the original, unchanged.
+include!(concat!(env!("OUT_DIR"), "/original.rs"));
+
+mod calls;
+mod compare;
+mod domain;
+mod endings;
+mod frames;
+mod generate;
+mod judge;
+mod library;
+mod links;
+mod program;
+mod random;
+mod refusal;
+mod show;
+mod tables;
+#[cfg(test)]
+mod tests;
+
+use generate::Cases;
+use program::Program;
+
+const USAGE: &str = "usage:
+  oracle answer                                      answers requests from standard input
+  oracle generate COUNT SEED OPS                     writes requests for ops, such as 04,05
+  oracle compare COUNT SEED OPS PROGRAM [ARGUMENT..] compares a program with the original";
+
+fn main() -> ExitCode {
+    let arguments: Vec<String> = std::env::args().skip(1).collect();
+    let arguments: Vec<&str> = arguments.iter().map(String::as_str).collect();
+    match run(&arguments) {
+        Ok(true) => ExitCode::SUCCESS,
+        Ok(false) => ExitCode::FAILURE,
+        Err(message) => {
+            eprintln!("oracle: {message}");
+            ExitCode::from(2)
+        }
+    }
+}
+
+/// Runs one subcommand; false if a comparison found a difference.
+fn run(arguments: &[&str]) -> Result<bool, String> {
+    match arguments {
+        ["answer"] => {
+            let mut output = BufWriter::new(io::stdout().lock());
+            judge::serve(&mut io::stdin().lock(), &mut output).map_err(text)?;
+            Ok(true)
+        }
+        ["generate", count, seed, ops] => {
+            let mut output = BufWriter::new(io::stdout().lock());
+            for request in cases(count, seed, ops)? {
+                frames::write_request(&mut output, &request).map_err(text)?;
+            }
+            output.flush().map_err(text)?;
+            Ok(true)
+        }
+        ["compare", count, seed, ops, path, arguments @ ..] => {
+            let program = Program { path, arguments };
+            compare::run(cases(count, seed, ops)?, &program).map_err(text)
+        }
+        _ => Err(USAGE.to_string()),
+    }
+}
+
+fn cases(count: &str, seed: &str, ops: &str) -> Result<Cases, String> {
+    Ok(Cases::new(number(count)?, number(seed)?, &op_list(ops)?))
+}
+
+fn number<T: FromStr>(word: &str) -> Result<T, String> {
+    word.parse().map_err(|_| format!("{word}: no number"))
+}
+
+/// Ops in hexadecimal, between commas or white space.
+fn op_list(words: &str) -> Result<Vec<u8>, String> {
+    let ops = words
+        .split(|mark: char| mark == ',' || mark.is_whitespace())
+        .filter(|word| !word.is_empty())
+        .map(|word| match u8::from_str_radix(word, 16) {
+            Ok(op) if calls::KNOWN_OPS.contains(&op) => Ok(op),
+            _ => Err(format!("{word}: no op that the judge knows")),
+        })
+        .collect::<Result<Vec<u8>, String>>()?;
+    if ops.is_empty() {
+        return Err("no ops are named".to_string());
+    }
+    Ok(ops)
+}
+
+fn text(error: impl Display) -> String {
+    error.to_string()
+}

@@ -1,0 +1,100 @@
+//! The refusals, numbered and named as in document 01's table.
+
+use crate::prg::ParseError;
+use crate::source::TokenizeError;
+
+/// Why a call gives no result, with the values that the refusal carries.
+#[derive(Debug, Clone, Copy, PartialEq, Eq)]
+pub enum Refusal {
+    TextTooLong { length: u64 },
+    BadByte { offset: u64 },
+    MissingLineNumber { text_line: u64 },
+    LineNumberOutOfRange { text_line: u64, value: u64 },
+    AddressOverflow,
+    NoRoom { needed: u64 },
+    ImageTooLong { length: u64 },
+    TooShort,
+    UnexpectedEof,
+    MissingEnd { link: u64 },
+    LinkBackward { link: u64 },
+    LinkOutside { link: u64 },
+    LinkNoEnd { link: u64 },
+    UnknownDialect,
+}
+
+/// Name and carried values of each refusal; number n stands at place n - 1.
+pub const TABLE: [(&str, &[&str]); 14] = [
+    ("TextTooLong", &["length"]),
+    ("BadByte", &["offset"]),
+    ("MissingLineNumber", &["text line"]),
+    ("LineNumberOutOfRange", &["text line", "value"]),
+    ("AddressOverflow", &[]),
+    ("NoRoom", &["needed"]),
+    ("ImageTooLong", &["length"]),
+    ("TooShort", &[]),
+    ("UnexpectedEof", &[]),
+    ("MissingEnd", &["link at"]),
+    ("LinkBackward", &["link at"]),
+    ("LinkOutside", &["link at"]),
+    ("LinkNoEnd", &["link at"]),
+    ("UnknownDialect", &[]),
+];
+
+impl Refusal {
+    /// The refusal as an answer begins with it: its number, then its values.
+    pub fn to_bytes(self) -> Vec<u8> {
+        match self {
+            Refusal::TextTooLong { length } => numbered(1, &[length]),
+            Refusal::BadByte { offset } => numbered(2, &[offset]),
+            Refusal::MissingLineNumber { text_line } => numbered(3, &[text_line]),
+            Refusal::LineNumberOutOfRange { text_line, value } => numbered(4, &[text_line, value]),
+            Refusal::AddressOverflow => numbered(5, &[]),
+            Refusal::NoRoom { needed } => numbered(6, &[needed]),
+            Refusal::ImageTooLong { length } => numbered(7, &[length]),
+            Refusal::TooShort => numbered(8, &[]),
+            Refusal::UnexpectedEof => numbered(9, &[]),
+            Refusal::MissingEnd { link } => numbered(10, &[link]),
+            Refusal::LinkBackward { link } => numbered(11, &[link]),
+            Refusal::LinkOutside { link } => numbered(12, &[link]),
+            Refusal::LinkNoEnd { link } => numbered(13, &[link]),
+            Refusal::UnknownDialect => numbered(14, &[]),
+        }
+    }
+}
+
+fn numbered(number: u8, values: &[u64]) -> Vec<u8> {
+    let mut bytes = vec![number];
+    for value in values {
+        bytes.extend(value.to_le_bytes());
+    }
+    bytes
+}
+
+impl From<TokenizeError> for Refusal {
+    fn from(error: TokenizeError) -> Refusal {
+        match error {
+            TokenizeError::MissingLineNumber(text_line) => Refusal::MissingLineNumber {
+                text_line: text_line as u64,
+            },
+            TokenizeError::LineNumberOutOfRange(text_line, value) => {
+                Refusal::LineNumberOutOfRange {
+                    text_line: text_line as u64,
+                    value: value.into(),
+                }
+            }
+            TokenizeError::AddressOverflow => Refusal::AddressOverflow,
+        }
+    }
+}
+
+impl From<ParseError> for Refusal {
+    fn from(error: ParseError) -> Refusal {
+        match error {
+            ParseError::TooShort => Refusal::TooShort,
+            ParseError::UnexpectedEof => Refusal::UnexpectedEof,
+            ParseError::UnterminatedLine { line_number } => {
+                unreachable!("line {line_number}: document 01 says that no path returns this")
+            }
+        }
+    }
+}
