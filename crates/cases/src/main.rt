@@ -2,6 +2,8 @@
 // a frame, calls one function and writes what came back.
 mod dialects;
 mod frames;
+mod images;
+mod listings;
 mod rooms;
 mod words;
 
@@ -14,6 +16,12 @@ fn answer_request(op: u8, payload: &[u8], room: &mut [u8]) -> bool {
     match op {
         0x04 => words::dialect_by_name(payload),
         0x05 => words::is_tsb_word(payload),
+        0x06 => images::check_by_terminators(payload),
+        0x07 => images::step_by_terminators(payload),
+        0x08 => images::check_by_links(payload),
+        0x09 => images::step_by_links(payload),
+        0x0A => listings::list(payload, room),
+        0x0B => listings::room_for_list(payload),
         _ => Answer::malformed().send(),
     }
 }

@@ -1,0 +1,5 @@
+pub mod Keying
+pub mod Numbering
+pub mod Placing
+pub mod Resolving
+pub mod Table

@@ -1,0 +1,5 @@
+pub mod Fronts
+pub mod Limits
+pub mod Numbers
+pub mod Parts
+pub mod Splitting

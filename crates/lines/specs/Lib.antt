@@ -1,0 +1,4 @@
+pub mod Domain
+pub mod Front
+pub mod Numbering
+pub mod TextLines

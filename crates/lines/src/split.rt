@@ -1,0 +1,55 @@
+// The lines of a text, found where they stand: nothing is copied.
+use crate::front;
+ghost use mathlib.Core.Path.{_≡_};
+ghost use Rattle.lines.specs.TextLines.{endMark, lineFrom};
+
+// What ends a line.
+pub enum LineRule {
+    // LF and CR LF: the text as it is given.
+    AsGiven,
+    // LF, CR LF and a lone CR: the text as crunching reads it.
+    AfterCr,
+}
+
+// A line runs up to end, and the next one begins at next.
+pub struct TextLine {
+    pub end: usize,
+    pub next: usize,
+}
+
+// How many bytes the line end in front of a text takes; 0 where there is none.
+fn end_mark(text: &[u8], rule: LineRule) -> usize
+    ensures { λ r. ⌜ r ≡ endMark rule (now (text .entry)) ⌝ }
+{
+    if front::starts_with(text, 0x0A) {
+        return 1;
+    }
+    if !front::starts_with(text, 0x0D) {
+        return 0;
+    }
+    if front::starts_with(&text[1..], 0x0A) {
+        return 2;
+    }
+    match rule {
+        LineRule::AsGiven => 0,
+        LineRule::AfterCr => 1,
+    }
+}
+
+// The line that begins at from.
+pub fn next_line(text: &[u8], from: usize, rule: LineRule) -> TextLine
+    ensures { λ r. ⌜ r ≡ lineFrom rule (now (text .entry)) from ⌝ }
+{
+    let mut i: usize = from;
+    while i < text.len() {
+        let mark = end_mark(&text[i..], rule);
+        if mark > 0 {
+            return TextLine {
+                end: i,
+                next: i + mark,
+            };
+        }
+        i += 1;
+    }
+    TextLine { end: i, next: i }
+}
