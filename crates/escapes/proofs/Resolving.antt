@@ -1,6 +1,6 @@
 -- What is between braces, case by case: the name in its four forms, and the count behind the last `*`.
 -- Assumes nothing.
-use Prim.Native.Nat.{ℕ, zero, suc, _-_, _≤_, _<_}
+use Prim.Native.Nat.{ℕ, zero, suc, _-_}
 use mathlib.Core.Path.{_≡_, refl, sym, ap, _∙_}
 use mathlib.Core.List.{List, [], _∷_}
 use native.Mathlib.Omega.{arith}
@@ -16,7 +16,6 @@ use Rattle.escapes.specs.Keys.{keyEscape}
 use Rattle.escapes.specs.Escape.{nameEscape, repeated, starred, escapeOf}
 use Rattle.escapes.specs.declared.numbers.Number.{Number}
 use Rattle.escapes.specs.declared.numbers.Number.the-variants.{Value, Missing}
-use Rattle.escapes.specs.declared.Escape.{Escape}
 use Rattle.escapes.specs.declared.Escape.the-variants.{Byte, Unknown}
 use Rattle.escapes.proofs.Placing.{tail-is}
 

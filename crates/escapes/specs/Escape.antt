@@ -3,7 +3,7 @@
 use Prim.Native.Nat.{ℕ, zero, suc}
 use mathlib.Core.List.{List, [], _∷_}
 use lib.ListN.{take, drop}
-use Rattle.ascii.specs.Trim.{trim, leading, solid}
+use Rattle.ascii.specs.Trim.{trim}
 use Rattle.words.specs.Find.{nameIn}
 use Rattle.words.specs.declared.Match.the-variants.{Word, Nothing}
 use Rattle.tables.specs.Escapes.{escapeNames}

@@ -2,11 +2,11 @@
 -- follows that mark is one byte after trimming").
 -- Assumes nothing.
 use Prim.Native.Nat.{ℕ, zero, suc, _+_, _-_, _%_}
-use mathlib.Core.Bool.{Bool, true, false, cond}
+use mathlib.Core.Bool.{true, false, cond}
 use mathlib.Core.List.{List, [], _∷_}
 use lib.ListN.{take, drop, getD}
-use Rattle.ascii.specs.Bytes.{isDigit, isLetter, upper, between}
-use Rattle.ascii.specs.Trim.{trim, leading, solid}
+use Rattle.ascii.specs.Bytes.{isDigit, isLetter, upper}
+use Rattle.ascii.specs.Trim.{trim}
 use Rattle.words.specs.Find.{Entry, nameIn}
 use Rattle.words.specs.declared.Match.the-variants.{Word, Nothing}
 use Rattle.tables.specs.Spelling.{_is_}

@@ -2,10 +2,10 @@
 -- up to 255"; "a count above 0 that fits 64 bits (a leading `+` is allowed)"). A number is taken by its value: leading zeros are free.
 -- Assumes nothing.
 use Prim.Native.Nat.{ℕ, _+_, _-_, _*_, _^_}
-use mathlib.Core.Bool.{Bool, true, false, cond}
+use mathlib.Core.Bool.{true, false, cond}
 use mathlib.Core.List.{List, [], _∷_}
 use lib.Dec.{leb, ltb, eqb}
-use Rattle.ascii.specs.Bytes.{isDigit, isLetter, upper, between}
+use Rattle.ascii.specs.Bytes.{isDigit, isLetter, upper}
 use Rattle.escapes.specs.declared.numbers.Number.{Number}
 use Rattle.escapes.specs.declared.numbers.Number.the-variants.{Value, Missing}
 

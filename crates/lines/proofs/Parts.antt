@@ -1,4 +1,4 @@
--- The tail of a text from a place on, as it is lent; and a choice whose test is known.
+-- The tail of a text from a place on, as it is lent; and a choice by a test.
 -- Assumes nothing.
 use Prim.Native.Nat.{ℕ, _-_, _≤_}
 use mathlib.Core.Path.{_≡_, refl}
@@ -18,3 +18,8 @@ module _ {A : Type 0} {r : Bool} (x y : A) where
 
   pub left : r ≡ false → elim r [ true ↦ x | false ↦ y ] ≡ y
   left t = rw t
+
+-- what holds of either side, under the test, holds of the choice
+pub either : {A : Type 0} (P : A → Type 0) (r : Bool) (x y : A) → (r ≡ true → P x) → (r ≡ false → P y) → P (elim r [ true ↦ x | false ↦ y ])
+either P true x y f g = f refl
+either P false x y f g = g refl

@@ -1,0 +1,181 @@
+-- What a word begins with: the rule of a lexicon carried from the computed test to each entry, and so to what a search finds. A list
+-- whose words begin with letters has no word at another byte, nor the other way round; and what is found takes text, and no more than
+-- there is.
+-- Assumes nothing.
+use Prim.Native.Nat.{ℕ, zero, suc, _+_, _≤_, _<_}
+use mathlib.Core.Path.{_≡_, refl, sym, ap, _∙_}
+use mathlib.Core.Bool.{Bool, true, false, not, _&&_, false≢true, true≢false}
+use mathlib.Core.List.{List, [], _∷_}
+use native.Mathlib.Numerals.{add-one}
+use native.Mathlib.Omega.{arith}
+use lib.Dec.{T, eqb}
+use lib.ListN.{length, getD, drop, drop-of-length-le}
+use lib.Seq.{drop-cons}
+use borrow.Author.Tests.{eqb-true}
+use Rattle.ascii.specs.Bytes.{upper, between, isLetter}
+use Rattle.words.specs.Compare.{begins}
+use Rattle.words.specs.Find.{Entry, firstThat, wordIn, liveIn}
+use Rattle.words.specs.declared.Match.the-variants.{Word, Nothing}
+use Rattle.words.proofs.Search.{and-left, and-right}
+use Rattle.words.proofs.Sameness.{T-true}
+use Rattle.tables.specs.Rom.{v2Words, operators as operatorWords}
+use Rattle.tables.specs.Tsb.{tsbWords}
+use Rattle.body.specs.Lent.{anyLive}
+use Rattle.body.specs.Lexicon.{Lexicon, lexicon}
+use Rattle.body.specs.Proper.{startsAs, allStart, proper}
+use Rattle.body.specs.Steps.{first}
+
+-- ---- a word at the front of a text
+
+first-alike : (x y : ℕ) (r : Bool) → elim (eqb (upper x) (upper y)) [ true ↦ r | false ↦ false ] ≡ true → (upper x ≡ upper y) × (r ≡ true)
+first-alike x y r g = go (eqb (upper x) (upper y)) refl g
+  where
+    go : (b : Bool) → eqb (upper x) (upper y) ≡ b → elim b [ true ↦ r | false ↦ false ] ≡ true → (upper x ≡ upper y) × (r ≡ true)
+    go true e h = (eqb-true _ _ e, h)
+    go false e h = absurd (false≢true h)
+
+begins-long : (w t : List ℕ) → begins w t ≡ true → length w ≤ length t
+unfolding begins
+begins-long [] t g = omega arith
+begins-long (x ∷ w) [] g = absurd (false≢true g)
+begins-long (x ∷ w) (y ∷ t) g = let l : length w ≤ length t = begins-long w t (first-alike x y (begins w t) g .1) in omega arith
+
+-- the word and the text begin with the same kind of byte
+begins-kind : (r : Bool) (w t : List ℕ) → T (startsAs r w) → begins w t ≡ true → isLetter (first t) ≡ r
+unfolding begins startsAs
+begins-kind r [] t k g = absurd k
+begins-kind r (x ∷ w) [] k g = absurd (false≢true g)
+begins-kind true (x ∷ w) (y ∷ t) k g =
+    ap (between 65 90) (sym (first-alike x y (begins w t) g .0)) ∙ T-true (isLetter x) k
+begins-kind false (x ∷ w) (y ∷ t) k g =
+    ap (between 65 90) (sym (first-alike x y (begins w t) g .0)) ∙ not-T (isLetter x) k
+  where
+    not-T : (b : Bool) → T (not b) → b ≡ false
+    not-T true h = absurd h
+    not-T false h = refl
+
+starts-some : (r : Bool) (w : List ℕ) → T (startsAs r w) → 0 < length w
+unfolding startsAs
+starts-some r [] k = absurd k
+starts-some r (b ∷ w) k = omega arith
+
+-- ---- what is found in a list whose words begin alike
+
+-- a match takes text, and no more than there is
+pub record Takes (t : List ℕ) (used : ℕ) : Type 0 where
+  pub more : 0 < used
+  pub most : used ≤ length t
+
+module _ (t : List ℕ) (p : ℕ → List ℕ → Bool) (holds : (k : ℕ) (w : List ℕ) → p k w ≡ true → begins w t ≡ true) (r : Bool) where
+  pub none-found : (es : List Entry) (k : ℕ) → T (allStart r es) → isLetter (first t) ≡ not r → firstThat p es k ≡ Nothing
+  unfolding firstThat allStart
+  none-found [] k a n = refl
+  none-found (e ∷ es) k a n = go (p k (e .word)) refl (none-found es (suc k) (and-right (startsAs r (e .word)) _ a) n)
+    where
+      differ : (b : Bool) → b ≡ not b → ⊥
+      differ true q = true≢false q
+      differ false q = false≢true q
+
+      go : (b : Bool) → p k (e .word) ≡ b → firstThat p es (suc k) ≡ Nothing
+          → elim b [ true ↦ Word k (length (e .word)) (e .token) | false ↦ firstThat p es (suc k) ] ≡ Nothing
+      go true q h = absurd (differ r (sym (begins-kind r (e .word) t (and-left (startsAs r (e .word)) _ a) (holds k (e .word) q)) ∙ n))
+      go false q h = h
+
+  pub found-takes : (es : List Entry) (k : ℕ) → T (allStart r es) → {i u token : ℕ} → firstThat p es k ≡ Word i u token → Takes t u
+  unfolding firstThat allStart
+  found-takes [] k a {i} {u} {token} q = let z : _≡_ {A = ℕ} 0 1 = cc in absurd (omega arith)
+  found-takes (e ∷ es) k a {i} {u} {token} q = go (p k (e .word)) refl q (found-takes es (suc k) (and-right (startsAs r (e .word)) _ a))
+    where
+      go : (b : Bool) → p k (e .word) ≡ b
+          → elim b [ true ↦ Word k (length (e .word)) (e .token) | false ↦ firstThat p es (suc k) ] ≡ Word i u token
+          → (firstThat p es (suc k) ≡ Word i u token → Takes t u) → Takes t u
+      go true g h f =
+          let size : length (e .word) ≡ u = cc in
+          record {
+            more = omega (arith, starts-some r (e .word) (and-left (startsAs r (e .word)) _ a));
+            most = omega (arith, begins-long (e .word) t (holds k (e .word) g));
+          }
+      go false g h f = f h
+
+-- ---- the searches
+
+and-second : (a b : Bool) → (a && b) ≡ true → b ≡ true
+and-second true b q = q
+and-second false b q = absurd (false≢true q)
+
+module _ (r : Bool) (es : List Entry) (a : T (allStart r es)) (t : List ℕ) where
+  pub word-none : isLetter (first t) ≡ not r → wordIn es t ≡ Nothing
+  unfolding wordIn
+  word-none n = none-found t (λ k w. begins w t) (λ k w q. q) r es 0 a n
+
+  pub word-takes : {i u token : ℕ} → wordIn es t ≡ Word i u token → Takes t u
+  unfolding wordIn
+  word-takes q = found-takes t (λ k w. begins w t) (λ k w g. g) r es 0 a q
+
+  module _ (set : List Bool) where
+    pub live-none : isLetter (first t) ≡ not r → liveIn set es t ≡ Nothing
+    unfolding liveIn
+    live-none n = none-found t (λ k w. getD set k false && begins w t) (λ k w q. and-second (getD set k false) (begins w t) q) r es 0 a n
+
+    pub live-takes : {i u token : ℕ} → liveIn set es t ≡ Word i u token → Takes t u
+    unfolding liveIn
+    live-takes q = found-takes t (λ k w. getD set k false && begins w t) (λ k w g. and-second (getD set k false) (begins w t) g) r es 0 a q
+
+-- an empty set holds no word
+none-live : (set : List Bool) → anyLive set ≡ false → (k : ℕ) → getD set k false ≡ false
+unfolding anyLive
+none-live [] q k = refl
+none-live (true ∷ set) q k = absurd (true≢false q)
+none-live (false ∷ set) q zero = refl
+none-live (false ∷ set) q (suc k) = none-live set q k
+
+pub live-empty : (set : List Bool) → anyLive set ≡ false → (es : List Entry) (t : List ℕ) → liveIn set es t ≡ Nothing
+unfolding liveIn firstThat
+live-empty set q es t = go es 0
+  where
+    go : (es′ : List Entry) (k : ℕ) → firstThat (λ i w. getD set i false && begins w t) es′ k ≡ Nothing
+    go [] k = refl
+    go (e ∷ es′) k = rw (firstThat, none-live set q k) (go es′ (suc k))
+
+-- the loop that looks for a live word: none of the i passed is
+pub record NoneLive (set : List Bool) (i : ℕ) : Type 0 where
+  pub within : i ≤ length set
+  pub gives : anyLive (drop i set) ≡ anyLive set
+
+pub none-start : (set : List Bool) → NoneLive set 0
+none-start set = record { within = omega arith; gives = refl }
+
+module _ {set : List Bool} {i : ℕ} (k : NoneLive set i) where
+  pub none-end : length set ≤ i → false ≡ anyLive set
+  unfolding anyLive
+  none-end h = rw (drop-of-length-le set h) at (k .gives)
+
+  module _ (h : i < length set) where
+    pub none-turn : getD set i false ≡ false → NoneLive set (i + 1)
+    unfolding anyLive
+    none-turn e =
+        let s : anyLive (drop i set) ≡ anyLive (drop (i + 1) set) = rw (add-one, drop-cons set i false h, anyLive, e) in
+        record { within = omega arith; gives = sym s ∙ k .gives }
+
+    pub none-stop : getD set i false ≡ true → true ≡ anyLive set
+    unfolding anyLive
+    none-stop e = let s : anyLive (drop i set) ≡ true = rw (drop-cons set i false h, anyLive, e) in sym s ∙ k .gives
+
+-- ---- document 01's lists
+
+pub document-proper : (live demoted : List Bool) → T (proper (lexicon live demoted))
+unfolding proper allStart startsAs tsbWords v2Words operatorWords upper between
+document-proper live demoted = tt
+
+module _ (l : Lexicon) (g : T (proper l)) where
+  pub tsb-start : T (allStart true (l .tsb))
+  unfolding proper
+  tsb-start = and-left (allStart true (l .tsb)) _ g
+
+  pub v2-start : T (allStart true (l .v2))
+  unfolding proper
+  v2-start = and-left (allStart true (l .v2)) _ (and-right (allStart true (l .tsb)) _ g)
+
+  pub operators-start : T (allStart false (l .operators))
+  unfolding proper
+  operators-start = and-right (allStart true (l .v2)) _ (and-right (allStart true (l .tsb)) _ g)

@@ -1,0 +1,67 @@
+-- The bodies of document 01, "Proved table", and others that are easy to get wrong, each by computation.
+-- Assumes nothing.
+use Prim.Native.Nat.{ℕ}
+use Prim.Native.String.{String}
+use mathlib.Core.Bool.{not}
+use mathlib.Core.Path.{_≡_, refl}
+use mathlib.Core.List.{List, [], _∷_, _++_, map}
+use Rattle.ascii.specs.Bytes.{between, upper}
+use Rattle.ascii.specs.Trim.{trim, leading, solid, countsWith}
+use Rattle.words.specs.Compare.{begins, alike, same}
+use Rattle.words.specs.Find.{firstThat, wordIn, liveIn, nameIn}
+use Rattle.tables.specs.Spelling.{bytesOf}
+use Rattle.tables.specs.Escapes.{escapeNames, cbmLetters, ctrlDigits}
+use Rattle.tables.specs.Rom.{romWords, counted, keep, isWord, v2Words, operators}
+use Rattle.tables.specs.Tsb.{tsbWords}
+use Rattle.escapes.specs.Places.{before, further, behindLast}
+use Rattle.escapes.specs.Numbers.{digitOf, numberAfter, numberOf, hexOf, unsigned, countOf}
+use Rattle.escapes.specs.Keys.{keyNames, controlByte, keyWith, keyed, keyEscape}
+use Rattle.escapes.specs.Escape.{nameEscape, repeated, starred, escapeOf}
+use Rattle.body.specs.Body.{written, within, bodyFrom, bodyOf}
+use Rattle.body.specs.Lexicon.{Lexicon, lexicon, liveWord}
+use Rattle.body.specs.Steps.{opened, otherStep, plainStep, lettered, stringByte, escaped, braced, stringStep, dataStep, dataQuoteStep, stepOf}
+
+-- no TSB word is live
+abbrev pub v2Lexicon : Lexicon
+v2Lexicon = lexicon [] []
+
+-- every TSB word is live but one, which is demoted
+abbrev pub allBut : List ℕ → Lexicon
+allBut w = lexicon (map (λ e. not (same w (e .word))) tsbWords) (map (λ e. same w (e .word)) tsbWords)
+
+infix 60 _gives_
+abbrev pub _gives_ : String → List ℕ → Type 0
+text gives bytes = bodyOf v2Lexicon (bytesOf text) ≡ bytes
+
+pub body-table :
+    -- the cases of document 01
+    ("\"{sh *}\"" gives 0x22 ∷ 0xC0 ∷ 0x22 ∷ [])
+    × ("\"{space*0}\"" gives 0x22 ∷ 0x7B ∷ 0x53 ∷ 0x50 ∷ 0x41 ∷ 0x43 ∷ 0x45 ∷ 0x2A ∷ 0x30 ∷ 0x7D ∷ 0x22 ∷ [])
+    × ("PRINT \"{0}\"" gives 0x99 ∷ 0x20 ∷ 0x22 ∷ 0x00 ∷ 0x22 ∷ [])
+    -- a byte 22 that an escape makes ends nothing; the first later } counts, even beyond a quote
+    × ("\"{34}A" gives 0x22 ∷ 0x22 ∷ 0xC1 ∷ [])
+    × ("\"{ctrl \"}" gives 0x22 ∷ 0x02 ∷ [])
+    × ("\"{re\"d}" gives 0x22 ∷ 0x7B ∷ 0x52 ∷ 0x45 ∷ 0x22 ∷ 0x44 ∷ 0x7D ∷ [])
+    × ("\"{foo{red}" gives 0x22 ∷ 0x7B ∷ 0x46 ∷ 0x4F ∷ 0x4F ∷ 0x1C ∷ [])
+    × ("\"{sh **2}" gives 0x22 ∷ 0xC0 ∷ 0xC0 ∷ [])
+    × ("\"{g}" gives 0x22 ∷ 0x7B ∷ 0x47 ∷ 0x7D ∷ [])
+    × ("\"{CBM_A}\"A\"" gives 0x22 ∷ 0xB0 ∷ 0x22 ∷ 0x41 ∷ 0x22 ∷ [])
+    -- no escapes in DATA, nothing raised in a remark
+    × ("data \"{red}a:\":a" gives 0x83 ∷ 0x20 ∷ 0x22 ∷ 0x7B ∷ 0x52 ∷ 0x45 ∷ 0x44 ∷ 0x7D ∷ 0x41 ∷ 0x3A ∷ 0x22 ∷ 0x3A ∷ 0x41 ∷ [])
+    × ("rem \"{red}ab:" gives 0x8F ∷ 0x20 ∷ 0x22 ∷ 0x7B ∷ 0x72 ∷ 0x65 ∷ 0x64 ∷ 0x7D ∷ 0x61 ∷ 0x62 ∷ 0x3A ∷ [])
+    -- the longest word, ? for PRINT, operators, letters raised
+    × ("go to 1:goto1" gives 0xCB ∷ 0x20 ∷ 0xA4 ∷ 0x20 ∷ 0x31 ∷ 0x3A ∷ 0x89 ∷ 0x31 ∷ [])
+    × ("?a>=b" gives 0x99 ∷ 0x41 ∷ 0xB1 ∷ 0xB2 ∷ 0x42 ∷ [])
+    × ("input#1,a$" gives 0x84 ∷ 0x31 ∷ 0x2C ∷ 0x41 ∷ 0x24 ∷ [])
+    -- pi is a constant in plain alone
+    × (bodyOf v2Lexicon (0xCF ∷ 0x80 ∷ []) ≡ 0xFF ∷ [])
+    × (bodyOf v2Lexicon (bytesOf "\"" ++ (0xCF ∷ 0x80 ∷ [])) ≡ 0x22 ∷ 0xCF ∷ 0x80 ∷ [])
+    × (bodyOf v2Lexicon (bytesOf "data" ++ (0xCF ∷ 0x80 ∷ [])) ≡ 0x83 ∷ 0xCF ∷ 0x80 ∷ [])
+    × (bodyOf v2Lexicon (bytesOf "rem" ++ (0xCF ∷ 0x80 ∷ [])) ≡ 0x8F ∷ 0xCF ∷ 0x80 ∷ [])
+    -- a live word is crunched, a demoted one is not, and blocks a live one that begins with it
+    × (bodyOf (allBut (bytesOf "DIR")) (bytesOf "DIR=5:HIRES 0,1")
+    ≡ 0x44 ∷ 0x49 ∷ 0x52 ∷ 0xB2 ∷ 0x35 ∷ 0x3A ∷ 0x64 ∷ 0x01 ∷ 0x20 ∷ 0x30 ∷ 0x2C ∷ 0x31 ∷ [])
+    × (bodyOf (allBut (bytesOf "DO")) (bytesOf "downb:dir") ≡ 0x44 ∷ 0x4F ∷ 0x57 ∷ 0x4E ∷ 0x42 ∷ 0x3A ∷ 0x64 ∷ 0x4A ∷ [])
+    × (bodyOf (allBut []) (bytesOf "do:downb:on key") ≡ 0x64 ∷ 0x22 ∷ 0x3A ∷ 0x64 ∷ 0x15 ∷ 0x3A ∷ 0x64 ∷ 0x37 ∷ [])
+unfolding bodyFrom within written stepOf plainStep otherStep opened stringStep braced escaped stringByte lettered dataStep dataQuoteStep liveWord v2Words operators romWords counted keep isWord tsbWords wordIn liveIn nameIn firstThat alike same begins escapeOf starred repeated nameEscape keyEscape keyed keyWith controlByte keyNames countOf unsigned hexOf numberOf numberAfter digitOf behindLast further before escapeNames cbmLetters ctrlDigits trim leading solid countsWith upper between
+body-table = (refl, refl, refl, refl, refl, refl, refl, refl, refl, refl, refl, refl, refl, refl, refl, refl, refl, refl, refl, refl, refl, refl)

@@ -1,0 +1,153 @@
+-- The loops over a body: the one that writes it into a lent buffer, the one that measures it, and the one that writes a byte so many
+-- times; for each its invariant, a turn, and its ends.
+-- Assumes nothing.
+use Prim.Native.Nat.{ℕ, suc, _+_, _-_, _≤_, _<_, min}
+use mathlib.Core.Path.{_≡_, refl, sym, ap, _∙_}
+use mathlib.Core.Bool.{Bool, true, false}
+use mathlib.Core.List.{List, [], _++_}
+use native.Mathlib.Omega.{arith}
+use lib.Dec.{T}
+use lib.ListN.{length, drop, set, replicate, length-append, length-set, length-drop, length-replicate, drop-of-length-le}
+use lib.Seq.{sets, drop-drop}
+use Rattle.stores.specs.Stores.{Room, Put, put-long, put-as, room-as, room-first, room-second, put-both, put-none}
+use Rattle.body.specs.Body.{prefixOf, written, bodyFrom, bodyOf}
+use Rattle.body.specs.Lexicon.{Lexicon}
+use Rattle.body.specs.Proper.{proper}
+use Rattle.body.specs.Steps.{stepOf}
+use Rattle.body.specs.declared.moves.Mode.{Mode}
+use Rattle.body.specs.declared.moves.Mode.the-variants.{Plain}
+use Rattle.body.specs.declared.moves.Move.{Move}
+use Rattle.body.proofs.Beginnings.{Takes}
+use Rattle.body.proofs.Progress.{step-takes}
+use Rattle.body.proofs.Run.{body-end, body-step}
+
+-- ---- a step at a place of a body
+
+module _ (l : Lexicon) (g : T (proper l)) (s : List ℕ) (m : Mode) {at : ℕ} (h : at < length s) {o : Move} (e : o ≡ stepOf l m (drop at s)) where
+  some : 0 < length (drop at s)
+  some = omega (arith, length-drop at s)
+
+  -- what is owed at a place, taken apart: the step, and what is owed behind it
+  pub body-at : bodyFrom l m (drop at s) ≡ written o ++ bodyFrom l (o .mode) (drop (at + o .used) s)
+  body-at = rw (← drop-drop (o .used) at s) (body-step l g m (drop at s) some e)
+
+  pub used-at : (0 < o .used) × (at + o .used ≤ length s)
+  used-at =
+      let f : Takes (drop at s) (o .used) = rw e (step-takes l g m (drop at s) some) in
+      (f .more, omega (arith, f .most, length-drop at s))
+
+-- ---- writing
+
+-- at bytes of s are crunched, and n bytes written: with what is owed, the whole body is written into the first buffer
+pub record Owed (l : Lexicon) (s first : List ℕ) (m : Mode) (out : List ℕ) (n at : ℕ) : Type 0 where
+  pub within : at ≤ length s
+  pub sized : length out ≡ length first
+  pub room : Room out n (bodyFrom l m (drop at s))
+  pub gives : (behind : ℕ) (after : List ℕ) → Put out n (bodyFrom l m (drop at s)) behind after → Put first 0 (bodyOf l s) behind after
+
+pub owed-start : (l : Lexicon) (s out : List ℕ) → Room out 0 (bodyOf l s) → Owed l s out Plain out 0 0
+owed-start l s out r = record { within = omega arith; sized = refl; room = r; gives = λ behind after p. p }
+
+module _ {l : Lexicon} {s first : List ℕ} {m : Mode} {out : List ℕ} {n at : ℕ} (k : Owed l s first m out n at) where
+  pub owed-end : length s ≤ at → Put first 0 (bodyOf l s) n out
+  owed-end h =
+      let none : bodyFrom l m (drop at s) ≡ [] = rw (drop-of-length-le s h) (body-end l m) in
+      k .gives n out (put-as (sym none) (put-none out n))
+
+  module _ (g : T (proper l)) (h : at < length s) {o : Move} (e : o ≡ stepOf l m (drop at s)) where
+    owing : Room out n (written o ++ bodyFrom l (o .mode) (drop (at + o .used) s))
+    owing = room-as (sym (body-at l g s m h e)) (k .room)
+
+    pub owed-room : Room out n (written o)
+    owed-room = room-first (written o) (bodyFrom l (o .mode) (drop (at + o .used) s)) owing
+
+    pub owed-turn : {behind : ℕ} {after : List ℕ} → Put out n (written o) behind after → Owed l s first (o .mode) after behind (at + o .used)
+    owed-turn p =
+        let rest = bodyFrom l (o .mode) (drop (at + o .used) s) in
+        record {
+          within = used-at l g s m h e .1;
+          sized = put-long p ∙ k .sized;
+          room = room-second (written o) rest owing p;
+          gives = λ b a q. k .gives b a (put-as (sym (body-at l g s m h e)) (put-both (written o) rest p q));
+        }
+
+-- ---- measuring
+
+-- at bytes of s are crunched to n bytes, fewer than 65,536
+pub record Measured (l : Lexicon) (s : List ℕ) (m : Mode) (n at : ℕ) : Type 0 where
+  pub within : at ≤ length s
+  pub low : n < 65536
+  pub gives : n + length (bodyFrom l m (drop at s)) ≡ length (bodyOf l s)
+
+pub measured-start : (l : Lexicon) (s : List ℕ) → Measured l s Plain 0 0
+measured-start l s = record { within = omega arith; low = omega arith; gives = omega arith }
+
+module _ {l : Lexicon} {s : List ℕ} {m : Mode} {n at : ℕ} (k : Measured l s m n at) where
+  pub measured-end : length s ≤ at → n ≡ min (length (bodyOf l s)) 65536
+  measured-end h =
+      let none : bodyFrom l m (drop at s) ≡ [] = rw (drop-of-length-le s h) (body-end l m) in
+      omega (arith, ap length none, k .gives, k .low)
+
+  module _ (g : T (proper l)) (h : at < length s) {o : Move} (e : o ≡ stepOf l m (drop at s)) {r : ℕ} (q : r ≡ min (n + length (written o)) 65536) where
+    parts : length (bodyFrom l m (drop at s)) ≡ length (written o) + length (bodyFrom l (o .mode) (drop (at + o .used) s))
+    parts = ap length (body-at l g s m h e) ∙ length-append (written o) (bodyFrom l (o .mode) (drop (at + o .used) s))
+
+    pub measured-full : r ≡ 65536 → r ≡ min (length (bodyOf l s)) 65536
+    measured-full f = omega (arith, parts, k .gives)
+
+    pub measured-turn : (r ≡ 65536 → ⊥) → Measured l s (o .mode) r (at + o .used)
+    measured-turn f = record { within = used-at l g s m h e .1; low = omega arith; gives = omega (arith, parts, k .gives) }
+
+-- ---- the 64 in front of a TSB token
+
+module _ {out : List ℕ} {n : ℕ} {prefixed : Bool} where
+  pub prefix-room : Room out n (prefixOf prefixed) → prefixed ≡ true → n < length out
+  prefix-room r e = omega (arith, r .room, ap (λ (p : Bool). length (prefixOf p)) e)
+
+  pub prefix-put : prefixed ≡ true → Put out n (prefixOf prefixed) (n + 1) (set out n 0x64)
+  prefix-put e = rw e (record { ends = omega arith; stored = refl })
+
+  pub prefix-none : prefixed ≡ false → Put out n (prefixOf prefixed) n out
+  prefix-none e = rw e (put-none out n)
+
+-- ---- what a step writes
+
+module _ (o : Move) {out : List ℕ} {n : ℕ} where
+  pub move-prefix : Room out n (written o) → Room out n (prefixOf (o .prefixed))
+  unfolding written
+  move-prefix r = room-first (prefixOf (o .prefixed)) (replicate (o .count) (o .byte)) r
+
+  module _ {from : ℕ} {half : List ℕ} (p : Put out n (prefixOf (o .prefixed)) from half) where
+    pub move-rest : Room out n (written o) → Room half from (replicate (o .count) (o .byte))
+    unfolding written
+    move-rest r = room-second (prefixOf (o .prefixed)) (replicate (o .count) (o .byte)) r p
+
+    pub move-put : {behind : ℕ} {after : List ℕ} → Put half from (replicate (o .count) (o .byte)) behind after → Put out n (written o) behind after
+    unfolding written
+    move-put q = put-both (prefixOf (o .prefixed)) (replicate (o .count) (o .byte)) p q
+
+-- ---- one byte, count times
+
+-- k copies are written: with the others, all of them are written into the first buffer
+pub record Filling (first : List ℕ) (at byte count : ℕ) (out : List ℕ) (k : ℕ) : Type 0 where
+  pub within : k ≤ count
+  pub sized : length out ≡ length first
+  pub gives : sets out (at + k) (replicate (count - k) byte) ≡ sets first at (replicate count byte)
+
+pub filling-start : (first : List ℕ) (at byte count : ℕ) → Filling first at byte count first 0
+filling-start first at byte count =
+    let e : at + 0 ≡ at = omega arith in
+    let f : count - 0 ≡ count = omega arith in
+    record { within = omega arith; sized = refl; gives = rw (e, f) }
+
+module _ {first : List ℕ} {at byte count : ℕ} {out : List ℕ} {k : ℕ} (f : Filling first at byte count out k) where
+  pub filling-turn : k < count → Filling first at byte count (set out (at + k) byte) (k + 1)
+  filling-turn h =
+      let e : count - k ≡ suc (count - (k + 1)) = omega arith in
+      let u : at + (k + 1) ≡ suc (at + k) = omega arith in
+      record { within = omega arith; sized = simp length-set (f .sized); gives = rw u (rw e at (f .gives)) }
+
+  pub filling-end : count ≤ k → Put first at (replicate count byte) (at + k) out
+  filling-end h =
+      let e : count - k ≡ 0 = omega arith in
+      record { ends = omega (arith, length-replicate count byte); stored = rw e at (f .gives) }

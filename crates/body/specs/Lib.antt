@@ -1,0 +1,5 @@
+pub mod Body
+pub mod Lent
+pub mod Lexicon
+pub mod Proper
+pub mod Steps

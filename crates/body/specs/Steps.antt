@@ -1,0 +1,104 @@
+-- One step of crunching a body: what the front of the text left gives in each mode (document 01, "Crunching one body").
+-- Assumes nothing.
+use Prim.Native.Nat.{ℕ, _+_, _-_}
+use mathlib.Core.Bool.{Bool, true, false, cond, _&&_}
+use mathlib.Core.List.{List, [], _∷_}
+use lib.ListN.{length, getD, take}
+use lib.Dec.{eqb, ltb}
+use Rattle.ascii.specs.Bytes.{between, upper}
+use Rattle.words.specs.Find.{wordIn}
+use Rattle.words.specs.declared.Match.the-variants.{Word, Nothing}
+use Rattle.escapes.specs.Escape.{escapeOf}
+use Rattle.escapes.specs.Places.{equals, before}
+use Rattle.escapes.specs.declared.Escape.{Escape}
+use Rattle.escapes.specs.declared.Escape.the-variants.{Byte, Unknown}
+use Rattle.body.specs.Lexicon.{Lexicon, liveWord}
+use Rattle.body.specs.declared.moves.Mode.{Mode}
+use Rattle.body.specs.declared.moves.Mode.the-variants.{Plain, String, Remark, Data, DataQuote}
+use Rattle.body.specs.declared.moves.Move.{Move}
+
+-- the first byte of the text left
+abbrev pub first : List ℕ → ℕ
+first t = getD t 0 0
+
+-- a byte of the text gives a byte
+abbrev pub one : ℕ → Mode → Move
+one b m = record { prefixed = false; byte = b; count = 1; mode = m; used = 1 }
+
+-- a word gives its token, a TSB word with 64 in front
+abbrev pub token : Bool → ℕ → Mode → ℕ → Move
+token prefixed k m used = record { prefixed = prefixed; byte = k; count = 1; mode = m; used = used }
+
+-- ---- plain
+
+-- the mode behind a V2 word: 8F opens remark, 83 data
+unfoldable pub opened : ℕ → Mode
+opened k = cond (eqb k 0x8F) Remark (cond (eqb k 0x83) Data Plain)
+
+-- pi, CF 80, gives FF; ? gives 99; a-z raised; else copied
+unfoldable pub otherStep : List ℕ → Move
+otherStep t =
+    elim (eqb (first t) 0xCF && eqb (getD t 1 0) 0x80) [
+      | true ↦ token false 0xFF Plain 2
+      | false ↦ elim (eqb (first t) 0x3F) [ true ↦ one 0x99 Plain | false ↦ one (upper (first t)) Plain ]
+    ]
+
+-- first that applies: a quote, a live TSB word, a V2 word, an operator, another byte
+unfoldable pub plainStep : Lexicon → List ℕ → Move
+plainStep l t =
+    elim (eqb (first t) 0x22) [
+      | true ↦ one 0x22 String
+      | false ↦ elim (liveWord l t) [
+        | Word i u k ↦ token true k Plain u
+        | Nothing ↦ elim (wordIn (l .v2) t) [
+          | Word i u k ↦ token false k (opened k) u
+          | Nothing ↦ elim (wordIn (l .operators) t) [ Word i u k ↦ token false k Plain u | Nothing ↦ otherStep t ]
+        ]
+      ]
+    ]
+
+-- ---- string
+
+-- a-z become 41 to 5A, A-Z become C1 to DA
+unfoldable pub lettered : ℕ → ℕ
+lettered b = cond (between 97 122 b) (b - 32) (cond (between 65 90 b) (b + 0x80) b)
+
+-- a quote in the text ends the mode
+unfoldable pub stringByte : ℕ → Move
+stringByte b = elim (eqb b 0x22) [ true ↦ one 0x22 Plain | false ↦ one (lettered b) String ]
+
+-- a brace, and the escape of the n bytes behind it; where that is unknown the brace is a byte like others
+unfoldable pub escaped : ℕ → Escape → Move
+escaped n (Byte b count) = record { prefixed = false; byte = b; count = count; mode = String; used = n + 2 }
+escaped n Unknown = stringByte 0x7B
+
+-- a brace and the text behind it, n bytes of which stand in front of the first closing brace
+unfoldable pub braced : List ℕ → ℕ → Move
+braced s n = elim (ltb n (length s)) [ true ↦ escaped n (escapeOf (take n s)) | false ↦ stringByte 0x7B ]
+
+unfoldable pub stringStep : List ℕ → Move
+stringStep [] = stringByte 0
+stringStep (b ∷ s) = elim (eqb b 0x7B) [ true ↦ braced s (before (equals 0x7D) s) | false ↦ stringByte b ]
+
+-- ---- data
+
+-- a quote opens a quoted part, a colon returns to plain, a-z raised
+unfoldable pub dataStep : ℕ → Move
+dataStep b =
+    elim (eqb b 0x22) [
+      | true ↦ one 0x22 DataQuote
+      | false ↦ elim (eqb b 0x3A) [ true ↦ one 0x3A Plain | false ↦ one (upper b) Data ]
+    ]
+
+-- copied through its closing quote, with a-z raised
+unfoldable pub dataQuoteStep : ℕ → Move
+dataQuoteStep b = elim (eqb b 0x22) [ true ↦ one 0x22 Data | false ↦ one (upper b) DataQuote ]
+
+-- ---- all modes; in a remark all is copied
+
+unfoldable pub stepOf : Lexicon → Mode → List ℕ → Move
+stepOf l Plain t = plainStep l t
+stepOf l String t = stringStep t
+stepOf l Remark t = one (first t) Remark
+stepOf l Data t = dataStep (first t)
+stepOf l DataQuote t = dataQuoteStep (first t)

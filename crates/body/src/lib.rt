@@ -1,0 +1,130 @@
+// One body, crunched: its length, and its bytes written into a lent buffer from that buffer's first byte on.
+use crate::moves::Mode;
+use crate::moves::Move;
+ghost use mathlib.Core.Path.{_≡_};
+ghost use Prim.Native.Nat.{_+_, _<_, min};
+ghost use lib.ListN.{length, replicate};
+ghost use Rattle.stores.specs.Stores.{Room, Put};
+ghost use Rattle.body.specs.Body.{prefixOf, written, bodyOf};
+ghost use Rattle.body.specs.Lexicon.{lexicon};
+ghost use Rattle.body.specs.Lent.{Lends};
+
+mod data;
+pub mod moves;
+mod plain;
+mod step;
+mod string;
+mod survey;
+
+// The length of a body, or 65,536 where it is that or more.
+pub fn measure_body(
+    text: &[u8],
+    bytes: &[u8],
+    starts: &[u16],
+    tokens: &[u8],
+    live: &[bool],
+    demoted: &[bool],
+) -> usize
+    requires { ⌜ Lends (now bytes) (now starts) (now tokens) (now live) (now demoted) ⌝ }
+    ensures { λ r. ⌜ r ≡ min (length (bodyOf (lexicon (now (live .entry)) (now (demoted .entry))) (now (text .entry)))) 65536 ⌝ }
+{
+    let known = survey::survey_body(text, live);
+    let mut at: usize = 0;
+    let mut mode = Mode::Plain;
+    let mut n: usize = 0;
+    while at < text.len() {
+        let m = step::step(text, at, mode, known, bytes, starts, tokens, live, demoted);
+        n = longer(n, m);
+        if n == 65536 {
+            return n;
+        }
+        at += m.used;
+        let next = m.mode;
+        mode = next;
+    }
+    n
+}
+
+// A length with what a step writes behind it, up to 65,536.
+fn longer(n: usize, m: Move) -> usize
+    requires { ⌜ n < 65536 ⌝ }
+    ensures { λ r. ⌜ r ≡ min (n + length (written m)) 65536 ⌝ }
+{
+    let begun = behind_prefix(n, m.prefixed);
+    let room = 65536 - begun;
+    let count = m.count as usize;
+    if room <= count {
+        return 65536;
+    }
+    begun + count
+}
+
+fn behind_prefix(n: usize, prefixed: bool) -> usize
+    requires { ⌜ n < 65536 ⌝ }
+    ensures { λ r. ⌜ r ≡ n + length (prefixOf prefixed) ⌝ }
+{
+    if prefixed {
+        return n + 1;
+    }
+    n
+}
+
+// Writes a body at the start of a buffer that has room for it, and answers its length.
+pub fn write_body(
+    out: &mut [u8],
+    text: &[u8],
+    bytes: &[u8],
+    starts: &[u16],
+    tokens: &[u8],
+    live: &[bool],
+    demoted: &[bool],
+) -> usize
+    requires { ⌜ Lends (now bytes) (now starts) (now tokens) (now live) (now demoted) × Room (now out) 0 (bodyOf (lexicon (now live) (now demoted)) (now text)) ⌝ }
+    ensures { λ r. ⌜ Put (now (out .entry)) 0 (bodyOf (lexicon (now (live .entry)) (now (demoted .entry))) (now (text .entry))) r (now (out .exit)) ⌝ }
+{
+    let known = survey::survey_body(text, live);
+    let mut at: usize = 0;
+    let mut mode = Mode::Plain;
+    let mut n: usize = 0;
+    while at < text.len() {
+        let m = step::step(text, at, mode, known, bytes, starts, tokens, live, demoted);
+        n = put_move(out, n, m);
+        at += m.used;
+        let next = m.mode;
+        mode = next;
+    }
+    n
+}
+
+// Writes what a step gives, and answers the place behind it.
+fn put_move(out: &mut [u8], n: usize, m: Move) -> usize
+    requires { ⌜ Room (now out) n (written m) ⌝ }
+    ensures { λ r. ⌜ Put (now (out .entry)) n (written m) r (now (out .exit)) ⌝ }
+{
+    let from = put_prefix(out, n, m.prefixed);
+    fill(out, from, m.byte, m.count as usize)
+}
+
+fn put_prefix(out: &mut [u8], n: usize, prefixed: bool) -> usize
+    requires { ⌜ Room (now out) n (prefixOf prefixed) ⌝ }
+    ensures { λ r. ⌜ Put (now (out .entry)) n (prefixOf prefixed) r (now (out .exit)) ⌝ }
+{
+    if prefixed {
+        out[n] = 0x64;
+        return n + 1;
+    }
+    n
+}
+
+// Writes a byte so many times, and answers the place behind them.
+fn fill(out: &mut [u8], at: usize, byte: u8, count: usize) -> usize
+    requires { ⌜ Room (now out) at (replicate count byte) ⌝ }
+    ensures { λ r. ⌜ Put (now (out .entry)) at (replicate count byte) r (now (out .exit)) ⌝ }
+{
+    let mut k: usize = 0;
+    while k < count {
+        out[at + k] = byte;
+        k += 1;
+    }
+    at + k
+}

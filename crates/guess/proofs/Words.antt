@@ -1,0 +1,134 @@
+-- What is known of a TSB word that is found in a text: it begins with a letter, so that no other byte is looked up; its place and its
+-- length are within bounds; and it is the first word of its length and spelling, the one that the Rust enters into its set.
+-- Assumes nothing.
+use Prim.Native.Nat.{ℕ, zero, suc, _+_, _≤_, _<_}
+use mathlib.Core.Path.{_≡_, refl, sym, ap, _∙_}
+use mathlib.Core.Bool.{Bool, true, false, _&&_, false≢true}
+use mathlib.Core.List.{List, [], _∷_}
+use native.Mathlib.Omega.{arith}
+use native.Mathlib.Nat.{not-suc-le-zero, le-of-suc-le-suc}
+use lib.Dec.{T, eqb}
+use lib.ListN.{length, getD}
+use borrow.Author.Tests.{eq-eqb, ne-eqb}
+use Rattle.ascii.specs.Bytes.{isLetter, between, upper}
+use Rattle.words.specs.Compare.{begins}
+use Rattle.words.specs.Find.{Entry, firstThat, wordIn}
+use Rattle.words.specs.Order.{wordAt}
+use Rattle.words.specs.declared.Match.{Match}
+use Rattle.words.specs.declared.Match.the-variants.{Word, Nothing}
+use Rattle.words.proofs.Order.{found}
+use Rattle.words.proofs.Search.{and-left, and-right}
+use Rattle.words.proofs.Sameness.{T-true}
+use Rattle.tables.specs.Tsb.{tsbWords}
+use Rattle.lines.proofs.Parts.{taken, left}
+
+-- ---- each TSB word begins with a letter: one test over the list, carried to each entry
+
+unfoldable pub initial : List ℕ → Bool
+unfolding between upper
+initial [] = false
+initial (b ∷ w) = isLetter b
+
+unfoldable pub initials : List Entry → Bool
+unfolding initial
+initials [] = true
+initials (e ∷ es) = initial (e .word) && initials es
+
+tsb-initials : T (initials tsbWords)
+unfolding initials tsbWords
+tsb-initials = tt
+
+initial-at : (es : List Entry) → T (initials es) → (k : ℕ) → k < length es → T (initial (wordAt es k))
+unfolding initials
+initial-at [] t k h = absurd (not-suc-le-zero h)
+initial-at (e ∷ es) t zero h = and-left (initial (e .word)) _ t
+initial-at (e ∷ es) t (suc k) h = initial-at es (and-right (initial (e .word)) _ t) k (le-of-suc-le-suc h)
+
+initial-some : (w : List ℕ) → T (initial w) → 0 < length w
+unfolding initial
+initial-some [] t = absurd t
+initial-some (b ∷ w) t = omega arith
+
+-- ---- a text that begins with no letter begins with no TSB word
+
+not-begun : (w t : List ℕ) → T (initial w) → isLetter (getD t 0 0) ≡ false → begins w t ≡ false
+unfolding initial begins
+not-begun [] t i n = absurd i
+not-begun (c ∷ w) [] i n = refl
+not-begun (c ∷ w) (b ∷ s) i n =
+    left _ _ (ne-eqb (upper c) (upper b) (λ e. false≢true (sym n ∙ ap (between 65 90) (sym e) ∙ T-true (isLetter c) i)))
+
+none-begun : (t : List ℕ) (es : List Entry) (k : ℕ) → T (initials es) → isLetter (getD t 0 0) ≡ false → firstThat (λ i w. begins w t) es k ≡ Nothing
+unfolding firstThat initials
+none-begun t [] k i n = refl
+none-begun t (e ∷ es) k i n =
+    left _ _ (not-begun (e .word) t (and-left (initial (e .word)) _ i) n) ∙ none-begun t es (suc k) (and-right (initial (e .word)) _ i) n
+
+pub no-word : (t : List ℕ) → isLetter (getD t 0 0) ≡ false → Nothing ≡ wordIn tsbWords t
+unfolding wordIn
+no-word t n = sym (none-begun t tsbWords 0 tsb-initials n)
+
+pub no-word-empty : (t : List ℕ) → length t ≡ 0 → Nothing ≡ wordIn tsbWords t
+unfolding between upper
+no-word-empty [] h = no-word [] refl
+no-word-empty (b ∷ s) h = absurd (omega arith)
+
+-- ---- bounds of a word that is found
+
+pub begins-long : (w t : List ℕ) → begins w t ≡ true → length w ≤ length t
+unfolding begins
+begins-long [] t e = omega arith
+begins-long (c ∷ w) [] e = absurd (false≢true e)
+begins-long (c ∷ w) (b ∷ s) e = go (eqb (upper c) (upper b)) e (begins-long w s)
+  where
+    go : (r : Bool) → elim r [ true ↦ begins w s | false ↦ false ] ≡ true → (begins w s ≡ true → length w ≤ length s) → suc (length w) ≤ suc (length s)
+    go true q f = omega (arith, f q)
+    go false q f = absurd (false≢true q)
+
+pub record Bounded (t : List ℕ) (index used : ℕ) : Type 0 where
+  pub place : index < 123
+  pub some : 0 < used
+  pub within : used ≤ length t
+
+tsb-count : length tsbWords ≡ 123
+unfolding tsbWords
+tsb-count = refl
+
+pub word-bounds : (t : List ℕ) {index used token : ℕ} → wordIn tsbWords t ≡ Word index used token → Bounded t index used
+unfolding wordIn
+word-bounds t {index} {used} {token} e =
+    let f = found (λ w. begins w t) index used token tsbWords 0 e in
+    record {
+      place = omega (arith, f .place, f .within, tsb-count);
+      some = omega (arith, f .size, initial-some (wordAt tsbWords (f .at)) (initial-at tsbWords tsb-initials (f .at) (f .within)));
+      within = omega (arith, f .size, begins-long (wordAt tsbWords (f .at)) t (f .passes));
+    }
+
+-- ---- the first word that matches is the first of its length that matches
+
+module _ (t : List ℕ) (index used token : ℕ) where
+  of-length : (es : List Entry) (k : ℕ) → firstThat (λ i w. begins w t) es k ≡ Word index used token
+      → firstThat (λ i w. eqb (length w) used && begins w t) es k ≡ Word index used token
+  unfolding firstThat
+  of-length [] k e = e
+  of-length (x ∷ es) k e = go (begins (x .word) t) refl e (of-length es (suc k))
+    where
+      same : begins (x .word) t ≡ true → Word k (length (x .word)) (x .token) ≡ Word index used token
+          → firstThat (λ i w. eqb (length w) used && begins w t) (x ∷ es) k ≡ Word index used token
+      same q p =
+          let n : length (x .word) ≡ used = cc in
+          taken _ _ (ap (λ (r : Bool). r && begins (x .word) t) (eq-eqb _ _ n) ∙ q) ∙ p
+
+      both : (r : Bool) → begins (x .word) t ≡ false → (r && begins (x .word) t) ≡ false
+      both true q = q
+      both false q = refl
+
+      go : (r : Bool) → begins (x .word) t ≡ r → elim r [ true ↦ Word k (length (x .word)) (x .token) | false ↦ firstThat (λ i w. begins w t) es (suc k) ] ≡ Word index used token
+          → (firstThat (λ i w. begins w t) es (suc k) ≡ Word index used token → firstThat (λ i w. eqb (length w) used && begins w t) es (suc k) ≡ Word index used token)
+          → firstThat (λ i w. eqb (length w) used && begins w t) (x ∷ es) k ≡ Word index used token
+      go true q p f = same q p
+      go false q p f = left _ _ (both (eqb (length (x .word)) used) q) ∙ f p
+
+  pub first-of-its-length : wordIn tsbWords t ≡ Word index used token → firstThat (λ i w. eqb (length w) used && begins w t) tsbWords 0 ≡ Word index used token
+  unfolding wordIn
+  first-of-its-length e = of-length tsbWords 0 e

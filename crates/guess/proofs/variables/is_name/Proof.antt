@@ -1,0 +1,43 @@
+-- `guess::variables::is_name` meets its contract.
+-- Assumes nothing.
+use Rattle.guess.proofs.Passes.{name-assigned, name-dim}
+use borrow.Author.Needs.{needs}
+use Rattle.guess.proofs.variables.is_name.Statement.{statement}
+use Rattle.guess.proofs.variables.is_name.Tie as tie
+
+add-behind : tie.Need-add-behind
+add-behind c = search needs
+
+sub-assigns : tie.Need-sub-assigns
+sub-assigns c = search needs
+
+part-assigns-start : tie.Need-part-assigns-start
+part-assigns-start c = search needs
+
+part-assigns-end : tie.Need-part-assigns-end
+part-assigns-end c = search needs
+
+assigns-requires : tie.Need-assigns-requires
+assigns-requires c κs = search needs
+
+returns : tie.Need-returns
+returns c = name-assigned _ _ _ (c .before .assigns .ensures) (c .if1 .taken)
+
+after-dim-requires : tie.Need-after-dim-requires
+after-dim-requires c κs = search needs
+
+returns-2 : tie.Need-returns-2
+returns-2 c = name-dim _ _ _ (c .before .before .assigns .ensures) (c .before .if1 .left) (c .after-dim .ensures)
+
+pub is-name-spec : {M : Type 1} → statement M
+is-name-spec =
+    tie.close
+    (tie.spec
+    add-behind
+    sub-assigns
+    part-assigns-start
+    part-assigns-end
+    assigns-requires
+    returns
+    after-dim-requires
+    returns-2)

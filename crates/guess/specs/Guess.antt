@@ -1,0 +1,76 @@
+-- The dialect of a text and the TSB words that are live in it (document 01, "Guessing the dialect").
+-- Assumes nothing.
+use Prim.Native.Nat.{ℕ}
+use mathlib.Core.Path.{_≡_}
+use mathlib.Core.Bool.{Bool, true, false, not}
+use mathlib.Core.List.{List, [], _∷_, map}
+use lib.ListN.{replicate}
+use Rattle.refusals.specs.Answer.{Answer, done, refused, numbered, andThen}
+use Rattle.tables.specs.declared.dialect.Dialect.{Dialect}
+use Rattle.tables.specs.declared.dialect.Dialect.the-variants.{Auto, BasicV2, Tsb}
+use Rattle.lines.specs.Domain.{checkedText}
+use Rattle.lines.specs.TextLines.{linesOf}
+use Rattle.lines.specs.declared.split.LineRule.{LineRule}
+use Rattle.lines.specs.declared.split.LineRule.the-variants.{AsGiven, AfterCr}
+use Rattle.guess.specs.Evidence.{lineEvidence}
+use Rattle.guess.specs.Variables.{lineNames}
+use Rattle.guess.specs.declared.resolve.Resolved.{Resolved}
+use Rattle.guess.specs.declared.resolve.Resolved.the-variants.{Is, Refused}
+
+-- ---- over the lines of a text
+
+unfoldable pub anyEvidence : List (List ℕ) → Bool
+unfolding lineEvidence
+anyEvidence [] = false
+anyEvidence (l ∷ ls) = elim (lineEvidence l) [ true ↦ true | false ↦ anyEvidence ls ]
+
+unfoldable pub evidence : LineRule → List ℕ → Bool
+unfolding anyEvidence linesOf
+evidence rule t = anyEvidence (linesOf rule t)
+
+unfoldable pub allNames : List (List ℕ) → List Bool → List Bool
+unfolding lineNames
+allNames [] found = found
+allNames (l ∷ ls) found = allNames ls (lineNames l found)
+
+abbrev pub none : List Bool
+none = replicate 123 false
+
+abbrev pub all : List Bool
+all = replicate 123 true
+
+unfoldable pub names : LineRule → List ℕ → List Bool
+unfolding allNames linesOf
+names rule t = allNames (linesOf rule t) none
+
+-- ---- the resolved dialect: the text as given
+
+unfoldable pub dialectOf : Dialect → List ℕ → Dialect
+unfolding evidence
+dialectOf Auto t = elim (evidence AsGiven t) [ true ↦ Tsb | false ↦ BasicV2 ]
+dialectOf BasicV2 t = BasicV2
+dialectOf Tsb t = Tsb
+
+unfoldable pub resolved : Dialect → List ℕ → Answer Dialect
+unfolding checkedText dialectOf
+resolved d t = andThen (checkedText t) (λ _. done (dialectOf d t))
+
+abbrev pub resolvedAnswer : Resolved → Answer Dialect
+resolvedAnswer (Is d) = done d
+resolvedAnswer (Refused r) = refused (numbered r)
+
+-- ---- the words that are live, and those that are demoted: the text after CR handling
+
+pub record WordSets : Type 0 where
+  pub live : List Bool
+  pub demoted : List Bool
+
+unfoldable pub wordSets : Dialect → List ℕ → WordSets
+unfolding evidence names
+wordSets Tsb t = record { live = all; demoted = none }
+wordSets BasicV2 t = record { live = none; demoted = none }
+wordSets Auto t =
+    elim (evidence AfterCr t) [
+      | true ↦ record { live = map not (names AfterCr t); demoted = names AfterCr t }
+      | false ↦ record { live = none; demoted = none }
+    ]

@@ -1,0 +1,119 @@
+-- The third demand: "An image crunched at 0x0100 or above, read by its links, gives back its address and every nonblank line's number
+-- and crunched body, zeros included", and by terminators where no body holds a zero. Here of any lines that are laid out, and said once
+-- of any step that finds the lines where they stand.
+-- Assumes nothing.
+use Prim.Native.Nat.{ℕ, _+_, _≤_}
+use mathlib.Core.Path.{_≡_, refl, ap, _∙_}
+use mathlib.Core.List.{List, [], _∷_, _++_, map, append-assoc}
+use native.Mathlib.Omega.{arith}
+use lib.ListN.{length}
+use Rattle.refusals.specs.Answer.{done, mapDone}
+use Rattle.readers.specs.NumberedBody.{NumberedBody}
+use Rattle.readers.specs.Image.{lowFirstAt, line, end}
+use Rattle.readers.specs.Lines.{Reader, linesFrom, overviewOf, Sound, lines-line, lines-end}
+use Rattle.readers.specs.Bodies.{numberedBody, bodiesFrom}
+use Rattle.readers.specs.Links.{linkStep}
+use Rattle.readers.specs.Terminators.{terminatorStep}
+use Rattle.readers.proofs.ByLinks.{link-sound}
+use Rattle.readers.proofs.ByTerminators.{terminator-sound}
+use Rattle.readers.proofs.Reading.{overview-bodies}
+use Rattle.layout.specs.Each.{Each}
+use Rattle.layout.specs.Layout.{linkOf, lineBytes, linesBytes, imageOf, endAddress, Fits, Laid}
+use Rattle.layout.specs.Reads.{placedLine, linesAt, ReadAs, NoZero, NoZeros}
+use Rattle.layout.proofs.Laying.{image-length, end-above, first-fits}
+use Rattle.layout.proofs.Standing.{Holds, Stands, stands-next, body-read, end-by-links, end-by-terminators, found-by-links, found-by-terminators}
+
+-- the offset p is that of the address a
+record Meets (load a p : ℕ) : Type 0 where
+  meets : a + 2 ≡ load + p
+  above : load ≤ a
+
+-- the bytes from an offset on are those of lines, the first at an address, and the end
+abbrev Lined : List ℕ → ℕ → ℕ → List NumberedBody → Type 0
+Lined s p a ls = Holds s p (linesBytes a ls ++ 0 ∷ 0 ∷ [])
+
+first-stands : {s : List ℕ} {p : ℕ} (a : ℕ) (l : NumberedBody) (ls : List NumberedBody) → Lined s p a (l ∷ ls)
+    → Stands s p (linkOf a (l .body)) l (linesBytes (linkOf a (l .body)) ls ++ 0 ∷ 0 ∷ [])
+unfolding linesBytes
+first-stands a l ls h =
+    let b = linkOf a (l .body) in
+    record { holds = record { there = h .there ∙ append-assoc (lineBytes a (l .number) (l .body)) (linesBytes b ls) (0 ∷ 0 ∷ []) } }
+
+-- the numbers and bodies at the places of the lines are the lines
+bodies-at : (s : List ℕ) (ls : List NumberedBody) (a p : ℕ) → Lined s p a ls → map (numberedBody s) (linesAt a p ls) ≡ ls
+unfolding linesAt
+bodies-at s [] a p h = refl
+bodies-at s (l ∷ ls) a p h =
+    let b = linkOf a (l .body) in
+    let q = p + 5 + length (l .body) in
+    let k = first-stands a l ls h in
+    ap (λ (x : NumberedBody). x ∷ map (numberedBody s) (linesAt b q ls)) (body-read k)
+    ∙ ap (λ (xs : List NumberedBody). l ∷ xs) (bodies-at s ls b q (stands-next k))
+
+-- a step that finds each line where it stands, if Q holds of it, and the end
+record Finds (step : Reader) (s : List ℕ) (load : ℕ) (Q : NumberedBody → Type 0) : Type 0 where
+  sound : Sound step
+  finds-line : {a p : ℕ} {l : NumberedBody} {rest : List ℕ} → Meets load a p → Stands s p (linkOf a (l .body)) l rest → linkOf a (l .body) ≤ 0xFFFF → Q l
+      → step s p ≡ done (line (placedLine (linkOf a (l .body)) p l))
+  finds-end : {p : ℕ} → Holds s p (0 ∷ 0 ∷ []) → step s p ≡ done end
+
+module _ {step : Reader} {s : List ℕ} {load : ℕ} {Q : NumberedBody → Type 0} (finds : Finds step s load Q) where
+  places-from : (ls : List NumberedBody) (a p : ℕ) → Meets load a p → Lined s p a ls → Fits a ls → Each Q ls → linesFrom step s p ≡ done (linesAt a p ls)
+  unfolding linesBytes linesAt endAddress
+  places-from [] a p m h f q = lines-end step s p (finds .finds-end h)
+  places-from (l ∷ ls) a p m h f q =
+      let b = linkOf a (l .body) in
+      let k = first-stands a l ls h in
+      lines-line (finds .sound) s p (finds .finds-line m k (first-fits a l ls f) (q .0))
+      ∙ ap (mapDone (λ xs. placedLine b p l ∷ xs)) (places-from ls b (p + 5 + length (l .body)) (omega arith) (stands-next k) f (q .1))
+
+  -- an image whose load address and lines are these is read as they are
+  reads : {ls : List NumberedBody} → lowFirstAt s 0 ≡ load → Lined s 2 load ls → Fits load ls → Each Q ls → ReadAs step load ls s
+  unfolding bodiesFrom
+  reads {ls} w h f q =
+      let places = places-from ls load 2 (omega arith) h f q in
+      let bodies = ap (mapDone (map (numberedBody s))) places ∙ ap done (bodies-at s ls load 2 h) in
+      record {
+        checked = overview-bodies step s ∙ ap (mapDone (overviewOf s)) bodies ∙ ap (λ (n : ℕ). done (record { load = n; lines = length ls })) w;
+        bodies = bodies;
+        places = places;
+      }
+
+both : {A : Type 0} (P Q : A → Type 0) (xs : List A) → Each P xs → Each Q xs → Each (λ x. P x × Q x) xs
+both P Q [] p q = tt
+both P Q (x ∷ xs) p q = ((p .0, q .0), both P Q xs (p .1) (q .1))
+
+module _ {load : ℕ} {ls : List NumberedBody} (up : 0x0100 ≤ load) (laid : Laid load ls) where
+  image-long : length (imageOf load ls) ≤ 1048576
+  image-long = omega (arith, image-length load ls, laid .fits)
+
+  load-there : lowFirstAt (imageOf load ls) 0 ≡ load
+  unfolding imageOf
+  load-there = omega (arith, end-above load ls, laid .fits)
+
+  lines-there : Lined (imageOf load ls) 2 load ls
+  unfolding imageOf
+  lines-there = record { there = refl }
+
+  -- by links, whatever the bodies hold
+  pub read-back-by-links : ReadAs linkStep load ls (imageOf load ls)
+  read-back-by-links = reads finds load-there lines-there (laid .fits) (laid .numbers)
+    where
+      finds : Finds linkStep (imageOf load ls) load (λ l. l .number ≤ 65535)
+      finds = record {
+        sound = link-sound;
+        finds-line = λ m k f q. found-by-links k image-long (omega (arith, m)) f q (omega (arith, m, load-there));
+        finds-end = λ h. end-by-links image-long h;
+      }
+
+  -- by terminators, where no body holds a zero
+  pub read-back-by-terminators : NoZeros ls → ReadAs terminatorStep load ls (imageOf load ls)
+  read-back-by-terminators none =
+      reads finds load-there lines-there (laid .fits) (both (λ l. l .number ≤ 65535) (λ l. NoZero (l .body)) ls (laid .numbers) none)
+    where
+      finds : Finds terminatorStep (imageOf load ls) load (λ l. (l .number ≤ 65535) × NoZero (l .body))
+      finds = record {
+        sound = terminator-sound;
+        finds-line = λ m k f q. found-by-terminators k image-long (omega (arith, m)) f (q .0) (q .1);
+        finds-end = λ h. end-by-terminators image-long h;
+      }

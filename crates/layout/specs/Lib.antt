@@ -1,0 +1,4 @@
+pub mod Changed
+pub mod Each
+pub mod Layout
+pub mod Reads

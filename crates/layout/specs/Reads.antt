@@ -1,0 +1,46 @@
+-- What a reader reads of an image that was laid out (document 01, "Reading and listing"): all that its calls answer, in one record.
+-- Assumes nothing.
+use Prim.Native.Nat.{ℕ, _+_}
+use mathlib.Core.Path.{_≡_}
+use mathlib.Core.List.{List, [], _∷_}
+use lib.ListN.{length}
+use Rattle.refusals.specs.Answer.{done}
+use Rattle.readers.specs.declared.Line.{Line}
+use Rattle.readers.specs.NumberedBody.{NumberedBody}
+use Rattle.readers.specs.Lines.{Reader, linesOf, overview}
+use Rattle.readers.specs.Bodies.{bodiesOf}
+use Rattle.layout.specs.Each.{Each}
+use Rattle.layout.specs.Layout.{linkOf}
+
+-- the line at an offset, with a link
+abbrev pub placedLine : ℕ → ℕ → NumberedBody → Line
+placedLine link p l =
+    record {
+      link = link;
+      number = l .number;
+      from = p + 4;
+      to = p + 4 + length (l .body);
+      next = p + 5 + length (l .body);
+    }
+
+-- lines one behind the other, the first at an address and at an offset
+unfoldable pub linesAt : ℕ → ℕ → List NumberedBody → List Line
+linesAt address p [] = []
+linesAt address p (l ∷ ls) = placedLine (linkOf address (l .body)) p l ∷ linesAt (linkOf address (l .body)) (p + 5 + length (l .body)) ls
+
+-- a line's link and place, whatever its number
+abbrev pub placeOf : Line → Line
+placeOf l = record { link = l .link; number = 0; from = l .from; to = l .to; next = l .next }
+
+-- an image is read as these lines: its load address and line count, each line's number and body, and each line's place and link
+pub record ReadAs (step : Reader) (load : ℕ) (ls : List NumberedBody) (s : List ℕ) : Type 0 where
+  pub checked : overview step s ≡ done (record { load = load; lines = length ls })
+  pub bodies : bodiesOf step s ≡ done ls
+  pub places : linesOf step s ≡ done (linesAt load 2 ls)
+
+-- "where no body holds a zero"
+abbrev pub NoZero : List ℕ → Type 0
+NoZero body = Each (λ b. b ≡ 0 → ⊥) body
+
+abbrev pub NoZeros : List NumberedBody → Type 0
+NoZeros ls = Each (λ l. NoZero (l .body)) ls

@@ -1,0 +1,4 @@
+pub mod Apart
+pub mod Promised
+pub mod Results
+pub mod Visits
