@@ -1,0 +1,5 @@
+pub mod Laying
+pub mod Lining
+pub mod Measuring
+pub mod Writing
+pub mod Whole

@@ -1,0 +1,140 @@
+-- The loop that writes an image: its invariant, a turn, and its end.
+-- Assumes nothing.
+use Prim.Native.Nat.{ℕ, suc, _+_, _-_, _≤_, _<_}
+use mathlib.Core.Path.{_≡_, refl, sym, ap, _∙_, subst}
+use mathlib.Core.List.{List, [], _∷_, _++_, append-nil, append-assoc}
+use native.Mathlib.Omega.{arith}
+use lib.ListN.{length, take, drop, length-append}
+use Rattle.refusals.specs.Numbers.{Numbered}
+use Rattle.refusals.specs.Answer.{Answer, done, refused, mapDone, andThen}
+use Rattle.refusals.specs.Lent.{Lent, intoBuffer}
+use Rattle.stores.specs.Stores.{Room, Put, put-long, put-both, put-none, put-as}
+use Rattle.stores.specs.Outcomes.{HasRoom, into-done}
+use Rattle.lines.specs.declared.split.TextLine.{TextLine}
+use Rattle.lines.specs.declared.split.LineRule.the-variants.{AfterCr}
+use Rattle.lines.specs.TextLines.{linesOf, lineFrom}
+use Rattle.body.specs.Lexicon.{Lexicon}
+use Rattle.readers.specs.NumberedBody.{NumberedBody}
+use Rattle.layout.specs.Layout.{twoBytes, linesBytes, endAddress, imageOf}
+use Rattle.layout.proofs.Laying.{image-length, lines-length, lines-append, end-append, end-above}
+use Rattle.image.specs.Crunched.{textLine, crunchLines}
+use Rattle.image.specs.Passes.{textImage, addressBehind, given}
+use Rattle.image.proofs.Lining.{Taken, taken, given-is}
+use Rattle.image.proofs.Measuring.{Reached, reached-start, reached-turn, turn-before, reached-refused, reached-end, lineAt}
+
+-- the lines before a text line are stored behind the load address
+pub record Written (words : Lexicon) (load : ℕ) (text buffer : List ℕ) (from at : ℕ) (out : List ℕ) (to : ℕ) : Type 0 where
+  pub k : ℕ
+  pub address : ℕ
+  pub reached : Reached words load text at k address
+  pub room : HasRoom buffer (textImage words load text)
+  pub begins : from ≡ 2
+  pub put : Put buffer from (linesBytes load (reached .before)) to out
+
+-- room is a matter of length
+room-alike : (buffer other : List ℕ) → length other ≡ length buffer → (a : Answer (List ℕ)) → HasRoom buffer a → HasRoom other a
+room-alike buffer other e (done bytes) r = record { room = omega (arith, r .room, e) }
+room-alike buffer other e (refused n) r = r
+
+-- a beginning of an image has room where the image has
+room-before : (buffer : List ℕ) (load : ℕ) (before : List NumberedBody) (a w : Answer (List NumberedBody)) → mapDone (λ ls. before ++ ls) a ≡ w
+    → HasRoom buffer (mapDone (imageOf load) w) → length (linesBytes load before) + 4 ≤ length buffer
+room-before buffer load before (done ls) w e r =
+    let h : Room buffer 0 (imageOf load (before ++ ls)) = subst (λ (x : Answer (List NumberedBody)). HasRoom buffer (mapDone (imageOf load) x)) (sym e) r in
+    omega (arith, h .room, image-length load (before ++ ls), end-append load before ls, end-above (endAddress load before) ls, lines-length load before)
+room-before buffer load before (refused n) w e r =
+    absurd (subst (λ (x : Answer (List NumberedBody)). HasRoom buffer (mapDone (imageOf load) x)) (sym e) r)
+
+module _ (words : Lexicon) (load : ℕ) (text buffer : List ℕ) where
+  room-reached : {at k address : ℕ} → HasRoom buffer (textImage words load text) → (g : Reached words load text at k address) → length (linesBytes load (g .before)) + 4 ≤ length buffer
+  unfolding textImage
+  room-reached {at} {k} {address} r g =
+      room-before buffer load (g .before) (crunchLines words (suc k) address (linesOf AfterCr (drop at text))) (crunchLines words 1 load (linesOf AfterCr text)) (g .gives) r
+
+  pub room-load : load ≤ 0xFFFF → HasRoom buffer (textImage words load text) → Room buffer 0 (twoBytes load)
+  unfolding reached-start
+  room-load h r = record { room = omega (arith, room-reached r (reached-start words load text h)) }
+
+  pub written-start : load ≤ 0xFFFF → HasRoom buffer (textImage words load text) → {from : ℕ} {out : List ℕ} → Put buffer 0 (twoBytes load) from out → Written words load text out from 0 out from
+  unfolding reached-start linesBytes
+  written-start h r {from} {out} p =
+      record {
+        k = 0;
+        address = load;
+        reached = reached-start words load text h;
+        room = room-alike buffer out (put-long p) (textImage words load text) r;
+        begins = omega (arith, p .ends);
+        put = put-none out from;
+      }
+
+module _ {words : Lexicon} {load : ℕ} {text buffer : List ℕ} {from at : ℕ} {out : List ℕ} {to : ℕ} (w : Written words load text buffer from at out to) where
+  stored-long : to ≡ 2 + length (linesBytes load (w .reached .before))
+  stored-long = omega (arith, w .put .ends, w .begins)
+
+  -- the address of the next line is known from the place where it goes
+  pub written-address : (2 ≤ load + to) × (load + to - 2 ≡ w .address) × (w .address ≤ 0xFFFF)
+  written-address = omega (arith, stored-long, lines-length load (w .reached .before), w .reached .stands, w .reached .high)
+
+  pub written-long : length out ≡ length buffer
+  written-long = put-long (w .put)
+
+  module _ {r : TextLine} (h : at < length text) (is : r ≡ lineFrom AfterCr text at) where
+    -- a text that has an image is refused at no line
+    found : (a : Answer ℕ) → addressBehind words (suc (w .k)) (w .address) (lineAt text at r) ≡ a → (next : ℕ) × Taken words (suc (w .k)) (w .address) (lineAt text at r) next
+    unfolding textImage
+    found (done next) e = (next, taken e)
+    found (refused n) e =
+        absurd (subst (λ (x : Answer (List NumberedBody)). HasRoom buffer (mapDone (imageOf load) x)) (sym (reached-refused (w .reached) h is e)) (w .room))
+
+    here : (next : ℕ) × Taken words (suc (w .k)) (w .address) (lineAt text at r) next
+    here = found (addressBehind words (suc (w .k)) (w .address) (lineAt text at r)) refl
+
+    next-reached : Reached words load text (r .next) (w .k + 1) (here .0)
+    next-reached = reached-turn (w .reached) h is (here .1)
+
+    -- what the line gives, at its address
+    module _ {address : ℕ} (there : address ≡ w .address) where
+      new-is : given (textLine words 0 (lineAt text at r)) ≡ here .1 .new
+      new-is = given-is words (lineAt text at r) (suc (w .k)) (here .1 .line-is)
+
+      bytes-is : linesBytes address (given (textLine words 0 (lineAt text at r))) ≡ linesBytes (endAddress load (w .reached .before)) (here .1 .new)
+      bytes-is = ap (linesBytes address) new-is ∙ ap (λ (a : ℕ). linesBytes a (here .1 .new)) (there ∙ w .reached .stands)
+
+      all-is : linesBytes load (w .reached .before) ++ linesBytes (endAddress load (w .reached .before)) (here .1 .new) ≡ linesBytes load (next-reached .before)
+      unfolding next-reached
+      all-is = sym (lines-append load (w .reached .before) (here .1 .new)) ∙ ap (linesBytes load) (sym (turn-before (w .reached) h is (here .1)))
+
+      pub written-room : Room out to (linesBytes address (given (textLine words 0 (lineAt text at r))))
+      written-room =
+          let new = linesBytes (endAddress load (w .reached .before)) (here .1 .new) in
+          let e = ap length all-is in
+          rw bytes-is
+          (record {
+            room = omega (arith, room-reached words load text buffer (w .room) next-reached, e, length-append (linesBytes load (w .reached .before)) new, stored-long, written-long);
+          })
+
+      pub written-turn : {to′ : ℕ} {out′ : List ℕ} → Put out to (linesBytes address (given (textLine words 0 (lineAt text at r)))) to′ out′ → Written words load text buffer from (r .next) out′ to′
+      written-turn p =
+          record {
+            k = w .k + 1;
+            address = here .0;
+            reached = next-reached;
+            room = w .room;
+            begins = w .begins;
+            put =
+                put-as all-is
+                (put-both (linesBytes load (w .reached .before)) (linesBytes (endAddress load (w .reached .before)) (here .1 .new)) (w .put) (put-as bytes-is p));
+          }
+
+  pub written-room-end : Room out to (twoBytes 0)
+  written-room-end = record { room = omega (arith, room-reached words load text buffer (w .room) (w .reached), stored-long, written-long) }
+
+  pub written-end : length text ≤ at → {whole : List ℕ} → HasRoom whole (textImage words load text) → Put whole 0 (twoBytes load) from buffer → {n : ℕ} {after : List ℕ} → Put out to (twoBytes 0) n after
+      → _≡_ {A = Lent} (record { answer = done n; buffer = after }) (intoBuffer (textImage words load text) whole)
+  unfolding textImage imageOf
+  written-end h {whole} room first last =
+      let lines = linesBytes load (w .reached .before) in
+      into-done whole (textImage words load text)
+      (ap (mapDone (imageOf load)) (reached-end (w .reached) h))
+      room
+      (put-both (twoBytes load ++ lines) (twoBytes 0) (put-both (twoBytes load) lines first (w .put)) last)

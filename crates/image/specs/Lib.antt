@@ -1,0 +1,2 @@
+pub mod Crunched
+pub mod Passes
