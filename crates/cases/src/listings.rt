@@ -22,7 +22,8 @@ pub fn room_for_list(image: &[u8]) -> bool {
     length_of(listing::room(image)).send()
 }
 
-fn length_of(outcome: Outcome) -> Answer
+// The answer of a call with a lent buffer, or of one that measures.
+pub fn length_of(outcome: Outcome) -> Answer
     ensures { λ r. ⌜ Sendable r ⌝ }
 {
     match outcome {

@@ -5,6 +5,7 @@ mod frames;
 mod images;
 mod listings;
 mod rooms;
+mod texts;
 mod words;
 
 use frames::Answer;
@@ -14,6 +15,9 @@ use libc::STDIN_FILENO;
 // Answers one request; false where the answer could not be written.
 fn answer_request(op: u8, payload: &[u8], room: &mut [u8]) -> bool {
     match op {
+        0x01 => texts::crunch(payload, room),
+        0x02 => texts::room_for_crunch(payload),
+        0x03 => texts::resolved_dialect(payload),
         0x04 => words::dialect_by_name(payload),
         0x05 => words::is_tsb_word(payload),
         0x06 => images::check_by_terminators(payload),

@@ -1,0 +1,54 @@
+// Ops 01 to 03: crunching.
+use crate::dialects;
+use crate::frames;
+use crate::listings;
+use crate::rooms;
+use dialects::Meant;
+use frames::Answer;
+use guess::resolve;
+use guess::resolve::Resolved;
+
+pub fn crunch(payload: &[u8], room: &mut [u8]) -> bool {
+    if payload.len() < 7 {
+        return Answer::malformed().send();
+    }
+    let load = frames::u16_at(payload, 0);
+    let size = frames::u32_at(payload, 3) as usize;
+    if size > room.len() {
+        return Answer::malformed().send();
+    }
+    let Meant::Dialect(dialect) = dialects::dialect_of(payload[2]) else {
+        return Answer::malformed().send();
+    };
+    rooms::fill(&mut room[0..size]);
+    let outcome = image::crunch(&payload[7..], load, dialect, &mut room[0..size]);
+    listings::length_of(outcome).send_with(&room[0..size])
+}
+
+pub fn room_for_crunch(payload: &[u8]) -> bool {
+    if payload.len() < 3 {
+        return Answer::malformed().send();
+    }
+    let load = frames::u16_at(payload, 0);
+    match dialects::dialect_of(payload[2]) {
+        Meant::Dialect(dialect) => listings::length_of(image::room(&payload[3..], load, dialect)).send(),
+        Meant::Nothing => Answer::malformed().send(),
+    }
+}
+
+pub fn resolved_dialect(payload: &[u8]) -> bool {
+    if payload.len() < 1 {
+        return Answer::malformed().send();
+    }
+    match dialects::dialect_of(payload[0]) {
+        Meant::Dialect(dialect) => send_resolved(resolve::resolved_dialect(&payload[1..], dialect)),
+        Meant::Nothing => Answer::malformed().send(),
+    }
+}
+
+fn send_resolved(resolved: Resolved) -> bool {
+    match resolved {
+        Resolved::Is(dialect) => Answer::done().byte(dialects::byte_of(dialect)).send(),
+        Resolved::Refused(refusal) => Answer::refused(refusal).send(),
+    }
+}
