@@ -31,7 +31,11 @@ pub fn room_for_crunch(payload: &[u8]) -> bool {
     }
     let load = frames::u16_at(payload, 0);
     match dialects::dialect_of(payload[2]) {
-        Meant::Dialect(dialect) => listings::length_of(image::room(&payload[3..], load, dialect)).send(),
+        Meant::Dialect(dialect) => listings::length_of(image::room(
+            &payload[3..],
+            load,
+            dialect,
+        )).send(),
         Meant::Nothing => Answer::malformed().send(),
     }
 }

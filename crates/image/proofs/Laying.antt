@@ -24,7 +24,7 @@ module _ (address number : ℕ) (body : List ℕ) {buffer : List ℕ} {at : ℕ}
   pub tail-room : Room (midOf (at + 4) (length buffer - (at + 4)) buffer) 0 body
   tail-room =
       let whole : take (length buffer - (at + 4)) (drop (at + 4) buffer) ≡ drop (at + 4) buffer =
-          take-all (length buffer - (at + 4)) (drop (at + 4) buffer) (omega (arith, length-drop (at + 4) buffer)) in
+      take-all (length buffer - (at + 4)) (drop (at + 4) buffer) (omega (arith, length-drop (at + 4) buffer)) in
       record { room = rw whole (omega (arith, line-room, length-drop (at + 4) buffer)) }
 
   -- the body is stored in that part

@@ -6,7 +6,8 @@ use lines::number;
 use lines::number::Numbering;
 use lines::split;
 use lines::split::LineRule;
-use refusals::{Outcome, Refusal};
+use refusals::Outcome;
+use refusals::Refusal;
 use tables::dialect::Dialect;
 use tables::spellings;
 ghost use mathlib.Core.Path.{_≡_};
@@ -77,17 +78,40 @@ fn crunch_with(
 {
     let mut live = [false; 123];
     let mut demoted = [false; 123];
-    resolve::word_sets(text, dialect, bytes, starts, tokens, &mut live, &mut demoted);
+    resolve::word_sets(
+        text,
+        dialect,
+        bytes,
+        starts,
+        tokens,
+        &mut live,
+        &mut demoted,
+    );
     into_buffer(out, text, load, bytes, starts, tokens, &live, &demoted)
 }
 
-fn room_with(text: &[u8], load: u16, dialect: Dialect, bytes: &[u8], starts: &[u16], tokens: &[u8]) -> Outcome
+fn room_with(
+    text: &[u8],
+    load: u16,
+    dialect: Dialect,
+    bytes: &[u8],
+    starts: &[u16],
+    tokens: &[u8],
+) -> Outcome
     requires { ⌜ SpellsWords (now bytes) (now starts) (now tokens) ⌝ }
     ensures { λ r. ⌜ outcomeAnswer r ≡ roomFor (textImage (wordsOf dialect (now (text .entry))) load (now (text .entry))) ⌝ }
 {
     let mut live = [false; 123];
     let mut demoted = [false; 123];
-    resolve::word_sets(text, dialect, bytes, starts, tokens, &mut live, &mut demoted);
+    resolve::word_sets(
+        text,
+        dialect,
+        bytes,
+        starts,
+        tokens,
+        &mut live,
+        &mut demoted,
+    );
     measure(text, load, bytes, starts, tokens, &live, &demoted)
 }
 
@@ -135,7 +159,16 @@ fn measure(
         let line = split::next_line(text, at, LineRule::AfterCr);
         let end = line.end;
         k += 1;
-        match measure_line(&text[at..end], k, address, bytes, starts, tokens, live, demoted) {
+        match measure_line(
+            &text[at..end],
+            k,
+            address,
+            bytes,
+            starts,
+            tokens,
+            live,
+            demoted,
+        ) {
             Sized::Behind(next) => {
                 address = next;
                 at = line.next;
@@ -165,13 +198,23 @@ fn measure_line(
     match number::number_line(line) {
         Numbering::Blank => Sized::Behind(address),
         Numbering::Missing => Sized::Refused(Refusal::MissingLineNumber { line: k }),
-        Numbering::OutOfRange { value } => Sized::Refused(Refusal::LineNumberOutOfRange { line: k, value }),
+        Numbering::OutOfRange { value } => Sized::Refused(Refusal::LineNumberOutOfRange {
+            line: k,
+            value,
+        }),
         Numbering::Numbered {
             number: _,
             body_from,
             body_to,
         } => {
-            let length = body::measure_body(&line[body_from..body_to], bytes, starts, tokens, live, demoted);
+            let length = body::measure_body(
+                &line[body_from..body_to],
+                bytes,
+                starts,
+                tokens,
+                live,
+                demoted,
+            );
             let behind = address + 5 + length;
             if behind > 0xFFFF {
                 return Sized::Refused(Refusal::AddressOverflow);
@@ -202,7 +245,17 @@ fn write(
         let line = split::next_line(text, at, LineRule::AfterCr);
         let end = line.end;
         let address = first + to - 2;
-        to = write_line(out, to, address, &text[at..end], bytes, starts, tokens, live, demoted);
+        to = write_line(
+            out,
+            to,
+            address,
+            &text[at..end],
+            bytes,
+            starts,
+            tokens,
+            live,
+            demoted,
+        );
         at = line.next;
     }
     put_two(out, to, 0)
