@@ -22,7 +22,7 @@ use Rattle.lines.proofs.Fronts.{front-le}
 use Rattle.lines.proofs.Parts.{tail, taken, left, either}
 use Rattle.guess.specs.Ahead.{behindBlanks, assigns}
 use Rattle.guess.specs.Places.{isPlain, isStart, aside}
-use Rattle.guess.specs.Evidence.{isElse, assigned, called, proves, wordProves, plainStep, stepOf, scan, numberLength, lineEvidence}
+use Rattle.guess.specs.Evidence.{isElse, assigned, called, proves, wordProves, wordStep, plainStep, stepOf, scan, numberLength, lineEvidence}
 use Rattle.guess.specs.declared.place.Place.{Place}
 use Rattle.guess.specs.declared.place.Place.the-variants.{Start, Within, Quoted, Data}
 use Rattle.guess.specs.declared.evidence.Step.{Step}
@@ -100,24 +100,24 @@ module _ (place : Place) (t : List ℕ) where
 
       module _ (o : d ≡ false) where
         pub plain-colon : getD t 0 0 ≡ 0x3A → Move 1 Start ≡ plainStep place t
-        unfolding plainStep
+        unfolding plainStep wordStep
         plain-colon e = sym (left _ _ (ne-eqb _ _ q) ∙ left _ _ (sym p ∙ n) ∙ left _ _ (sym s ∙ o) ∙ taken _ _ (eq-eqb _ _ e))
 
         module _ {w : Bool} (k : getD t 0 0 ≡ 0x3A → ⊥) (v : w ≡ ofKind White (getD t 0 0)) where
           pub plain-white : w ≡ true → Move 1 place ≡ plainStep place t
-          unfolding plainStep
+          unfolding plainStep wordStep
           plain-white e =
               sym (left _ _ (ne-eqb _ _ q) ∙ left _ _ (sym p ∙ n) ∙ left _ _ (sym s ∙ o) ∙ left _ _ (ne-eqb _ _ k) ∙ taken _ _ (sym v ∙ e))
 
           module _ {x : Bool} (l : w ≡ false) (u : x ≡ wordProves place t) where
             pub plain-proved : x ≡ true → Proved ≡ plainStep place t
-            unfolding plainStep
+            unfolding plainStep wordStep
             plain-proved e =
                 sym (left _ _ (ne-eqb _ _ q) ∙ left _ _ (sym p ∙ n) ∙ left _ _ (sym s ∙ o) ∙ left _ _ (ne-eqb _ _ k) ∙ left _ _ (sym v ∙ l)
                 ∙ taken _ _ (sym u ∙ e))
 
             pub plain-other : x ≡ false → Move 1 Within ≡ plainStep place t
-            unfolding plainStep
+            unfolding plainStep wordStep
             plain-other e =
                 sym (left _ _ (ne-eqb _ _ q) ∙ left _ _ (sym p ∙ n) ∙ left _ _ (sym s ∙ o) ∙ left _ _ (ne-eqb _ _ k) ∙ left _ _ (sym v ∙ l)
                 ∙ left _ _ (sym u ∙ e))
@@ -143,7 +143,7 @@ module _ (place : Place) (t : List ℕ) (h : 0 < length t) where
   far-one next = (omega arith, omega arith)
 
   far-plain : Far (length t) (plainStep place t)
-  unfolding plainStep
+  unfolding plainStep wordStep
   far-plain =
       either (Far (length t)) (eqb (getD t 0 0) 0x22) _ _ (λ _. far-one Quoted) (λ _.
       either (Far (length t)) (begins (bytesOf "REM") t) _ _ (λ _. tt) (λ _.

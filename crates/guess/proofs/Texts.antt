@@ -21,7 +21,7 @@ use Rattle.lines.proofs.Splitting.{line-step, lines-end}
 use Rattle.lines.proofs.Parts.{taken, left}
 use Rattle.guess.specs.Evidence.{lineEvidence}
 use Rattle.guess.specs.Variables.{lineNames}
-use Rattle.guess.specs.Guess.{anyEvidence, evidence, allNames, none, all, names, dialectOf, resolved, WordSets, wordSets}
+use Rattle.guess.specs.Guess.{anyEvidence, evidence, allNames, none, all, names, guessedDialect, resolved, WordSets, wordSets}
 
 -- ---- evidence
 
@@ -79,24 +79,24 @@ module _ {rule : LineRule} {t : List ℕ} {w found : List Bool} {size at : ℕ} 
 
 module _ {d : Dialect} (t : List ℕ) where
   module _ {x : Bool} (a : d ≡ Auto) (p : x ≡ evidence AsGiven t) where
-    pub auto-tsb : x ≡ true → Tsb ≡ dialectOf d t
-    unfolding dialectOf
+    pub auto-tsb : x ≡ true → Tsb ≡ guessedDialect d t
+    unfolding guessedDialect
     auto-tsb e = rw a (sym (taken _ _ (sym p ∙ e)))
 
-    pub auto-v2 : x ≡ false → BasicV2 ≡ dialectOf d t
-    unfolding dialectOf
+    pub auto-v2 : x ≡ false → BasicV2 ≡ guessedDialect d t
+    unfolding guessedDialect
     auto-v2 e = rw a (sym (left _ _ (sym p ∙ e)))
 
-  pub as-v2 : d ≡ BasicV2 → BasicV2 ≡ dialectOf d t
-  unfolding dialectOf
+  pub as-v2 : d ≡ BasicV2 → BasicV2 ≡ guessedDialect d t
+  unfolding guessedDialect
   as-v2 e = rw e
 
-  pub as-tsb : d ≡ Tsb → Tsb ≡ dialectOf d t
-  unfolding dialectOf
+  pub as-tsb : d ≡ Tsb → Tsb ≡ guessedDialect d t
+  unfolding guessedDialect
   as-tsb e = rw e
 
 module _ (d : Dialect) (t : List ℕ) {c : Checked} (p : checkedAnswer c ≡ checkedText t) where
-  pub resolved-fine : {r : Dialect} → c ≡ Fine → r ≡ dialectOf d t → done r ≡ resolved d t
+  pub resolved-fine : {r : Dialect} → c ≡ Fine → r ≡ guessedDialect d t → done r ≡ resolved d t
   unfolding resolved
   resolved-fine e q = rw (← p, e) (ap done q)
 

@@ -48,29 +48,29 @@ unfoldable pub wordProves : Place → List ℕ → Bool
 unfolding isStart wordIn tsbWords proves
 wordProves place t = elim (wordIn tsbWords t) [ Word index used token ↦ proves (isStart place) t used | Nothing ↦ false ]
 
+-- a step on through a statement: a colon ends it, white space leaves the place as it is, a TSB word may prove it
+unfoldable pub wordStep : Place → List ℕ → Step
+unfolding ofKind wordProves
+wordStep place t =
+    elim (eqb (getD t 0 0) 0x3A) [
+      | true ↦ Move 1 Start
+      | false ↦
+          elim (ofKind White (getD t 0 0)) [
+            | true ↦ Move 1 place
+            | false ↦ elim (wordProves place t) [ true ↦ Proved | false ↦ Move 1 Within ]
+          ]
+    ]
+
 -- a step outside strings and DATA, at the front of what is left of the line
 unfoldable pub plainStep : Place → List ℕ → Step
-unfolding begins ofKind wordProves
+unfolding begins wordStep
 plainStep place t =
     elim (eqb (getD t 0 0) 0x22) [
       | true ↦ Move 1 Quoted
       | false ↦
           elim (begins (bytesOf "REM") t) [
             | true ↦ Remark
-            | false ↦
-                elim (begins (bytesOf "DATA") t) [
-                  | true ↦ Move 4 Data
-                  | false ↦
-                      elim (eqb (getD t 0 0) 0x3A) [
-                        | true ↦ Move 1 Start
-                        | false ↦
-                            elim (ofKind White (getD t 0 0)) [
-                              | true ↦ Move 1 place
-                              | false ↦
-                                  elim (wordProves place t) [ true ↦ Proved | false ↦ Move 1 Within ]
-                            ]
-                      ]
-                ]
+            | false ↦ elim (begins (bytesOf "DATA") t) [ true ↦ Move 4 Data | false ↦ wordStep place t ]
           ]
     ]
 

@@ -19,6 +19,7 @@ use Rattle.guess.specs.declared.resolve.Resolved.the-variants.{Is, Refus
 
 -- ---- over the lines of a text
 
+-- the first line that proves it decides
 unfoldable pub anyEvidence : List (List ℕ) → Bool
 unfolding lineEvidence
 anyEvidence [] = false
@@ -28,6 +29,7 @@ unfoldable pub evidence : LineRule → List ℕ → Bool
 unfolding anyEvidence linesOf
 evidence rule t = anyEvidence (linesOf rule t)
 
+-- each line adds to the words found before it
 unfoldable pub allNames : List (List ℕ) → List Bool → List Bool
 unfolding lineNames
 allNames [] found = found
@@ -45,21 +47,23 @@ names rule t = allNames (linesOf rule t) none
 
 -- ---- the resolved dialect: the text as given
 
-unfoldable pub dialectOf : Dialect → List ℕ → Dialect
+unfoldable pub guessedDialect : Dialect → List ℕ → Dialect
 unfolding evidence
-dialectOf Auto t = elim (evidence AsGiven t) [ true ↦ Tsb | false ↦ BasicV2 ]
-dialectOf BasicV2 t = BasicV2
-dialectOf Tsb t = Tsb
+guessedDialect Auto t = elim (evidence AsGiven t) [ true ↦ Tsb | false ↦ BasicV2 ]
+guessedDialect BasicV2 t = BasicV2
+guessedDialect Tsb t = Tsb
 
 unfoldable pub resolved : Dialect → List ℕ → Answer Dialect
-unfolding checkedText dialectOf
-resolved d t = andThen (checkedText t) (λ _. done (dialectOf d t))
+unfolding checkedText guessedDialect
+resolved d t = andThen (checkedText t) (λ _. done (guessedDialect d t))
 
 abbrev pub resolvedAnswer : Resolved → Answer Dialect
 resolvedAnswer (Is d) = done d
 resolvedAnswer (Refused r) = refused (numbered r)
 
--- ---- the words that are live, and those that are demoted: the text after CR handling
+-- ---- the words that are live, and those that are demoted: the text after CR handling (document 01: "Tsb makes every TSB word live,
+-- BasicV2 none. Auto makes none live unless tsb_statement_evidence holds; then words found by tsb_words_used_as_variables are demoted
+-- and the others live.")
 
 pub record WordSets : Type 0 where
   pub live : List Bool

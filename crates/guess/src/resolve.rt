@@ -15,7 +15,7 @@ ghost use Prim.Native.Nat.{_≤_};
 ghost use lib.ListN.{length, replicate};
 ghost use Rattle.tables.specs.Words.{SpellsWords};
 ghost use Rattle.lines.specs.TextLines.{linesOf};
-ghost use Rattle.guess.specs.Guess.{evidence as evidenceOf, allNames, dialectOf, resolved, resolvedAnswer, wordSets};
+ghost use Rattle.guess.specs.Guess.{evidence as evidenceOf, allNames, guessedDialect, resolved, resolvedAnswer, wordSets};
 
 pub enum Resolved {
     Is(Dialect),
@@ -68,7 +68,7 @@ fn text_names(
 
 // The dialect that Auto is for a text as given; the others are themselves.
 fn guessed(text: &[u8], dialect: Dialect) -> Dialect
-    ensures { λ r. ⌜ r ≡ dialectOf dialect (now (text .entry)) ⌝ }
+    ensures { λ r. ⌜ r ≡ guessedDialect dialect (now (text .entry)) ⌝ }
 {
     match dialect {
         Dialect::Auto => {

@@ -5,12 +5,13 @@ use Prim.Native.Nat.{ℕ, zero, suc, _+_, _-_, _≤_, _<_}
 use mathlib.Core.Path.{_≡_, refl, sym, ap, _∙_, subst}
 use mathlib.Core.Bool.{Bool, true, false, _&&_, false≢true}
 use mathlib.Core.List.{List, [], _∷_, map}
+use native.Mathlib.Decide.{decLt}
 use native.Mathlib.Numerals.{add-one}
 use native.Mathlib.Omega.{arith}
-use lib.Dec.{eqb}
+use lib.Dec.{eqb, ltb}
 use lib.ListN.{length, getD, take, drop, drop-of-length-le, length-drop}
 use lib.Seq.{drop-cons, drop-drop}
-use borrow.Author.Tests.{eqb-true}
+use borrow.Author.Tests.{eqb-true, lt-ltb, le-ltb}
 use Rattle.lines.specs.Front.{startsWith}
 use Rattle.lines.specs.TextLines.{crLf, loneCr, onto, atLf, linesOf, endMark, lineLength, lineUsed, lineFrom}
 use Rattle.lines.specs.declared.split.LineRule.{LineRule}
@@ -200,6 +201,33 @@ module _ (rule : LineRule) (t : List ℕ) (from : ℕ) where
 -- behind the text there is none
 pub lines-end : (rule : LineRule) (t : List ℕ) (from : ℕ) → length t ≤ from → linesOf rule (drop from t) ≡ []
 lines-end rule t from h = rw (drop-of-length-le t h) (lines-none rule)
+
+-- the lines that steps from a place on give, so many at most
+unfoldable pub linesFrom : LineRule → List ℕ → ℕ → ℕ → List (List ℕ)
+unfolding lineFrom
+linesFrom rule t zero from = []
+linesFrom rule t (suc k) from =
+    elim (ltb from (length t)) [
+      | true ↦ take (lineFrom rule t from .end - from) (drop from t) ∷ linesFrom rule t k (lineFrom rule t from .next)
+      | false ↦ []
+    ]
+
+lines-from : (rule : LineRule) (t : List ℕ) (k from : ℕ) → length t ≤ from + k → linesFrom rule t k from ≡ linesOf rule (drop from t)
+unfolding linesFrom
+lines-from rule t zero from h = sym (lines-end rule t from (omega arith))
+lines-from rule t (suc k) from h = go (decLt from (length t)) (lines-from rule t k (lineFrom rule t from .next))
+  where
+    go : Dec (from < length t) → (length t ≤ lineFrom rule t from .next + k → linesFrom rule t k (lineFrom rule t from .next) ≡ linesOf rule (drop (lineFrom rule t from .next) t))
+        → linesFrom rule t (suc k) from ≡ linesOf rule (drop from t)
+    go (yes l) f =
+        let s = stepped rule t from l in
+        taken _ _ (lt-ltb _ _ l) ∙ ap (λ (ls : List (List ℕ)). take (lineFrom rule t from .end - from) (drop from t) ∷ ls) (f (omega (arith, s .onward)))
+        ∙ sym (s .lines)
+    go (no n) f = let l : length t ≤ from = omega arith in left _ _ (le-ltb _ _ l) ∙ sym (lines-end rule t from l)
+
+-- steps one after the other from the start on give exactly the lines
+pub all-lines : (rule : LineRule) (t : List ℕ) → linesFrom rule t (length t) 0 ≡ linesOf rule t
+all-lines rule t = lines-from rule t (length t) 0 (omega arith)
 
 -- ---- the loop that looks for the end of the line that begins at a place
 

@@ -1,5 +1,5 @@
--- What stands in front of a text: a byte, or bytes of one kind (document 01, "Text lines": "decimal digits are taken", "spaces 20 only are dropped"; "Guessing
--- the dialect": "white space 09 0A 0C 0D 20").
+-- What stands in front of a text: a byte, or bytes of one kind (document 01, "Text lines": "decimal digits are taken", "spaces 20 only
+-- are dropped"; "Guessing the dialect": "white space 09 0A 0C 0D 20").
 -- Assumes nothing.
 use Prim.Native.Nat.{ℕ, suc}
 use mathlib.Core.Bool.{Bool, true, false, _||_}

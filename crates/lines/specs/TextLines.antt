@@ -38,7 +38,7 @@ unfoldable pub linesOf : LineRule → List ℕ → List (List ℕ)
 unfolding crLf loneCr atLf
 linesOf rule t = atLf (map (loneCr rule) (crLf t))
 
--- ---- the same where the lines stand: proofs/TextLines.antt shows that these give the lines one after the other
+-- ---- the same where the lines stand: proofs/Splitting.antt shows that these give the lines one after the other
 
 -- how many bytes the line end in front takes, 0 where there is none
 unfoldable pub endMark : LineRule → List ℕ → ℕ
