@@ -1,0 +1,28 @@
+-- What the third demand asks of a text's image, whole and damaged (document 01, "Reading and listing"; "How tight the promises are":
+-- "Demand 3 is stated over demand 2's lines"). The lines are those that `crunchedLines` gives, the definition that the image is laid out from.
+-- Assumes nothing.
+use Prim.Native.Nat.{ℕ}
+use mathlib.Core.Path.{_≡_}
+use mathlib.Core.List.{List, _∷_, _++_, map}
+use Rattle.refusals.specs.Answer.{done}
+use Rattle.tables.specs.declared.dialect.Dialect.{Dialect}
+use Rattle.readers.specs.NumberedBody.{NumberedBody}
+use Rattle.readers.specs.Lines.{Reader}
+use Rattle.layout.specs.Layout.{imageOf}
+use Rattle.layout.specs.Reads.{ReadAs, linesAt, placeOf}
+use Rattle.layout.specs.Changed.{offsetBehind, lineNow}
+use Rattle.image.specs.Crunched.{crunched}
+
+-- the text has an image, and a reader gives back the load address and the lines
+pub record ReadsBack (step : Reader) (dialect : Dialect) (load : ℕ) (text : List ℕ) (ls : List NumberedBody) : Type 0 where
+  pub image : crunched dialect load text ≡ done (imageOf load ls)
+  pub reads : ReadAs step load ls (imageOf load ls)
+
+-- a line between others, as the bytes of s say it now
+abbrev pub linesNow : ℕ → List NumberedBody → NumberedBody → List NumberedBody → List ℕ → List NumberedBody
+linesNow load before l after s = before ++ lineNow s (offsetBehind load before) l ∷ after
+
+-- s is read as the lines with one changed: every other line as before, and each line, the changed one too, where it stood and with its link
+pub record ReadsDamaged (step : Reader) (load : ℕ) (before : List NumberedBody) (l : NumberedBody) (after : List NumberedBody) (s : List ℕ) : Type 0 where
+  pub reads : ReadAs step load (linesNow load before l after s) s
+  pub places : map placeOf (linesAt load 2 (linesNow load before l after s)) ≡ map placeOf (linesAt load 2 (before ++ l ∷ after))
