@@ -16,7 +16,7 @@ pub enum ReadBack {
         load: u16,
         lines: usize,
     },
-    // There is an image that is not read by links: below 0x0100, where a link's high byte may be 0.
+    // There is an image that the reader by links refuses. From the load address 0x0100 on this is never the answer (proofs/Demand.antt).
     Unread {
         length: usize,
         refusal: Refusal,
