@@ -133,8 +133,8 @@ module _ (load : ℕ) (before : List NumberedBody) (l m : NumberedBody) (after :
 
 module _ {load : ℕ} {before : List NumberedBody} {l : NumberedBody} {after : List NumberedBody} {s : List ℕ} (k : ChangedLine load before l after s) where
   -- the line as it stands now: its number and body are what the changed bytes say
-  abbrev now : NumberedBody
-  now = lineNow s (offsetBehind load before) l
+  abbrev there-now : NumberedBody
+  there-now = lineNow s (offsetBehind load before) l
 
   inside : offsetBehind load before + 5 + length (l .body) ≤ length s
   unfolding restOf
@@ -156,11 +156,11 @@ module _ {load : ℕ} {before : List NumberedBody} {l : NumberedBody} {after : L
   high-byte : getD s (offsetBehind load before + 2 + 1) 0 < 256
   high-byte = k .changed .bytes (offsetBehind load before + 2 + 1) (omega arith) (omega arith)
 
-  body-long : length (now .body) ≡ length (l .body)
+  body-long : length (there-now .body) ≡ length (l .body)
   body-long = length-take-le (length (l .body)) (drop (offsetBehind load before + 4) s) (omega (arith, inside, length-drop (offsetBehind load before + 4) s))
 
   -- the image is that of the lines with the changed one in its place
-  pub changed-image : s ≡ imageOf load (before ++ now ∷ after)
+  pub changed-image : s ≡ imageOf load (before ++ there-now ∷ after)
   changed-image =
       let p = offsetBehind load before in
       let n = length (l .body) in
@@ -171,24 +171,24 @@ module _ {load : ℕ} {before : List NumberedBody} {l : NumberedBody} {after : L
       let to : p + 4 + n ≡ length front + length mid = omega arith in
       let c : ChangedWithin (length front) (length front + length mid) (front ++ (mid ++ restOf link after)) s =
       rw (from, to, image-around load before l after) at (k .changed) in
-      let m : take (suc (suc n)) (drop (length front) s) ≡ twoBytes (now .number) ++ now .body =
+      let m : take (suc (suc n)) (drop (length front) s) ≡ twoBytes (there-now .number) ++ there-now .body =
       ap (λ (i : ℕ). take (suc (suc n)) (drop i s)) (sym from) ∙ numbered-part s p n (omega (arith, inside)) low-byte high-byte in
       changed-middle front mid (restOf link after) c
       ∙ ap (λ (x : List ℕ). front ++ (x ++ restOf link after)) m
-      ∙ sym (image-changed load before l now after body-long)
+      ∙ sym (image-changed load before l there-now after body-long)
 
-  pub changed-laid : Laid load (before ++ l ∷ after) → Laid load (before ++ now ∷ after)
-  changed-laid = laid-changed load before l now after body-long (omega (arith, low-byte, high-byte))
+  pub changed-laid : Laid load (before ++ l ∷ after) → Laid load (before ++ there-now ∷ after)
+  changed-laid = laid-changed load before l there-now after body-long (omega (arith, low-byte, high-byte))
 
-  pub changed-places : map placeOf (linesAt load 2 (before ++ now ∷ after)) ≡ map placeOf (linesAt load 2 (before ++ l ∷ after))
-  changed-places = places-kept load 2 before l now after body-long
+  pub changed-places : map placeOf (linesAt load 2 (before ++ there-now ∷ after)) ≡ map placeOf (linesAt load 2 (before ++ l ∷ after))
+  changed-places = places-kept load 2 before l there-now after body-long
 
   module _ (up : 0x0100 ≤ load) (laid : Laid load (before ++ l ∷ after)) where
     -- by links, whatever the bodies hold
-    pub damage-by-links : ReadAs linkStep load (before ++ now ∷ after) s
-    damage-by-links = subst (ReadAs linkStep load (before ++ now ∷ after)) (sym changed-image) (read-back-by-links up (changed-laid laid))
+    pub damage-by-links : ReadAs linkStep load (before ++ there-now ∷ after) s
+    damage-by-links = subst (ReadAs linkStep load (before ++ there-now ∷ after)) (sym changed-image) (read-back-by-links up (changed-laid laid))
 
     -- by terminators, where no body holds a zero now
-    pub damage-by-terminators : NoZeros (before ++ now ∷ after) → ReadAs terminatorStep load (before ++ now ∷ after) s
+    pub damage-by-terminators : NoZeros (before ++ there-now ∷ after) → ReadAs terminatorStep load (before ++ there-now ∷ after) s
     damage-by-terminators none =
-        subst (ReadAs terminatorStep load (before ++ now ∷ after)) (sym changed-image) (read-back-by-terminators up (changed-laid laid) none)
+        subst (ReadAs terminatorStep load (before ++ there-now ∷ after)) (sym changed-image) (read-back-by-terminators up (changed-laid laid) none)
