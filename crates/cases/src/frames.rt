@@ -4,6 +4,7 @@ ghost use Prim.Native.Nat.{_+_, _*_, _^_, _≤_};
 ghost use lib.ListN.{length};
 ghost use Rattle.cases.specs.Frames.{u16At, u32At, u64At, Sendable};
 use libc::STDOUT_FILENO;
+use refusals::Outcome;
 use refusals::Refusal;
 
 // The number of two bytes at a place, the low byte first; then of four and of eight.
@@ -142,6 +143,16 @@ impl Answer {
         bytes[2] = (body / 65_536 % 256) as u8;
         bytes[3] = (body / 16_777_216 % 256) as u8;
         write_front(&bytes, len) && io::write_all(STDOUT_FILENO, behind)
+    }
+}
+
+// The answer of a call with a lent buffer, or of one that measures.
+pub fn length_of(outcome: Outcome) -> Answer
+    ensures { λ r. ⌜ Sendable r ⌝ }
+{
+    match outcome {
+        Outcome::Done(n) => Answer::done().number(n),
+        Outcome::Refused(refusal) => Answer::refused(refusal),
     }
 }
 

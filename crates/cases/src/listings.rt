@@ -2,8 +2,6 @@
 use crate::frames;
 use crate::rooms;
 use frames::Answer;
-use refusals::Outcome;
-ghost use Rattle.cases.specs.Frames.{Sendable};
 
 pub fn list(payload: &[u8], room: &mut [u8]) -> bool {
     if payload.len() < 4 {
@@ -15,19 +13,9 @@ pub fn list(payload: &[u8], room: &mut [u8]) -> bool {
     }
     rooms::fill(&mut room[0..size]);
     let outcome = listing::list(&payload[4..], &mut room[0..size]);
-    length_of(outcome).send_with(&room[0..size])
+    frames::length_of(outcome).send_with(&room[0..size])
 }
 
 pub fn room_for_list(image: &[u8]) -> bool {
-    length_of(listing::room(image)).send()
-}
-
-// The answer of a call with a lent buffer, or of one that measures.
-pub fn length_of(outcome: Outcome) -> Answer
-    ensures { λ r. ⌜ Sendable r ⌝ }
-{
-    match outcome {
-        Outcome::Done(n) => Answer::done().number(n),
-        Outcome::Refused(refusal) => Answer::refused(refusal),
-    }
+    frames::length_of(listing::room(image)).send()
 }

@@ -1,7 +1,6 @@
 // Ops 01 to 03: crunching.
 use crate::dialects;
 use crate::frames;
-use crate::listings;
 use crate::rooms;
 use dialects::Meant;
 use frames::Answer;
@@ -22,7 +21,7 @@ pub fn crunch(payload: &[u8], room: &mut [u8]) -> bool {
     };
     rooms::fill(&mut room[0..size]);
     let outcome = image::crunch(&payload[7..], load, dialect, &mut room[0..size]);
-    listings::length_of(outcome).send_with(&room[0..size])
+    frames::length_of(outcome).send_with(&room[0..size])
 }
 
 pub fn room_for_crunch(payload: &[u8]) -> bool {
@@ -31,7 +30,7 @@ pub fn room_for_crunch(payload: &[u8]) -> bool {
     }
     let load = frames::u16_at(payload, 0);
     match dialects::dialect_of(payload[2]) {
-        Meant::Dialect(dialect) => listings::length_of(image::room(
+        Meant::Dialect(dialect) => frames::length_of(image::room(
             &payload[3..],
             load,
             dialect,
