@@ -13,9 +13,8 @@ use lib.Seq.{sets, sets-eq, take-at}
 use borrow.Author.Tests.{leb-true, le-leb}
 use Rattle.ascii.specs.Bytes.{isDigit}
 use Rattle.ascii.specs.Trim.{leading, solid, trim}
-use Rattle.refusals.specs.Numbers.{Numbered as Refusal·Numbered}
 use Rattle.refusals.specs.Answer.{Answer, done, refused, mapDone, andThen}
-use Rattle.refusals.specs.Lent.{Lent, intoBuffer}
+use Rattle.refusals.specs.Lent.{intoBuffer}
 use Rattle.tables.specs.declared.dialect.Dialect.{Dialect}
 use Rattle.lines.specs.Front.{frontOf}
 use Rattle.lines.specs.declared.front.Kind.the-variants.{Digit, Space}
@@ -42,7 +41,7 @@ use Rattle.image.specs.Crunched.{numberedLine, numberedLines, textLine, crunchL
 use Rattle.image.specs.Passes.{addressBehind}
 use Rattle.image.proofs.Lining.{Taken, taken, cons-taken, cons-refused}
 use Rattle.witness.specs.ReadsBack.{ReadsBack, linesNow, ReadsDamaged}
-use Rattle.witness.specs.Witness.{Witness, Witnessed, readingBack, readBackAnswer, leftRead}
+use Rattle.witness.specs.Witness.{Witnessed, readingBack, leftRead}
 use Rattle.witness.specs.declared.ReadBack.{ReadBack}
 use Rattle.witness.specs.declared.ReadBack.the-variants.{Read}
 use Rattle.witness.proofs.Tight.{read-back-tight}

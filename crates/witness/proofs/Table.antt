@@ -28,7 +28,7 @@ use Rattle.lines.specs.Numbering.{numbering}
 use Rattle.lines.specs.TextLines.{linesOf as textLinesOf}
 use Rattle.guess.specs.Guess.{wordSets}
 use Rattle.readers.specs.NumberedBody.{NumberedBody}
-use Rattle.readers.specs.Lines.{Reader, linesFrom, linesOf, overview}
+use Rattle.readers.specs.Lines.{linesFrom, linesOf, overview}
 use Rattle.readers.specs.Bodies.{bodiesFrom, bodiesOf}
 use Rattle.readers.specs.Links.{linkStep}
 use Rattle.readers.specs.Terminators.{beforeZero, terminatorStep}
