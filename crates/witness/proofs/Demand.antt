@@ -174,9 +174,9 @@ module _ (dialect : Dialect) (load : ℕ) (text : List ℕ) {ls : List NumberedB
   unfolding readingBack
   witness-is =
       ap readingBack image-stored
-      ∙ ap (λ (s : List ℕ). record { answer = done (record { length = length (imageOf load ls); overview = overview linkStep s }); buffer = sets buffer 0 (imageOf load ls) })
+      ∙ ap (λ (s : List ℕ). record { answer = done (record { size = length (imageOf load ls); overview = overview linkStep s }); buffer = sets buffer 0 (imageOf load ls) })
       (stored-there (imageOf load ls) buffer room)
-      ∙ ap (λ (o : Answer Overview). record { answer = done (record { length = length (imageOf load ls); overview = o }); buffer = sets buffer 0 (imageOf load ls) })
+      ∙ ap (λ (o : Answer Overview). record { answer = done (record { size = length (imageOf load ls); overview = o }); buffer = sets buffer 0 (imageOf load ls) })
       (read-back dialect load text low e up .reads .checked)
 
   -- whatever a call that keeps the contract answers and leaves: this address, this count, and these lines in the buffer

@@ -20,7 +20,7 @@ imageRead n (done o) = Read n (o .load) (o .lines)
 imageRead n (refused m) = Unread n (named m)
 
 abbrev readBackOf : Answer Witness → ReadBack
-readBackOf (done w) = imageRead (w .length) (w .overview)
+readBackOf (done w) = imageRead (w .size) (w .overview)
 readBackOf (refused m) = Refused (named m)
 
 read-back-back : (r : ReadBack) → readBackOf (readBackAnswer r) ≡ r

@@ -51,10 +51,10 @@ module _ (a : Answer (List ℕ)) (buffer : List ℕ) {r : Outcome} {after : List
     image-long = sym (length-take-le n after image-fits)
 
     pub image-read : {c x : Checked} → c ≡ x → checkedAnswer c ≡ overview linkStep (take n after)
-        → _≡_ {A = Witnessed} (record { answer = done (record { length = n; overview = checkedAnswer x }); buffer = after }) (readingBack (intoBuffer a buffer))
+        → _≡_ {A = Witnessed} (record { answer = done (record { size = n; overview = checkedAnswer x }); buffer = after }) (readingBack (intoBuffer a buffer))
     unfolding readingBack
     image-read known read =
-        ap (λ (o : Answer Overview). record { answer = done (record { length = n; overview = o }); buffer = after }) (ap checkedAnswer (sym known) ∙ read)
+        ap (λ (o : Answer Overview). record { answer = done (record { size = n; overview = o }); buffer = after }) (ap checkedAnswer (sym known) ∙ read)
         ∙ ap readingBack stored
 
   -- or none

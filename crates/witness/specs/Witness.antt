@@ -13,7 +13,7 @@ use Rattle.witness.specs.declared.ReadBack.the-variants.{Read, Unread, R
 
 -- an image's length, and what the reader by links answers of it
 pub record Witness : Type 0 where
-  pub length : ℕ
+  pub size : ℕ
   pub overview : Answer Overview
 
 -- what a call answers, and what the buffer that it was lent holds then
@@ -23,7 +23,7 @@ pub record Witnessed : Type 0 where
 
 -- so many bytes at a buffer's start, read by links
 abbrev pub witness : List ℕ → ℕ → Witness
-witness buffer n = record { length = n; overview = overview linkStep (take n buffer) }
+witness buffer n = record { size = n; overview = overview linkStep (take n buffer) }
 
 -- what was crunched into a buffer, read back
 unfoldable pub readingBack : Lent → Witnessed
@@ -31,8 +31,8 @@ readingBack l = record { answer = mapDone (witness (l .buffer)) (l .answer); buf
 
 -- the enum's cases as document 01 numbers them
 abbrev pub readBackAnswer : ReadBack → Answer Witness
-readBackAnswer (Read length load lines) = done (record { length = length; overview = done (record { load = load; lines = lines }) })
-readBackAnswer (Unread length r) = done (record { length = length; overview = refused (numbered r) })
+readBackAnswer (Read length load lines) = done (record { size = length; overview = done (record { load = load; lines = lines }) })
+readBackAnswer (Unread length r) = done (record { size = length; overview = refused (numbered r) })
 readBackAnswer (Refused r) = refused (numbered r)
 
 -- an answer, and the buffer as it was left
