@@ -1,7 +1,8 @@
 // The refusals: what a call answers where there is no result, with the number and the values of document 01.
 ghost use mathlib.Core.Path.{_≡_};
 ghost use Rattle.refusals.specs.Answer.{numbered as numberedOf};
-ghost use Rattle.refusals.specs.Code.{codeOf};
+ghost use Rattle.refusals.specs.Code.{codeOf, lengthCode};
+ghost use Rattle.refusals.specs.Lent.{outcomeAnswer};
 
 pub enum Refusal {
     TextTooLong { length: usize },
@@ -28,7 +29,9 @@ pub enum Outcome {
     Refused(Refusal),
 }
 
-// A refusal as numbers, for callers in other languages: its number, how many values it carries, and the values, 0 where there is none.
+// An answer as numbers, for callers in other languages: 0 or a refusal's number, how many values it carries, and the values, 0 where
+// there is none.
+#[repr(C)]
 pub struct Code {
     pub number: u8,
     pub count: usize,
@@ -87,5 +90,15 @@ pub fn refusal_code(refusal: Refusal) -> Code
         Refusal::LinkOutside { offset } => with_one(12, offset),
         Refusal::LinkNoEnd { offset } => with_one(13, offset),
         Refusal::UnknownDialect => bare(14),
+    }
+}
+
+// The length that was made, or the refusal.
+pub fn outcome_code(outcome: Outcome) -> Code
+    ensures { λ r. ⌜ r ≡ lengthCode (outcomeAnswer outcome) ⌝ }
+{
+    match outcome {
+        Outcome::Done(length) => with_one(0, length),
+        Outcome::Refused(refusal) => refusal_code(refusal),
     }
 }

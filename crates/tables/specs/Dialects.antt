@@ -25,6 +25,10 @@ dialectOf zero = Auto
 dialectOf (suc zero) = BasicV2
 dialectOf (suc (suc n)) = Tsb
 
+-- the dialect of a number: there are three
+unfoldable pub byNumber : ℕ → Answer Dialect
+byNumber n = cond (leb n 2) (done (dialectOf n)) (refused unknownDialect)
+
 unfoldable pub dialectNames : List Entry
 dialectNames =
     "auto" is 0 ∷ "basic2" is 1 ∷ "basicv2" is 1 ∷ "v2" is 1 ∷ "basic-v2" is 1 ∷ "tsb" is 2 ∷ "simons" is 2 ∷ "ext" is 2 ∷ []

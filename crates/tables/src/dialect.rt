@@ -2,7 +2,7 @@
 use refusals::Refusal;
 use words::Match;
 ghost use mathlib.Core.Path.{_≡_};
-ghost use Rattle.tables.specs.Dialects.{dialectOf as numberedDialect, named, namedAnswer};
+ghost use Rattle.tables.specs.Dialects.{dialectOf as numberedDialect, byNumber, named, namedAnswer};
 
 pub enum Dialect {
     // Decide by the program.
@@ -33,6 +33,16 @@ fn dialect_of(number: u8) -> Dialect
         1 => Dialect::BasicV2,
         _ => Dialect::Tsb,
     }
+}
+
+// The dialect of a number, as callers in other languages give it.
+pub fn dialect_by_number(number: u8) -> Named
+    ensures { λ r. ⌜ namedAnswer r ≡ byNumber number ⌝ }
+{
+    if number > 2 {
+        return Named::Refused(Refusal::UnknownDialect);
+    }
+    Named::Known(dialect_of(number))
 }
 
 // The dialect that a word names: trimmed, without regard to case.
