@@ -1,9 +1,6 @@
-pub mod Copying
 pub mod Digits
-pub mod Held
 pub mod Lining
 pub mod Longest
 pub mod Progress
 pub mod Short
-pub mod Showing
 pub mod Whole

@@ -9,9 +9,9 @@ use native.Mathlib.Omega.{arith}
 use lib.ListN.{length, getD, drop, length-append, length-drop, drop-of-length-le}
 use lib.Seq.{drop-cons, drop-drop}
 use Rattle.stores.specs.Stores.{Room, Put, put-long, put-both, put-none}
-use Rattle.listing.specs.Pieces.{Shown, shown, pieceText, listedAs}
+use Rattle.pieces.specs.Pieces.{Shown, shown, pieceText, listedAs}
+use Rattle.pieces.specs.declared.Listed.{Listed}
 use Rattle.listing.specs.Body.{shownWithin, bodyListing}
-use Rattle.listing.specs.declared.pieces.Listed.{Listed}
 use Rattle.listing.proofs.Short.{Fine, fine}
 
 -- i bytes of the body are listed, and quoting is q there

@@ -12,8 +12,8 @@ use Rattle.words.proofs.Search.{and-left, and-right}
 use Rattle.tables.specs.Rom.{romWords}
 use Rattle.tables.specs.Texts.{hexByte, byteText, tokenText}
 use Rattle.tables.specs.Tsb.{tsbWords, withToken, tsbId, tsbText}
-use Rattle.listing.specs.Pieces.{unknownPair, orUnknown, pairText, Shown, afterPrefix, shownPlain, shown}
-use Rattle.listing.proofs.Held.{byte-text-short}
+use Rattle.pieces.specs.Pieces.{unknownPair, orUnknown, pairText, Shown, afterPrefix, shownPlain, shown}
+use Rattle.pieces.proofs.Held.{byte-text-short}
 
 -- no word is longer than eight bytes
 shortWords : List (List ℕ) → Bool

@@ -7,7 +7,7 @@ use mathlib.Core.Bool.{Bool, false, cond}
 use mathlib.Core.List.{List, [], _∷_, _++_}
 use lib.Dec.{ltb}
 use lib.ListN.{length, drop}
-use Rattle.listing.specs.Pieces.{Shown, shown}
+use Rattle.pieces.specs.Pieces.{Shown, shown}
 
 -- the listing of what is left of a body, of at most so many pieces
 unfoldable pub shownWithin : ℕ → Bool → List ℕ → List ℕ

@@ -1,3 +1,2 @@
 pub mod Body
 pub mod Listing
-pub mod Pieces

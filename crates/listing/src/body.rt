@@ -1,6 +1,5 @@
 // The listing of one body and of one line.
 use crate::decimal;
-use crate::pieces;
 ghost use mathlib.Core.Path.{_≡_};
 ghost use Prim.Native.Nat.{_≤_};
 ghost use lib.ListN.{length};

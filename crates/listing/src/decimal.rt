@@ -1,5 +1,4 @@
 // A line number in decimal.
-use crate::pieces;
 ghost use mathlib.Core.Path.{_≡_};
 ghost use mathlib.Core.List.{[], _∷_};
 ghost use Prim.Native.Nat.{_+_, _/_, _%_, _<_};

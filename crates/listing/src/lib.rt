@@ -13,7 +13,6 @@ ghost use Rattle.listing.specs.Listing.{listing};
 
 pub mod body;
 pub mod decimal;
-pub mod pieces;
 
 // Stores the listing of an image at the start of a buffer, and answers how long it is.
 pub fn list(image: &[u8], out: &mut [u8]) -> Outcome

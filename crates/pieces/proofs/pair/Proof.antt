@@ -1,9 +1,9 @@
--- `listing::pieces::pair` meets its contract.
+-- `pieces::pair` meets its contract.
 -- Assumes nothing.
-use Rattle.listing.proofs.Showing.{pair-high, pair-none, pair-some}
+use Rattle.pieces.proofs.Showing.{pair-high, pair-none, pair-some}
 use borrow.Author.Needs.{needs}
-use Rattle.listing.proofs.pieces.pair.Statement.{statement}
-use Rattle.listing.proofs.pieces.pair.Tie as tie
+use Rattle.pieces.proofs.pair.Statement.{statement}
+use Rattle.pieces.proofs.pair.Tie as tie
 
 tsb-id-requires : tie.Need-tsb-id-requires
 tsb-id-requires c κs = search needs

@@ -1,10 +1,10 @@
--- `listing::pieces::pair_digits` meets its contract.
+-- `pieces::pair_digits` meets its contract.
 -- Assumes nothing.
 use Rattle.tables.specs.Texts.{hexByte}
-use Rattle.listing.specs.Pieces.{unknownPair}
+use Rattle.pieces.specs.Pieces.{unknownPair}
 use borrow.Author.Needs.{needs}
-use Rattle.listing.proofs.pieces.pair_digits.Statement.{statement}
-use Rattle.listing.proofs.pieces.pair_digits.Tie as tie
+use Rattle.pieces.proofs.pair_digits.Statement.{statement}
+use Rattle.pieces.proofs.pair_digits.Tie as tie
 
 cast-high : tie.Need-cast-high
 cast-high c = search needs

@@ -1,4 +1,4 @@
--- `listing::pieces::piece_at` meets its contract: the tests that were passed say which case of the definition holds.
+-- `pieces::piece_at` meets its contract: the tests that were passed say which case of the definition holds.
 -- Assumes nothing.
 use mathlib.Core.Path.{ap, sym, _∙_}
 use mathlib.Core.Bool.{false}
@@ -7,11 +7,11 @@ use Prim.Native.Nat.{ℕ}
 use native.Mathlib.Omega.{arith}
 use lib.ListN.{drop-of-length-le}
 use lib.Seq.{drop-cons}
-use Rattle.listing.specs.Pieces.{Shown, listedAs}
-use Rattle.listing.proofs.Showing.{show-quote, show-quoted, show-lone, show-pair, show-token, show-char}
+use Rattle.pieces.specs.Pieces.{Shown, listedAs}
+use Rattle.pieces.proofs.Showing.{show-quote, show-quoted, show-lone, show-pair, show-token, show-char}
 use borrow.Author.Needs.{needs}
-use Rattle.listing.proofs.pieces.piece_at.Statement.{statement}
-use Rattle.listing.proofs.pieces.piece_at.Tie as tie
+use Rattle.pieces.proofs.piece_at.Statement.{statement}
+use Rattle.pieces.proofs.piece_at.Tie as tie
 
 shared-slice-read-b : tie.Need-shared-slice-read-b
 shared-slice-read-b c = search needs

@@ -7,7 +7,7 @@ ghost use lib.ListN.{length, getD, drop};
 ghost use Rattle.stores.specs.Stores.{Room, Put};
 ghost use Rattle.tables.specs.Texts.{SpellsTexts, hexDigits};
 ghost use Rattle.tables.specs.Tsb.{tsbId};
-ghost use Rattle.listing.specs.Pieces.{pieceText, pairText, shown, listedAs};
+ghost use Rattle.pieces.specs.Pieces.{pieceText, pairText, shown, listedAs};
 
 pub enum Piece {
     // An entry of the stored texts.

@@ -1,9 +1,9 @@
--- `listing::pieces::tsb_id` meets its contract.
+-- `pieces::tsb_id` meets its contract.
 -- Assumes nothing.
 use borrow.Author.Tests.{ne-eqb}
 use Rattle.tables.specs.Tsb.{tsbId}
-use Rattle.listing.proofs.pieces.tsb_id.Statement.{statement}
-use Rattle.listing.proofs.pieces.tsb_id.Tie as tie
+use Rattle.pieces.proofs.tsb_id.Statement.{statement}
+use Rattle.pieces.proofs.tsb_id.Tie as tie
 
 returns : tie.Need-returns
 unfolding tsbId

@@ -1,15 +1,15 @@
--- `listing::pieces::piece_length` meets its contract.
+-- `pieces::piece_length` meets its contract.
 -- Assumes nothing.
 use Prim.Native.Nat.{ℕ}
 use mathlib.Core.Path.{_≡_, refl, ap, sym, _∙_}
 use lib.ListN.{length}
 use Rattle.tables.specs.Texts.{hexByte}
 use Rattle.tables.specs.declared.petscii.ByteText.{ByteText}
-use Rattle.listing.specs.Pieces.{unknownPair, pieceText}
-use Rattle.listing.specs.declared.pieces.Piece.{Piece}
+use Rattle.pieces.specs.Pieces.{unknownPair, pieceText}
+use Rattle.pieces.specs.declared.Piece.{Piece}
 use borrow.Author.Needs.{needs}
-use Rattle.listing.proofs.pieces.piece_length.Statement.{statement}
-use Rattle.listing.proofs.pieces.piece_length.Tie as tie
+use Rattle.pieces.proofs.piece_length.Statement.{statement}
+use Rattle.pieces.proofs.piece_length.Tie as tie
 
 by-case : {p x : Piece} {n : ℕ} → n ≡ length (pieceText x) → p ≡ x → n ≡ length (pieceText p)
 by-case q e = q ∙ ap (λ (y : Piece). length (pieceText y)) (sym e)

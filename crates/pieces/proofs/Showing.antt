@@ -13,7 +13,7 @@ use Rattle.words.proofs.Search.{and-left, and-right}
 use Rattle.tables.specs.Spelling.{bytesOf}
 use Rattle.tables.specs.Texts.{byteText, textOf, tokenText}
 use Rattle.tables.specs.Tsb.{tsbWords, withToken, tsbId, tsbText}
-use Rattle.listing.specs.Pieces.{unknownPair, orUnknown, pairText, Shown, shown}
+use Rattle.pieces.specs.Pieces.{unknownPair, orUnknown, pairText, Shown, shown}
 
 pub text-low : (k : ℕ) → k < 0x80 → textOf k ≡ withToken k tsbWords
 unfolding textOf

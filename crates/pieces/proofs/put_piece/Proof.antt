@@ -1,15 +1,15 @@
--- `listing::pieces::put_piece` meets its contract: in each arm the case is known, and its text is stored.
+-- `pieces::put_piece` meets its contract: in each arm the case is known, and its text is stored.
 -- Assumes nothing.
 use Prim.Native.Nat.{ℕ}
 use mathlib.Core.Path.{_≡_, ap, sym, _∙_}
 use mathlib.Core.List.{List}
 use Rattle.stores.specs.Stores.{room-as, put-as}
-use Rattle.listing.specs.Pieces.{pieceText}
-use Rattle.listing.specs.declared.pieces.Piece.{Piece}
-use Rattle.listing.proofs.Held.{held-within, held-long, held-text}
+use Rattle.pieces.specs.Pieces.{pieceText}
+use Rattle.pieces.specs.declared.Piece.{Piece}
+use Rattle.pieces.proofs.Held.{held-within, held-long, held-text}
 use borrow.Author.Needs.{needs}
-use Rattle.listing.proofs.pieces.put_piece.Statement.{statement}
-use Rattle.listing.proofs.pieces.put_piece.Tie as tie
+use Rattle.pieces.proofs.put_piece.Statement.{statement}
+use Rattle.pieces.proofs.put_piece.Tie as tie
 
 by-case : {p x : Piece} {t : List ℕ} → t ≡ pieceText x → p ≡ x → t ≡ pieceText p
 by-case q e = q ∙ ap pieceText (sym e)

@@ -1,11 +1,11 @@
--- `listing::pieces::put` meets its contract.
+-- `pieces::put` meets its contract.
 -- Assumes nothing.
 use Prim.Native.Nat.{_-_}
 use lib.ListN.{length}
-use Rattle.listing.proofs.Copying.{Copied, copied-start, copied-turn, copied-end}
+use Rattle.pieces.proofs.Copying.{Copied, copied-start, copied-turn, copied-end}
 use borrow.Author.Needs.{needs}
-use Rattle.listing.proofs.pieces.put.Statement.{statement}
-use Rattle.listing.proofs.pieces.put.Tie as tie
+use Rattle.pieces.proofs.put.Statement.{statement}
+use Rattle.pieces.proofs.put.Tie as tie
 
 abbrev Inv-loop : tie.InvT-loop
 Inv-loop out₀ at text i₀ out i = Copied text at out₀ out i

@@ -9,9 +9,9 @@ use lib.ListN.{length}
 use Rattle.tables.specs.Spelling.{bytesOf}
 use Rattle.tables.specs.Texts.{byteText, hexByte, textOf, tokenText}
 use Rattle.tables.specs.Tsb.{tsbText}
-use Rattle.listing.specs.declared.pieces.Piece.{Piece}
-use Rattle.listing.specs.declared.pieces.Piece.the-variants.{Stored, Char, Pair, Lone}
-use Rattle.listing.specs.declared.pieces.Listed.{Listed}
+use Rattle.pieces.specs.declared.Piece.{Piece}
+use Rattle.pieces.specs.declared.Piece.the-variants.{Stored, Char, Pair, Lone}
+use Rattle.pieces.specs.declared.Listed.{Listed}
 
 -- 64 and a byte that is no TSB token
 unfoldable pub unknownPair : ℕ → List ℕ
