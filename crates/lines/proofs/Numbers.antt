@@ -10,8 +10,8 @@ use lib.ListN.{length, getD, take, drop, drop-of-length-le, length-take, length-
 use lib.Seq.{drop-cons, drop-drop, drop-nil, take-nil, length-take-le}
 use lib.Dec.{leb}
 use borrow.Author.Tests.{le-leb, lt-leb}
-use Rattle.ascii.specs.Bytes.{isDigit, between}
-use Rattle.ascii.specs.Trim.{leading, solid, trim}
+use Rattle.ascii.specs.Bytes.{isDigit, isSpace, between}
+use Rattle.ascii.specs.Trim.{leading, countsWith, solid, trim}
 use Rattle.ascii.proofs.Laws.{trim-part, solid-le}
 use Rattle.ascii.proofs.Ranges.{between-in}
 use Rattle.lines.specs.Front.{ofKind, frontOf}
@@ -135,6 +135,32 @@ trimmed-digits (b ∷ t) a e h n = go (isDigit b) refl
     go true q = sym (taken _ _ q)
     go false q = absurd (n (front-none b t q))
 
+-- a byte in front of some that count is counted, and one that is no white space is counted in any case
+counts-more : (b n : ℕ) → 0 < n → countsWith b n ≡ suc n
+unfolding countsWith
+counts-more b zero h = absurd (omega arith)
+counts-more b (suc n) h = refl
+
+counts-some : (b n : ℕ) → isSpace b ≡ false → 0 < countsWith b n
+unfolding countsWith
+counts-some b zero q = omega (arith, left {A = ℕ} {r = isSpace b} 0 1 q)
+counts-some b (suc n) q = omega arith
+
+-- a line with something on it ends behind the white space in front
+solid-above : (l : List ℕ) → leading l < length l → leading l < solid l
+unfolding leading solid
+solid-above [] h = absurd (omega arith)
+solid-above (b ∷ l) h = go (isSpace b) refl (solid-above l)
+  where
+    go : (r : Bool) → isSpace b ≡ r → (leading l < length l → leading l < solid l) → leading (b ∷ l) < solid (b ∷ l)
+    go true q f =
+        let s : leading (b ∷ l) ≡ suc (leading l) = taken _ _ q in
+        let m : leading l < solid l = f (omega arith) in
+        omega (arith, counts-more b (solid l) (omega arith))
+    go false q f =
+        let s : leading (b ∷ l) ≡ 0 = left _ _ q in
+        omega (arith, counts-some b (solid l) q)
+
 module _ (l : List ℕ) {a e : ℕ} (from : a ≡ leading l) (to : e ≡ solid l) where
   abbrev text : List ℕ
   text = take (e - a) (drop a l)
@@ -143,14 +169,17 @@ module _ (l : List ℕ) {a e : ℕ} (from : a ≡ leading l) (to : e ≡ solid l
   unfolding numbering
   is-line = let t : text ≡ trim l = trim-part l from to in cc
 
-  pub line-blank : e ≤ a → Blank ≡ numbering l
+  none-left : e ≤ a → Blank ≡ numbering l
   unfolding trimmedLine
-  line-blank h = let z : e - a ≡ 0 = omega arith in ap (λ (n : ℕ). trimmedLine (take n (drop a l)) a e) (sym z) ∙ is-line
+  none-left h = let z : e - a ≡ 0 = omega arith in ap (λ (n : ℕ). trimmedLine (take n (drop a l)) a e) (sym z) ∙ is-line
+
+  pub line-solid : a < length l → a < e
+  line-solid h = omega (arith, solid-above l (omega arith))
 
   pub line-end : e ≤ length l
   line-end = omega (arith, solid-le l)
 
-  module _ {d : Digits} (h : a < e) (q : d ≡ digitsIn text) where
+  module _ {d : Digits} (h : a < length l) (q : d ≡ digitsIn text) where
     text-long : length text ≡ e - a
     text-long = length-take-le (e - a) (drop a l) (omega (arith, solid-le l, length-drop a l))
 
@@ -159,15 +188,15 @@ module _ (l : List ℕ) {a e : ℕ} (from : a ≡ leading l) (to : e ≡ solid l
     count-is = ap (λ (x : Digits). x .count) q
 
     pub line-missing : d .count ≡ 0 → Missing ≡ numbering l
-    line-missing z = trimmed-missing text a e (omega (arith, text-long)) (sym count-is ∙ z) ∙ is-line
+    line-missing z = trimmed-missing text a e (omega (arith, text-long, line-solid h)) (sym count-is ∙ z) ∙ is-line
 
     -- the digits do not run past the line
     pub digits-within : a + d .count ≤ e
-    digits-within = omega (arith, count-is, front-le Digit text, text-long)
+    digits-within = omega (arith, count-is, front-le Digit text, text-long, line-solid h)
 
     module _ (n : d .count ≡ 0 → ⊥) where
       with-digits : withDigits text a e d ≡ numbering l
-      with-digits = ap (withDigits text a e) q ∙ trimmed-digits text a e (omega (arith, text-long)) (λ z. n (count-is ∙ z)) ∙ is-line
+      with-digits = ap (withDigits text a e) q ∙ trimmed-digits text a e (omega (arith, text-long, line-solid h)) (λ z. n (count-is ∙ z)) ∙ is-line
 
       pub line-range : 65535 < d .value → OutOfRange (d .value) ≡ numbering l
       unfolding withDigits
@@ -190,6 +219,9 @@ module _ (l : List ℕ) {a e : ℕ} (from : a ≡ leading l) (to : e ≡ solid l
         line-numbered m =
             ap (λ (x : ℕ). Numbered (d .value) (a + d .count + x) e) (s ∙ ap (frontOf Space) behind)
             ∙ sym (taken _ _ (le-leb _ _ m)) ∙ with-digits
+
+pub line-blank : (l : List ℕ) {a : ℕ} → a ≡ leading l → length l ≤ a → Blank ≡ numbering l
+line-blank l from h = none-left l from refl (omega (arith, solid-le l))
 
 -- ---- where the body of a numbered line stands
 

@@ -60,10 +60,11 @@ pub fn number_line(line: &[u8]) -> Numbering
     ensures { λ r. ⌜ r ≡ numbering (now (line .entry)) ⌝ }
 {
     let from = ascii::leading_space(line);
-    let to = ascii::solid_length(line);
-    if to <= from {
+    // A blank line is told by its front alone: its end is not looked for.
+    if line.len() <= from {
         return Numbering::Blank;
     }
+    let to = ascii::solid_length(line);
     let digits = digits_in(&line[from..to]);
     let count = digits.count;
     let value = digits.value;
