@@ -11,7 +11,7 @@ use native.Mathlib.Omega.{arith}
 use lib.Dec.{eqb, ltb}
 use lib.ListN.{length, getD, take, drop, drop-of-length-le, length-drop}
 use lib.Seq.{drop-cons, drop-drop}
-use borrow.Author.Tests.{eqb-true, lt-ltb, le-ltb}
+use borrow.Author.Tests.{eqb-true, ne-eqb, lt-ltb, le-ltb}
 use Rattle.lines.specs.Front.{startsWith}
 use Rattle.lines.specs.TextLines.{crLf, loneCr, onto, atLf, linesOf, endMark, lineLength, lineUsed, lineFrom}
 use Rattle.lines.specs.declared.split.LineRule.{LineRule}
@@ -88,10 +88,14 @@ module _ (rule : LineRule) (b : ℕ) (s : List ℕ) (x : eqb b 0x0A ≡ false) (
   unfolding crLf
   other = left _ _ (ap (λ (r : Bool). r && startsWith 0x0A s) y)
 
+  no-end : endMark rule (b ∷ s) ≡ 0
+  unfolding endMark startsWith
+  no-end = simp (x, y)
+
   plain : Ahead rule b s
-  unfolding endMark linesOf atLf startsWith
+  unfolding linesOf atLf
   plain =
-      byte (simp (x, y))
+      byte no-end
       (ap (λ (l : List ℕ). atLf (map (loneCr rule) l)) other
       ∙ ap (λ (c : ℕ). atLf (c ∷ map (loneCr rule) (crLf s))) (same rule)
       ∙ left _ _ x)
@@ -253,29 +257,35 @@ module _ {rule : LineRule} {t : List ℕ} {from i : ℕ} (k : Seeking rule t fro
       let b : i ≡ from + lineUsed rule (drop from t) = omega arith in
       cc
 
-  module _ {m : ℕ} (h : i < length t) (q : m ≡ endMark rule (take (length t - i) (drop i t))) where
+  module _ (h : i < length t) where
     here : drop i t ≡ getD t i 0 ∷ drop (i + 1) t
     here = rw add-one (drop-cons t i 0 h)
 
-    told : endMark rule (getD t i 0 ∷ drop (i + 1) t) ≡ m
-    told = sym (q ∙ ap (endMark rule) (tail t i ∙ here))
-
-    pub seeking-turn : m ≤ 0 → Seeking rule t from (i + 1)
-    seeking-turn z =
-        let e : endMark rule (getD t i 0 ∷ drop (i + 1) t) ≡ 0 = omega (arith, told) in
+    seeking-on : endMark rule (getD t i 0 ∷ drop (i + 1) t) ≡ 0 → Seeking rule t from (i + 1)
+    seeking-on e =
         let l : lineLength rule (drop i t) ≡ suc (lineLength rule (drop (i + 1) t)) = rw here (length-byte rule _ _ e) in
         let u : lineUsed rule (drop i t) ≡ suc (lineUsed rule (drop (i + 1) t)) = rw here (used-byte rule _ _ e) in
         record { ends = omega arith; goes = omega arith }
 
-    module _ (p : 0 < m) where
-      up : endMark rule (getD t i 0 ∷ drop (i + 1) t) ≡ suc (m - 1)
-      up = omega (arith, told)
+    pub seeking-above : 0x0D < getD t i 0 → Seeking rule t from (i + 1)
+    seeking-above l = seeking-on (no-end rule _ _ (ne-eqb (getD t i 0) 0x0A (λ e. omega arith)) (ne-eqb (getD t i 0) 0x0D (λ e. omega arith)))
 
-      pub seeking-found : record { end = i; next = i + m } ≡ lineFrom rule t from
-      seeking-found = seeking-is m (ap (lineLength rule) here ∙ length-end rule _ _ up) (ap (lineUsed rule) here ∙ used-end rule _ _ up ∙ omega arith)
+    module _ {m : ℕ} (q : m ≡ endMark rule (take (length t - i) (drop i t))) where
+      told : endMark rule (getD t i 0 ∷ drop (i + 1) t) ≡ m
+      told = sym (q ∙ ap (endMark rule) (tail t i ∙ here))
 
-      pub seeking-fits : i + m ≤ length t
-      seeking-fits =
-          let f = first rule (drop i t) (omega (arith, length-drop i t)) in
-          let u : lineUsed rule (drop i t) ≡ m = ap (lineUsed rule) here ∙ used-end rule _ _ up ∙ omega arith in
-          omega (arith, f .used, length-drop i t)
+      pub seeking-turn : m ≤ 0 → Seeking rule t from (i + 1)
+      seeking-turn z = seeking-on (omega (arith, told))
+
+      module _ (p : 0 < m) where
+        up : endMark rule (getD t i 0 ∷ drop (i + 1) t) ≡ suc (m - 1)
+        up = omega (arith, told)
+
+        pub seeking-found : record { end = i; next = i + m } ≡ lineFrom rule t from
+        seeking-found = seeking-is m (ap (lineLength rule) here ∙ length-end rule _ _ up) (ap (lineUsed rule) here ∙ used-end rule _ _ up ∙ omega arith)
+
+        pub seeking-fits : i + m ≤ length t
+        seeking-fits =
+            let f = first rule (drop i t) (omega (arith, length-drop i t)) in
+            let u : lineUsed rule (drop i t) ≡ m = ap (lineUsed rule) here ∙ used-end rule _ _ up ∙ omega arith in
+            omega (arith, f .used, length-drop i t)

@@ -42,14 +42,19 @@ pub fn next_line(text: &[u8], from: usize, rule: LineRule) -> TextLine
 {
     let mut i: usize = from;
     while i < text.len() {
-        let mark = end_mark(&text[i..], rule);
-        if mark > 0 {
-            return TextLine {
-                end: i,
-                next: i + mark,
-            };
+        // No byte above CR ends a line: one test for nearly each byte.
+        if text[i] > 0x0D {
+            i += 1;
+        } else {
+            let mark = end_mark(&text[i..], rule);
+            if mark > 0 {
+                return TextLine {
+                    end: i,
+                    next: i + mark,
+                };
+            }
+            i += 1;
         }
-        i += 1;
     }
     TextLine { end: i, next: i }
 }

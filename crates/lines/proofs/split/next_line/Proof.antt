@@ -4,7 +4,7 @@ use Prim.Native.Nat.{_-_}
 use mathlib.Core.Path.{refl}
 use native.Mathlib.Omega.{arith}
 use lib.ListN.{length}
-use Rattle.lines.proofs.Splitting.{Seeking, seeking-turn, seeking-found, seeking-fits, seeking-end}
+use Rattle.lines.proofs.Splitting.{Seeking, seeking-above, seeking-turn, seeking-found, seeking-fits, seeking-end}
 use borrow.Author.Needs.{needs}
 use Rattle.lines.proofs.split.next_line.Statement.{statement}
 use Rattle.lines.proofs.split.next_line.Tie as tie
@@ -18,6 +18,18 @@ abbrev μ-loop : tie.MeasureT-loop
 loop-holds : tie.Need-loop-holds Inv-loop μ-loop
 loop-holds c = record { ends = refl; goes = refl }
 
+shared-slice-read-if1 : tie.Need-shared-slice-read-if1 Inv-loop μ-loop
+shared-slice-read-if1 c = search needs
+
+add-i : tie.Need-add-i Inv-loop μ-loop
+add-i c = search needs
+
+loop-less : tie.Need-loop-less Inv-loop μ-loop
+loop-less c = search needs
+
+loop-again : tie.Need-loop-again Inv-loop μ-loop
+loop-again c = seeking-above (c .before .before .before .loop .inv) (c .before .before .loop-test .taken) (c .if1 .taken)
+
 sub-end-mark : tie.Need-sub-end-mark Inv-loop μ-loop
 sub-end-mark c = search needs
 
@@ -30,20 +42,20 @@ part-end-mark-end c = search needs
 end-mark-requires : tie.Need-end-mark-requires Inv-loop μ-loop
 end-mark-requires c κs = search needs
 
-add-t11 : tie.Need-add-t11 Inv-loop μ-loop
-add-t11 c = omega (arith, seeking-fits (c .before .before .before .before .loop .inv) (c .before .before .before .loop-test .taken) (c .before .end-mark .ensures) (c .if1 .taken))
+add-t15 : tie.Need-add-t15 Inv-loop μ-loop
+add-t15 c = omega (arith, seeking-fits (c .before .before .before .before .before .before .loop .inv) (c .before .before .before .before .before .loop-test .taken) (c .before .end-mark .ensures) (c .if2 .taken))
 
 returns : tie.Need-returns Inv-loop μ-loop
-returns c = seeking-found (c .before .before .before .before .loop .inv) (c .before .before .before .loop-test .taken) (c .before .end-mark .ensures) (c .if1 .taken)
+returns c = seeking-found (c .before .before .before .before .before .before .loop .inv) (c .before .before .before .before .before .loop-test .taken) (c .before .end-mark .ensures) (c .if2 .taken)
 
-add-i : tie.Need-add-i Inv-loop μ-loop
-add-i c = search needs
+add-i-2 : tie.Need-add-i-2 Inv-loop μ-loop
+add-i-2 c = search needs
 
-loop-less : tie.Need-loop-less Inv-loop μ-loop
-loop-less c = search needs
+loop-less-2 : tie.Need-loop-less-2 Inv-loop μ-loop
+loop-less-2 c = search needs
 
-loop-again : tie.Need-loop-again Inv-loop μ-loop
-loop-again c = seeking-turn (c .before .before .before .before .loop .inv) (c .before .before .before .loop-test .taken) (c .before .end-mark .ensures) (c .if1 .left)
+loop-again-2 : tie.Need-loop-again-2 Inv-loop μ-loop
+loop-again-2 c = seeking-turn (c .before .before .before .before .before .before .loop .inv) (c .before .before .before .before .before .loop-test .taken) (c .before .end-mark .ensures) (c .if2 .left)
 
 returns-2 : tie.Need-returns-2 Inv-loop μ-loop
 returns-2 c = seeking-end (c .before .loop .inv) (c .loop-test .left)
@@ -55,13 +67,17 @@ next-line-spec =
     Inv-loop
     μ-loop
     loop-holds
+    shared-slice-read-if1
+    add-i
+    loop-less
+    loop-again
     sub-end-mark
     part-end-mark-start
     part-end-mark-end
     end-mark-requires
-    add-t11
+    add-t15
     returns
-    add-i
-    loop-less
-    loop-again
+    add-i-2
+    loop-less-2
+    loop-again-2
     returns-2)
