@@ -1,7 +1,7 @@
 -- The domain of a text: the loop over its bytes, and what is answered.
 -- Assumes nothing.
 use Prim.Native.Nat.{ℕ, suc, _+_, _-_, _≤_, _<_}
-use mathlib.Core.Path.{_≡_, refl, sym, ap, _∙_}
+use mathlib.Core.Path.{_≡_, refl, sym, ap, _∙_, subst}
 use mathlib.Core.Bool.{Bool, true, false, _&&_, false≢true}
 use mathlib.Core.List.{List, [], _∷_}
 use native.Mathlib.Numerals.{add-one}
@@ -13,7 +13,7 @@ use borrow.Author.Tests.{lt-ltb, le-ltb, le-leb, lt-leb, eqb-true}
 use Rattle.refusals.specs.Numbers.{textTooLong, badByte}
 use Rattle.refusals.specs.Answer.{Answer, done, refused}
 use Rattle.lines.specs.Front.{startsWith}
-use Rattle.lines.specs.Domain.{isPi, domainLength, checkedText}
+use Rattle.lines.specs.Domain.{isPi, domainLength, Passed, Tops, checkedText}
 use Rattle.lines.proofs.Parts.{tail, taken, left}
 
 -- ---- one character of the domain in front
@@ -55,11 +55,6 @@ pair b (c ∷ s) h p = left _ _ (le-ltb _ _ h) ∙ taken _ _ p
 
 -- ---- the loop
 
--- the i bytes passed lie in the domain
-pub record Passed (s : List ℕ) (i : ℕ) : Type 0 where
-  pub within : i ≤ length s
-  pub gives : i + domainLength (drop i s) ≡ domainLength s
-
 pub passed-start : (s : List ℕ) → Passed s 0
 passed-start s = record { within = omega arith; gives = omega arith }
 
@@ -93,6 +88,21 @@ module _ {s : List ℕ} {i : ℕ} (k : Passed s i) where
 
       pub passed-stop : r ≡ false → i ≡ domainLength s
       passed-stop t = let e : domainLength (drop i s) ≡ 0 = rw here (outside _ _ l (told ∙ t)) in omega arith
+
+-- eight bytes, none above one that is below 80
+pub passed-eight : {s : List ℕ} {i r : ℕ} → Passed s i → 8 ≤ length s - i → Tops s i r → r < 0x80 → Passed s (i + 8)
+passed-eight {s} {i} {r} k h t l =
+    on 7 (omega arith) (omega (arith, t .eighth))
+    (on 6 (omega arith) (omega (arith, t .seventh))
+    (on 5 (omega arith) (omega (arith, t .sixth))
+    (on 4 (omega arith) (omega (arith, t .fifth))
+    (on 3 (omega arith) (omega (arith, t .fourth))
+    (on 2 (omega arith) (omega (arith, t .third))
+    (on 1 (omega arith) (omega (arith, t .second))
+    (passed-byte k (omega arith) (omega (arith, t .first)))))))))
+  where
+    on : (n : ℕ) → n < 8 → getD s (i + n) 0 < 0x80 → Passed s (i + n) → Passed s (i + suc n)
+    on n m b p = let e : i + n + 1 ≡ i + suc n = omega arith in subst (Passed s) e (passed-byte p (omega arith) b)
 
 -- ---- the answer
 

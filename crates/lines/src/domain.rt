@@ -2,7 +2,9 @@
 use crate::front;
 use refusals::Refusal;
 ghost use mathlib.Core.Path.{_≡_};
-ghost use Rattle.lines.specs.Domain.{isPi, domainLength, checkedText, checkedAnswer};
+ghost use Prim.Native.Nat.{_+_, _≤_};
+ghost use lib.ListN.{length};
+ghost use Rattle.lines.specs.Domain.{isPi, domainLength, Tops, Passed, checkedText, checkedAnswer};
 
 pub enum Checked {
     Fine,
@@ -19,11 +21,47 @@ fn is_pi(text: &[u8]) -> bool
     front::starts_with(&text[1..], 0x80)
 }
 
+fn larger(a: u8, b: u8) -> u8
+    ensures { λ r. ⌜ (a ≤ r) × (b ≤ r) ⌝ }
+{
+    if a < b { b } else { a }
+}
+
+// A byte that none of the eight from a place on is above.
+fn top_of_eight(text: &[u8], i: usize) -> u8
+    requires { ⌜ i + 8 ≤ length (now text) ⌝ }
+    ensures { λ r. ⌜ Tops (now (text .entry)) i r ⌝ }
+{
+    let a = larger(
+        larger(text[i], text[i + 1]),
+        larger(text[i + 2], text[i + 3]),
+    );
+    let b = larger(
+        larger(text[i + 4], text[i + 5]),
+        larger(text[i + 6], text[i + 7]),
+    );
+    larger(a, b)
+}
+
+// So many bytes in front that all of them lie in the domain: eight at a time, as long as these are below 80.
+fn passed_by_eights(text: &[u8]) -> usize
+    ensures { λ r. ⌜ Passed (now (text .entry)) r ⌝ }
+{
+    let mut i: usize = 0;
+    while text.len() - i >= 8 {
+        if top_of_eight(text, i) >= 0x80 {
+            return i;
+        }
+        i += 8;
+    }
+    i
+}
+
 // How many bytes in front lie in the domain.
 fn domain_length(text: &[u8]) -> usize
     ensures { λ r. ⌜ r ≡ domainLength (now (text .entry)) ⌝ }
 {
-    let mut i: usize = 0;
+    let mut i = passed_by_eights(text);
     while i < text.len() {
         if text[i] < 0x80 {
             i += 1;

@@ -4,7 +4,8 @@ use Prim.Native.Nat.{_-_}
 use native.Mathlib.Omega.{arith}
 use lib.ListN.{length}
 use borrow.Author.Tests.{not-true, not-false}
-use Rattle.lines.proofs.Limits.{Passed, passed-start, passed-byte, passed-pi, passed-stop, passed-end}
+use Rattle.lines.specs.Domain.{Passed}
+use Rattle.lines.proofs.Limits.{passed-byte, passed-pi, passed-stop, passed-end}
 use borrow.Author.Needs.{needs}
 use Rattle.lines.proofs.domain.domain_length.Statement.{statement}
 use Rattle.lines.proofs.domain.domain_length.Tie as tie
@@ -15,8 +16,11 @@ Inv-loop text i₀ i = Passed text i
 abbrev μ-loop : tie.MeasureT-loop
 μ-loop text i₀ i = length text - i
 
+passed-by-eights-requires : tie.Need-passed-by-eights-requires Inv-loop μ-loop
+passed-by-eights-requires c κs = search needs
+
 loop-holds : tie.Need-loop-holds Inv-loop μ-loop
-loop-holds c = passed-start _
+loop-holds c = c .passed-by-eights .ensures
 
 shared-slice-read-if1 : tie.Need-shared-slice-read-if1 Inv-loop μ-loop
 shared-slice-read-if1 c = search needs
@@ -63,6 +67,7 @@ domain-length-spec =
     (tie.spec
     Inv-loop
     μ-loop
+    passed-by-eights-requires
     loop-holds
     shared-slice-read-if1
     add-i
