@@ -18,6 +18,8 @@ use Rattle.tables.specs.Spelling.{bytesOf}
 use Rattle.tables.specs.Tsb.{tsbWords}
 use Rattle.lines.specs.Front.{startsWith, ofKind, frontOf}
 use Rattle.lines.specs.declared.front.Kind.the-variants.{Digit, White}
+use Rattle.lines.specs.TextLines.{isBlank}
+use Rattle.lines.proofs.Blanks.{blank-white}
 use Rattle.lines.proofs.Fronts.{front-le}
 use Rattle.lines.proofs.Parts.{tail, taken, left, either}
 use Rattle.guess.specs.Ahead.{behindBlanks, assigns}
@@ -231,3 +233,18 @@ module _ {line : List ℕ} {w : Bool} {place : Place} {i : ℕ} (k : Scanned lin
                 sym (ap (scan 0 place) here ∙ scan-step place _ _ (told ∙ e) ∙ scan-skip (pred used) next (drop (i + 1) line)
                 ∙ ap (scan 0 next) (drop-drop (pred used) (i + 1) line ∙ ap (λ (m : ℕ). drop m line) n)) ∙ k .gives;
           }
+
+-- ---- a blank in front of a line is passed before the first step
+
+module _ (b : ℕ) (l : List ℕ) (q : isBlank b ≡ true) where
+  white-more : frontOf White (b ∷ l) ≡ suc (frontOf White l)
+  unfolding frontOf
+  white-more = taken _ _ (blank-white b q)
+
+  number-more : numberLength (b ∷ l) ≡ suc (numberLength l)
+  unfolding numberLength
+  number-more = rw white-more (omega arith)
+
+  pub evidence-blank : lineEvidence (b ∷ l) ≡ lineEvidence l
+  unfolding lineEvidence
+  evidence-blank = ap (λ (n : ℕ). scan 0 Start (drop n (b ∷ l))) number-more

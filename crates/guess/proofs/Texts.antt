@@ -17,11 +17,12 @@ use Rattle.lines.specs.declared.domain.Checked.the-variants.{Fine, Refused}
 use Rattle.lines.specs.declared.split.LineRule.{LineRule}
 use Rattle.lines.specs.declared.split.LineRule.the-variants.{AsGiven, AfterCr}
 use Rattle.lines.specs.declared.split.TextLine.{TextLine}
-use Rattle.lines.proofs.Splitting.{line-step, lines-end}
+use Rattle.lines.proofs.Splitting.{line-step, lines-end, line-behind}
 use Rattle.lines.proofs.Parts.{taken, left}
 use Rattle.guess.specs.Evidence.{lineEvidence}
 use Rattle.guess.specs.Variables.{lineNames}
 use Rattle.guess.specs.Guess.{anyEvidence, evidence, allNames, none, all, names, guessedDialect, resolved, WordSets, wordSets}
+use Rattle.guess.proofs.Steps.{evidence-blank}
 
 -- ---- evidence
 
@@ -38,15 +39,18 @@ module _ {rule : LineRule} {t : List ℕ} {w : Bool} {at : ℕ} (k : Unproved ru
   unfolding anyEvidence
   unproved-end h = rw (lines-end rule t at h) at (k .gives)
 
-  module _ {r : TextLine} {x : Bool} (h : at < length t) (q : r ≡ lineFrom rule t at) (p : x ≡ lineEvidence (take (r .end - at) (drop at t))) where
+  module _ {r : TextLine} {x : Bool} (h : at < length t) (q : r ≡ lineFrom rule t at) (p : x ≡ lineEvidence (take (r .end - r .begin) (drop (r .begin) t))) where
+    told : x ≡ lineEvidence (take (r .end - at) (drop at t))
+    told = p ∙ line-behind lineEvidence evidence-blank rule t at q
+
     pub unproved-found : x ≡ true → true ≡ w
     unfolding anyEvidence
-    unproved-found e = sym (ap anyEvidence (line-step rule t at h q .lines) ∙ taken _ _ (sym p ∙ e)) ∙ k .gives
+    unproved-found e = sym (ap anyEvidence (line-step rule t at h q .lines) ∙ taken _ _ (sym told ∙ e)) ∙ k .gives
 
     pub unproved-turn : x ≡ false → Unproved rule t w (r .next)
     unfolding anyEvidence
     unproved-turn e =
-        record { gives = sym (ap anyEvidence (line-step rule t at h q .lines) ∙ left _ _ (sym p ∙ e)) ∙ k .gives }
+        record { gives = sym (ap anyEvidence (line-step rule t at h q .lines) ∙ left _ _ (sym told ∙ e)) ∙ k .gives }
 
 -- ---- variables
 

@@ -36,8 +36,10 @@ pub fn text_evidence(
     let mut at: usize = 0;
     while at < text.len() {
         let line = split::next_line(text, at, rule);
+        // The blanks in front of a line prove nothing.
+        let begin = line.begin;
         let end = line.end;
-        if evidence::line_evidence(&text[at..end], bytes, starts, tokens) {
+        if evidence::line_evidence(&text[begin..end], bytes, starts, tokens) {
             return true;
         }
         at = line.next;

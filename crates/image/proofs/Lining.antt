@@ -13,6 +13,9 @@ use Rattle.refusals.specs.Answer.{Answer, done, refused, mapDone, andThen}
 use Rattle.lines.specs.declared.number.Numbering.{Numbering}
 use Rattle.lines.specs.declared.number.Numbering.the-variants.{Blank, Missing, OutOfRange, Numbered}
 use Rattle.lines.specs.Numbering.{numbering}
+use Rattle.lines.specs.TextLines.{isBlank}
+use Rattle.lines.proofs.Blanks.{blank-trimmed}
+use Rattle.lines.proofs.Numbers.{moved, moved-line}
 use Rattle.body.specs.Lexicon.{Lexicon}
 use Rattle.body.specs.Body.{bodyOf}
 use Rattle.readers.specs.NumberedBody.{NumberedBody}
@@ -94,6 +97,25 @@ module _ (words : Lexicon) (line : List ℕ) where
   pub given-is : (k : ℕ) {new : List NumberedBody} → textLine words k line ≡ done new → given (textLine words 0 line) ≡ new
   unfolding textLine
   given-is k e = sym (given-alike k (numbering line)) ∙ ap given e
+
+-- ---- a blank in front of a line changes nothing of what it gives
+
+module _ (words : Lexicon) (k : ℕ) (b : ℕ) (l : List ℕ) where
+  moved-lines : (m : Numbering) → numberedLines words k (b ∷ l) (moved m) ≡ numberedLines words k l m
+  moved-lines Blank = refl
+  moved-lines Missing = refl
+  moved-lines (OutOfRange v) = refl
+  moved-lines (Numbered n f t) =
+      let e : suc t - suc f ≡ t - f = omega arith in
+      ap (λ (x : ℕ). done (record { number = n; body = bodyOf words (take x (drop f l)) } ∷ [])) e
+
+  pub text-blank : isBlank b ≡ true → textLine words k (b ∷ l) ≡ textLine words k l
+  unfolding textLine
+  text-blank q = ap (numberedLines words k (b ∷ l)) (moved-line b l (blank-trimmed b q)) ∙ moved-lines (numbering l)
+
+  pub behind-alike : (address : ℕ) → isBlank b ≡ true → addressBehind words k address (b ∷ l) ≡ addressBehind words k address l
+  unfolding addressBehind
+  behind-alike address q = ap (λ (a : Answer (List NumberedBody)). andThen a (lastLink address)) (text-blank q)
 
 -- ---- a line and the lines behind it
 

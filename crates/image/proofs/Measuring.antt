@@ -12,7 +12,7 @@ use Rattle.refusals.specs.Lent.{roomFor}
 use Rattle.lines.specs.declared.split.TextLine.{TextLine}
 use Rattle.lines.specs.declared.split.LineRule.the-variants.{AfterCr}
 use Rattle.lines.specs.TextLines.{linesOf, lineFrom}
-use Rattle.lines.proofs.Splitting.{Stepped, line-step, lines-end}
+use Rattle.lines.proofs.Splitting.{Stepped, line-step, lines-end, line-behind}
 use Rattle.body.specs.Lexicon.{Lexicon}
 use Rattle.readers.specs.NumberedBody.{NumberedBody}
 use Rattle.layout.specs.Layout.{endAddress, imageOf}
@@ -20,7 +20,7 @@ use Rattle.layout.proofs.Laying.{image-length, end-append, end-above}
 use Rattle.image.specs.Crunched.{crunchLines}
 use Rattle.image.specs.Passes.{textImage, addressBehind, sizedAnswer}
 use Rattle.image.specs.declared.Sized.{Sized}
-use Rattle.image.proofs.Lining.{Taken, taken, cons-taken, cons-refused, before-new}
+use Rattle.image.proofs.Lining.{Taken, taken, cons-taken, cons-refused, before-new, behind-alike}
 
 -- all that is known where so many lines of the image come before a text line
 pub record Reached (words : Lexicon) (load : ℕ) (text : List ℕ) (at k address : ℕ) : Type 0 where
@@ -51,13 +51,17 @@ reached-start words load text h =
 abbrev pub lineAt : List ℕ → ℕ → TextLine → List ℕ
 lineAt text at r = take (r .end - at) (drop at text)
 
+-- the same behind the blanks in front of it
+abbrev pub lineBehind : List ℕ → TextLine → List ℕ
+lineBehind text r = take (r .end - r .begin) (drop (r .begin) text)
+
 module _ {words : Lexicon} {load : ℕ} {text : List ℕ} {at k address : ℕ} (g : Reached words load text at k address) where
   module _ {r : TextLine} (h : at < length text) (is : r ≡ lineFrom AfterCr text at) where
     step : Stepped AfterCr text at r
     step = line-step AfterCr text at h is
 
-    pub reached-part : (at ≤ r .end) × (r .end ≤ length text)
-    reached-part = (step .low, step .high)
+    pub reached-part : (r .begin ≤ r .end) × (r .end ≤ length text)
+    reached-part = (step .begins, step .high)
 
     pub reached-on : (at < r .next) × (r .next ≤ length text)
     reached-on = (step .onward, step .within)
@@ -66,9 +70,12 @@ module _ {words : Lexicon} {load : ℕ} {text : List ℕ} {at k address : ℕ} (
     line-here = ap (crunchLines words (suc k) address) (step .lines)
 
     -- what is told of the line, which is the one behind k others
-    pub told-behind : {s x : Sized} → s ≡ x → sizedAnswer s ≡ addressBehind words (k + 1) address (lineAt text at r) → addressBehind words (suc k) address (lineAt text at r) ≡ sizedAnswer x
+    pub told-behind : {s x : Sized} → s ≡ x → sizedAnswer s ≡ addressBehind words (k + 1) address (lineBehind text r) → addressBehind words (suc k) address (lineAt text at r) ≡ sizedAnswer x
     told-behind told e =
-        let o : suc k ≡ k + 1 = omega arith in ap (λ (n : ℕ). addressBehind words n address (lineAt text at r)) o ∙ sym e ∙ ap sizedAnswer told
+        let o : suc k ≡ k + 1 = omega arith in
+        ap (λ (n : ℕ). addressBehind words n address (lineAt text at r)) o
+        ∙ sym (e ∙ line-behind (addressBehind words (k + 1) address) (λ b l. behind-alike words (k + 1) b l address) AfterCr text at is)
+        ∙ ap sizedAnswer told
 
     module _ {next : ℕ} (t : Taken words (suc k) address (lineAt text at r) next) where
       pub reached-turn : Reached words load text (r .next) (k + 1) next

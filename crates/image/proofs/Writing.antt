@@ -13,14 +13,15 @@ use Rattle.stores.specs.Outcomes.{HasRoom, into-done}
 use Rattle.lines.specs.declared.split.TextLine.{TextLine}
 use Rattle.lines.specs.declared.split.LineRule.the-variants.{AfterCr}
 use Rattle.lines.specs.TextLines.{linesOf, lineFrom}
+use Rattle.lines.proofs.Splitting.{line-behind}
 use Rattle.body.specs.Lexicon.{Lexicon}
 use Rattle.readers.specs.NumberedBody.{NumberedBody}
 use Rattle.layout.specs.Layout.{twoBytes, linesBytes, endAddress, imageOf}
 use Rattle.layout.proofs.Laying.{image-length, lines-length, lines-append, end-append, end-above}
 use Rattle.image.specs.Crunched.{textLine, crunchLines}
 use Rattle.image.specs.Passes.{textImage, addressBehind, given}
-use Rattle.image.proofs.Lining.{Taken, taken, given-is}
-use Rattle.image.proofs.Measuring.{Reached, reached-start, reached-turn, turn-before, reached-refused, reached-end, lineAt}
+use Rattle.image.proofs.Lining.{Taken, taken, given-is, text-blank}
+use Rattle.image.proofs.Measuring.{Reached, reached-start, reached-turn, turn-before, reached-refused, reached-end, lineAt, lineBehind}
 
 -- the lines before a text line are stored behind the load address
 pub record Written (words : Lexicon) (load : ℕ) (text buffer : List ℕ) (from at : ℕ) (out : List ℕ) (to : ℕ) : Type 0 where
@@ -94,17 +95,17 @@ module _ {words : Lexicon} {load : ℕ} {text buffer : List ℕ} {from at : ℕ}
 
     -- what the line gives, at its address
     module _ {address : ℕ} (there : address ≡ w .address) where
-      new-is : given (textLine words 0 (lineAt text at r)) ≡ here .1 .new
-      new-is = given-is words (lineAt text at r) (suc (w .k)) (here .1 .line-is)
+      new-is : given (textLine words 0 (lineBehind text r)) ≡ here .1 .new
+      new-is = ap given (line-behind (textLine words 0) (text-blank words 0) AfterCr text at is) ∙ given-is words (lineAt text at r) (suc (w .k)) (here .1 .line-is)
 
-      bytes-is : linesBytes address (given (textLine words 0 (lineAt text at r))) ≡ linesBytes (endAddress load (w .reached .before)) (here .1 .new)
+      bytes-is : linesBytes address (given (textLine words 0 (lineBehind text r))) ≡ linesBytes (endAddress load (w .reached .before)) (here .1 .new)
       bytes-is = ap (linesBytes address) new-is ∙ ap (λ (a : ℕ). linesBytes a (here .1 .new)) (there ∙ w .reached .stands)
 
       all-is : linesBytes load (w .reached .before) ++ linesBytes (endAddress load (w .reached .before)) (here .1 .new) ≡ linesBytes load (next-reached .before)
       unfolding next-reached
       all-is = sym (lines-append load (w .reached .before) (here .1 .new)) ∙ ap (linesBytes load) (sym (turn-before (w .reached) h is (here .1)))
 
-      pub written-room : Room out to (linesBytes address (given (textLine words 0 (lineAt text at r))))
+      pub written-room : Room out to (linesBytes address (given (textLine words 0 (lineBehind text r))))
       written-room =
           let new = linesBytes (endAddress load (w .reached .before)) (here .1 .new) in
           let e = ap length all-is in
@@ -113,7 +114,7 @@ module _ {words : Lexicon} {load : ℕ} {text buffer : List ℕ} {from at : ℕ}
             room = omega (arith, room-reached words load text buffer (w .room) next-reached, e, length-append (linesBytes load (w .reached .before)) new, stored-long, written-long);
           })
 
-      pub written-turn : {to′ : ℕ} {out′ : List ℕ} → Put out to (linesBytes address (given (textLine words 0 (lineAt text at r)))) to′ out′ → Written words load text buffer from (r .next) out′ to′
+      pub written-turn : {to′ : ℕ} {out′ : List ℕ} → Put out to (linesBytes address (given (textLine words 0 (lineBehind text r)))) to′ out′ → Written words load text buffer from (r .next) out′ to′
       written-turn p =
           record {
             k = w .k + 1;

@@ -157,10 +157,11 @@ fn measure(
     let mut k: usize = 0;
     while at < text.len() {
         let line = split::next_line(text, at, LineRule::AfterCr);
+        let begin = line.begin;
         let end = line.end;
         k += 1;
         match measure_line(
-            &text[at..end],
+            &text[begin..end],
             k,
             address,
             bytes,
@@ -243,13 +244,14 @@ fn write(
     let mut at: usize = 0;
     while at < text.len() {
         let line = split::next_line(text, at, LineRule::AfterCr);
+        let begin = line.begin;
         let end = line.end;
         let address = first + to - 2;
         to = write_line(
             out,
             to,
             address,
-            &text[at..end],
+            &text[begin..end],
             bytes,
             starts,
             tokens,

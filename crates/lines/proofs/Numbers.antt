@@ -4,6 +4,7 @@ use Prim.Native.Nat.{ℕ, zero, suc, _+_, _-_, _*_, _≤_, _<_, min}
 use mathlib.Core.Path.{_≡_, refl, sym, ap, _∙_}
 use mathlib.Core.Bool.{Bool, true, false}
 use mathlib.Core.List.{List, [], _∷_}
+use native.Mathlib.Decide.{decLt}
 use native.Mathlib.Numerals.{add-one}
 use native.Mathlib.Omega.{arith}
 use lib.ListN.{length, getD, take, drop, drop-of-length-le, length-take, length-drop}
@@ -141,6 +142,11 @@ unfolding countsWith
 counts-more b zero h = absurd (omega arith)
 counts-more b (suc n) h = refl
 
+counts-most : (b n : ℕ) → isSpace b ≡ true → countsWith b n ≤ suc n
+unfolding countsWith
+counts-most b zero q = omega (arith, taken {A = ℕ} {r = isSpace b} 0 1 q)
+counts-most b (suc n) q = omega arith
+
 counts-some : (b n : ℕ) → isSpace b ≡ false → 0 < countsWith b n
 unfolding countsWith
 counts-some b zero q = omega (arith, left {A = ℕ} {r = isSpace b} 0 1 q)
@@ -222,6 +228,58 @@ module _ (l : List ℕ) {a e : ℕ} (from : a ≡ leading l) (to : e ≡ solid l
 
 pub line-blank : (l : List ℕ) {a : ℕ} → a ≡ leading l → length l ≤ a → Blank ≡ numbering l
 line-blank l from h = none-left l from refl (omega (arith, solid-le l))
+
+-- ---- white space in front of a line moves its body, and changes nothing else
+
+abbrev pub moved : Numbering → Numbering
+moved Blank = Blank
+moved Missing = Missing
+moved (OutOfRange v) = OutOfRange v
+moved (Numbered n f t) = Numbered n (suc f) (suc t)
+
+moved-digits : (x : List ℕ) (a e : ℕ) (d : Digits) → withDigits x (suc a) (suc e) d ≡ moved (withDigits x a e d)
+unfolding withDigits
+moved-digits x a e d = go (leb (d .value) 65535) (frontOf Space (drop (d .count) x))
+  where
+    go : (r : Bool) (k : ℕ) → elim r [ true ↦ Numbered (d .value) (suc a + d .count + k) (suc e) | false ↦ OutOfRange (d .value) ]
+        ≡ moved (elim r [ true ↦ Numbered (d .value) (a + d .count + k) e | false ↦ OutOfRange (d .value) ])
+    go true k = let o : suc a + d .count + k ≡ suc (a + d .count + k) = omega arith in ap (λ (n : ℕ). Numbered (d .value) n (suc e)) o
+    go false k = refl
+
+moved-trimmed : (x : List ℕ) (a e : ℕ) → trimmedLine x (suc a) (suc e) ≡ moved (trimmedLine x a e)
+unfolding trimmedLine
+moved-trimmed [] a e = refl
+moved-trimmed (b ∷ x) a e = go (isDigit b)
+  where
+    go : (r : Bool) → elim r [ true ↦ withDigits (b ∷ x) (suc a) (suc e) (digitsIn (b ∷ x)) | false ↦ Missing ]
+        ≡ moved (elim r [ true ↦ withDigits (b ∷ x) a e (digitsIn (b ∷ x)) | false ↦ Missing ])
+    go true = moved-digits (b ∷ x) a e (digitsIn (b ∷ x))
+    go false = refl
+
+module _ (b : ℕ) (l : List ℕ) (q : isSpace b ≡ true) where
+  leading-more : leading (b ∷ l) ≡ suc (leading l)
+  unfolding leading
+  leading-more = taken _ _ q
+
+  solid-more : leading l < solid l → solid (b ∷ l) ≡ suc (solid l)
+  unfolding solid
+  solid-more h = counts-more b (solid l) (omega arith)
+
+  solid-most : solid (b ∷ l) ≤ suc (solid l)
+  unfolding solid
+  solid-most = counts-most b (solid l) q
+
+  pub moved-line : numbering (b ∷ l) ≡ moved (numbering l)
+  moved-line = go (decLt (leading l) (solid l))
+    where
+      go : Dec (leading l < solid l) → numbering (b ∷ l) ≡ moved (numbering l)
+      go (yes h) =
+          let e : suc (solid l) - suc (leading l) ≡ solid l - leading l = omega arith in
+          sym (is-line (b ∷ l) (sym leading-more) (sym (solid-more h)))
+          ∙ ap (λ (n : ℕ). trimmedLine (take n (drop (leading l) l)) (suc (leading l)) (suc (solid l))) e
+          ∙ moved-trimmed (take (solid l - leading l) (drop (leading l) l)) (leading l) (solid l)
+          ∙ ap moved (is-line l refl refl)
+      go (no n) = sym (none-left (b ∷ l) refl refl (omega (arith, leading-more, solid-most))) ∙ ap moved (none-left l refl refl (omega arith))
 
 -- ---- where the body of a numbered line stands
 

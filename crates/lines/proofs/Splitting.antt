@@ -13,10 +13,11 @@ use lib.ListN.{length, getD, take, drop, drop-of-length-le, length-drop}
 use lib.Seq.{drop-cons, drop-drop}
 use borrow.Author.Tests.{eqb-true, ne-eqb, lt-ltb, le-ltb}
 use Rattle.lines.specs.Front.{startsWith}
-use Rattle.lines.specs.TextLines.{crLf, loneCr, onto, atLf, linesOf, endMark, lineLength, lineUsed, lineFrom}
+use Rattle.lines.specs.TextLines.{crLf, loneCr, onto, atLf, linesOf, endMark, lineLength, lineUsed, isBlank, blanksIn, lineFrom}
 use Rattle.lines.specs.declared.split.LineRule.{LineRule}
 use Rattle.lines.specs.declared.split.LineRule.the-variants.{AsGiven, AfterCr}
 use Rattle.lines.specs.declared.split.TextLine.{TextLine}
+use Rattle.lines.proofs.Blanks.{blank-lf, blank-cr, blanks-more, blanks-none, blanks-nil, past-blanks}
 use Rattle.lines.proofs.Parts.{tail, taken, left}
 
 -- ---- the line end in front, by what the first bytes are
@@ -135,6 +136,22 @@ module _ (rule : LineRule) (b : ℕ) (s : List ℕ) where
   unfolding lineUsed
   used-end e = ap (λ (m : ℕ). elim m as (λ x. ℕ) [ zero ↦ suc (lineUsed rule s) | suc n ↦ suc n ]) e
 
+-- blanks in front are bytes of the first line
+record Led (rule : LineRule) (t : List ℕ) (n : ℕ) : Type 0 where
+  size : n + lineLength rule (drop n t) ≡ lineLength rule t
+  used : n + lineUsed rule (drop n t) ≡ lineUsed rule t
+
+led : (rule : LineRule) (t : List ℕ) → Led rule t (blanksIn t)
+led rule [] = rw blanks-nil (record { size = omega arith; used = omega arith })
+led rule (b ∷ s) = go (isBlank b) refl (led rule s)
+  where
+    go : (r : Bool) → isBlank b ≡ r → Led rule s (blanksIn s) → Led rule (b ∷ s) (blanksIn (b ∷ s))
+    go true q f =
+        let e : endMark rule (b ∷ s) ≡ 0 = no-end rule b s (blank-lf b q) (blank-cr b q) in
+        rw (blanks-more b s q)
+        (record { size = omega (arith, length-byte rule b s e, f .size); used = omega (arith, used-byte rule b s e, f .used) })
+    go false q f = rw (blanks-none b s q) (record { size = omega arith; used = omega arith })
+
 -- a text that ends its first line at once
 first-empty : (rule : LineRule) (b : ℕ) (s : List ℕ) (n : ℕ) → n ≤ length s → endMark rule (b ∷ s) ≡ suc n → linesOf rule (b ∷ s) ≡ [] ∷ linesOf rule (drop n s) → First rule (b ∷ s)
 first-empty rule b s n h e q =
@@ -179,6 +196,7 @@ first rule (b ∷ c ∷ s) h = go (ahead rule b (c ∷ s)) (first rule (c ∷ s)
 
 pub record Stepped (rule : LineRule) (t : List ℕ) (from : ℕ) (r : TextLine) : Type 0 where
   pub low : from ≤ r .end
+  pub begins : r .begin ≤ r .end
   pub high : r .end ≤ length t
   pub onward : from < r .next
   pub within : r .next ≤ length t
@@ -192,6 +210,7 @@ module _ (rule : LineRule) (t : List ℕ) (from : ℕ) where
       let n : from + lineLength rule (drop from t) - from ≡ lineLength rule (drop from t) = omega arith in
       record {
         low = omega arith;
+        begins = omega (arith, led rule (drop from t) .size);
         high = omega (arith, length-drop from t, f .size, f .used);
         onward = omega (arith, f .some);
         within = omega (arith, length-drop from t, f .used);
@@ -201,6 +220,21 @@ module _ (rule : LineRule) (t : List ℕ) (from : ℕ) where
   -- a step of the code gives the first of the lines that are left, and goes on
   pub line-step : {r : TextLine} → from < length t → r ≡ lineFrom rule t from → Stepped rule t from r
   line-step h e = subst (λ (x : TextLine). Stepped rule t from x) (sym e) (stepped h)
+
+-- what one blank in front of a line does not change is the same behind all of them
+module _ {A : Type 0} (P : List ℕ → A) (same : (b : ℕ) (l : List ℕ) → isBlank b ≡ true → P (b ∷ l) ≡ P l) (rule : LineRule) (t : List ℕ) (from : ℕ) where
+  behind : P (take (lineFrom rule t from .end - lineFrom rule t from .begin) (drop (lineFrom rule t from .begin) t)) ≡ P (take (lineFrom rule t from .end - from) (drop from t))
+  unfolding lineFrom
+  behind =
+      let g = blanksIn (drop from t) in
+      let l = lineLength rule (drop from t) in
+      let m : from + l - (from + g) ≡ l - g = omega arith in
+      let n : from + l - from ≡ l = omega arith in
+      rw (m, n, ← drop-drop g from t) (past-blanks P same (drop from t) l (omega (arith, led rule (drop from t) .size)))
+
+  pub line-behind : {r : TextLine} → r ≡ lineFrom rule t from → P (take (r .end - r .begin) (drop (r .begin) t)) ≡ P (take (r .end - from) (drop from t))
+  line-behind e =
+      subst (λ (x : TextLine). P (take (x .end - x .begin) (drop (x .begin) t)) ≡ P (take (x .end - from) (drop from t))) (sym e) behind
 
 -- behind the text there is none
 pub lines-end : (rule : LineRule) (t : List ℕ) (from : ℕ) → length t ≤ from → linesOf rule (drop from t) ≡ []
@@ -240,17 +274,24 @@ pub record Seeking (rule : LineRule) (t : List ℕ) (from i : ℕ) : Type 0 wher
   pub ends : i + lineLength rule (drop i t) ≡ from + lineLength rule (drop from t)
   pub goes : i + lineUsed rule (drop i t) ≡ from + lineUsed rule (drop from t)
 
+-- it may start behind the blanks
+pub seeking-start : (rule : LineRule) (t : List ℕ) (from : ℕ) {begin : ℕ} → begin ≡ from + blanksIn (drop from t) → Seeking rule t from begin
+seeking-start rule t from {begin} q =
+    let f = led rule (drop from t) in
+    let d : drop (blanksIn (drop from t)) (drop from t) ≡ drop begin t = drop-drop (blanksIn (drop from t)) from t ∙ ap (λ (n : ℕ). drop n t) (sym q) in
+    record { ends = omega (arith, f .size, ap (lineLength rule) d); goes = omega (arith, f .used, ap (lineUsed rule) d) }
+
 module _ {rule : LineRule} {t : List ℕ} {from i : ℕ} (k : Seeking rule t from i) where
-  seeking-is : (n : ℕ) → lineLength rule (drop i t) ≡ 0 → lineUsed rule (drop i t) ≡ n → record { end = i; next = i + n } ≡ lineFrom rule t from
+  seeking-is : {begin : ℕ} → begin ≡ from + blanksIn (drop from t) → (n : ℕ) → lineLength rule (drop i t) ≡ 0 → lineUsed rule (drop i t) ≡ n → record { begin = begin; end = i; next = i + n } ≡ lineFrom rule t from
   unfolding lineFrom
-  seeking-is n e u =
+  seeking-is q n e u =
       let a : i ≡ from + lineLength rule (drop from t) = omega arith in
       let b : i + n ≡ from + lineUsed rule (drop from t) = omega arith in
       cc
 
-  pub seeking-end : length t ≤ i → record { end = i; next = i } ≡ lineFrom rule t from
+  pub seeking-end : {begin : ℕ} → begin ≡ from + blanksIn (drop from t) → length t ≤ i → record { begin = begin; end = i; next = i } ≡ lineFrom rule t from
   unfolding lineFrom lineLength lineUsed
-  seeking-end h =
+  seeking-end q h =
       let z : lineLength rule (drop i t) ≡ 0 = rw (drop-of-length-le t h) in
       let u : lineUsed rule (drop i t) ≡ 0 = rw (drop-of-length-le t h) in
       let a : i ≡ from + lineLength rule (drop from t) = omega arith in
@@ -281,8 +322,8 @@ module _ {rule : LineRule} {t : List ℕ} {from i : ℕ} (k : Seeking rule t fro
         up : endMark rule (getD t i 0 ∷ drop (i + 1) t) ≡ suc (m - 1)
         up = omega (arith, told)
 
-        pub seeking-found : record { end = i; next = i + m } ≡ lineFrom rule t from
-        seeking-found = seeking-is m (ap (lineLength rule) here ∙ length-end rule _ _ up) (ap (lineUsed rule) here ∙ used-end rule _ _ up ∙ omega arith)
+        pub seeking-found : {begin : ℕ} → begin ≡ from + blanksIn (drop from t) → record { begin = begin; end = i; next = i + m } ≡ lineFrom rule t from
+        seeking-found q = seeking-is q m (ap (lineLength rule) here ∙ length-end rule _ _ up) (ap (lineUsed rule) here ∙ used-end rule _ _ up ∙ omega arith)
 
         pub seeking-fits : i + m ≤ length t
         seeking-fits =

@@ -3,7 +3,7 @@
 -- A text as given is split as the Rust's str::lines does: a lone CR stays in its line.
 -- Assumes nothing.
 use Prim.Native.Nat.{ℕ, zero, suc, _+_}
-use mathlib.Core.Bool.{Bool, true, false, cond, _&&_}
+use mathlib.Core.Bool.{Bool, true, false, cond, _&&_, _||_}
 use mathlib.Core.List.{List, [], _∷_, map}
 use lib.Dec.{eqb}
 use lib.ListN.{drop}
@@ -60,8 +60,18 @@ unfolding endMark
 lineUsed rule [] = 0
 lineUsed rule (b ∷ s) = elim (endMark rule (b ∷ s)) [ zero ↦ suc (lineUsed rule s) | suc n ↦ suc n ]
 
--- the line that begins at a place, and where the next one begins
+-- white space of trimming and of the dialect guess alike, that ends no line
+unfoldable pub isBlank : ℕ → Bool
+isBlank b = eqb b 0x20 || (eqb b 0x09 || eqb b 0x0C)
+
+-- how many blanks stand in front
+unfoldable pub blanksIn : List ℕ → ℕ
+unfolding isBlank
+blanksIn [] = 0
+blanksIn (b ∷ s) = elim (isBlank b) [ true ↦ suc (blanksIn s) | false ↦ 0 ]
+
+-- the line that begins at a place: where its blanks in front end, where it ends, and where the next one begins
 unfoldable pub lineFrom : LineRule → List ℕ → ℕ → TextLine
-unfolding lineLength lineUsed
+unfolding lineLength lineUsed blanksIn
 lineFrom rule t from =
-    record { end = from + lineLength rule (drop from t); next = from + lineUsed rule (drop from t) }
+    record { begin = from + blanksIn (drop from t); end = from + lineLength rule (drop from t); next = from + lineUsed rule (drop from t) }

@@ -1,7 +1,9 @@
 // The lines of a text, found where they stand: nothing is copied.
 use crate::front;
 ghost use mathlib.Core.Path.{_≡_};
-ghost use Rattle.lines.specs.TextLines.{endMark, lineFrom};
+ghost use Prim.Native.Nat.{_+_};
+ghost use lib.ListN.{drop};
+ghost use Rattle.lines.specs.TextLines.{isBlank, blanksIn, endMark, lineFrom};
 
 // What ends a line.
 pub enum LineRule {
@@ -11,8 +13,9 @@ pub enum LineRule {
     AfterCr,
 }
 
-// A line runs up to end, and the next one begins at next.
+// A line runs up to end, and the next one begins at next; begin stands behind the blanks in front of the line.
 pub struct TextLine {
+    pub begin: usize,
     pub end: usize,
     pub next: usize,
 }
@@ -36,11 +39,39 @@ fn end_mark(text: &[u8], rule: LineRule) -> usize
     }
 }
 
+// Whether a byte is white space that every reader of a line skips in front of it, and that ends no line.
+fn is_blank(b: u8) -> bool
+    ensures { λ r. ⌜ r ≡ isBlank b ⌝ }
+{
+    if b == 0x20 {
+        return true;
+    }
+    if b == 0x09 {
+        return true;
+    }
+    b == 0x0C
+}
+
+// The place behind the blanks that stand from a place on.
+fn behind_blanks(text: &[u8], from: usize) -> usize
+    ensures { λ r. ⌜ r ≡ from + blanksIn (drop from (now (text .entry))) ⌝ }
+{
+    let mut i: usize = from;
+    while i < text.len() {
+        if !is_blank(text[i]) {
+            return i;
+        }
+        i += 1;
+    }
+    i
+}
+
 // The line that begins at from.
 pub fn next_line(text: &[u8], from: usize, rule: LineRule) -> TextLine
     ensures { λ r. ⌜ r ≡ lineFrom rule (now (text .entry)) from ⌝ }
 {
-    let mut i: usize = from;
+    let begin = behind_blanks(text, from);
+    let mut i = begin;
     while i < text.len() {
         // No byte above CR ends a line: one test for nearly each byte.
         if text[i] > 0x0D {
@@ -49,6 +80,7 @@ pub fn next_line(text: &[u8], from: usize, rule: LineRule) -> TextLine
             let mark = end_mark(&text[i..], rule);
             if mark > 0 {
                 return TextLine {
+                    begin,
                     end: i,
                     next: i + mark,
                 };
@@ -56,5 +88,9 @@ pub fn next_line(text: &[u8], from: usize, rule: LineRule) -> TextLine
             i += 1;
         }
     }
-    TextLine { end: i, next: i }
+    TextLine {
+        begin,
+        end: i,
+        next: i,
+    }
 }

@@ -52,11 +52,11 @@ enum-known-refusal c = search needs
 returns : tie.Need-returns Inv-loop μ-loop
 returns c = measured-refused (c .before .before .before .before .before .before .before .loop .inv) (c .before .before .before .before .before .before .loop-test .taken) (c .before .before .before .before .before .next-line .ensures) (told-behind (c .before .before .before .before .before .before .before .loop .inv) (c .before .before .before .before .before .before .loop-test .taken) (c .before .before .before .before .before .next-line .ensures) (c .before .refusal .given .1) (c .before .before .before .measure-line .ensures))
 
-sub-t23 : tie.Need-sub-t23 Inv-loop μ-loop
-sub-t23 c = omega (arith, measured-low (c .before .loop .inv))
+sub-t24 : tie.Need-sub-t24 Inv-loop μ-loop
+sub-t24 c = omega (arith, measured-low (c .before .loop .inv))
 
-add-t24 : tie.Need-add-t24 Inv-loop μ-loop
-add-t24 c = omega (arith, measured-low (c .before .loop .inv), c .before .loop .inv .high)
+add-t25 : tie.Need-add-t25 Inv-loop μ-loop
+add-t25 c = omega (arith, measured-low (c .before .loop .inv), c .before .loop .inv .high)
 
 returns-2 : tie.Need-returns-2 Inv-loop μ-loop
 returns-2 c = measured-end (c .before .loop .inv) (c .loop-test .left)
@@ -79,6 +79,6 @@ measure-spec =
     loop-again
     enum-known-refusal
     returns
-    sub-t23
-    add-t24
+    sub-t24
+    add-t25
     returns-2)

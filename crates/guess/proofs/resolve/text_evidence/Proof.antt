@@ -23,10 +23,10 @@ next-line-requires : tie.Need-next-line-requires Inv-loop μ-loop
 next-line-requires c κs = search needs
 
 sub-line-evidence : tie.Need-sub-line-evidence Inv-loop μ-loop
-sub-line-evidence c = line-step _ _ _ (c .before .loop-test .taken) (c .next-line .ensures) .low
+sub-line-evidence c = line-step _ _ _ (c .before .loop-test .taken) (c .next-line .ensures) .begins
 
 part-line-evidence-start : tie.Need-part-line-evidence-start Inv-loop μ-loop
-part-line-evidence-start c = line-step _ _ _ (c .before .loop-test .taken) (c .next-line .ensures) .low
+part-line-evidence-start c = line-step _ _ _ (c .before .loop-test .taken) (c .next-line .ensures) .begins
 
 part-line-evidence-end : tie.Need-part-line-evidence-end Inv-loop μ-loop
 part-line-evidence-end c = line-step _ _ _ (c .before .loop-test .taken) (c .next-line .ensures) .high

@@ -1,22 +1,24 @@
 -- `lines::split::next_line` meets its contract.
 -- Assumes nothing.
 use Prim.Native.Nat.{_-_}
-use mathlib.Core.Path.{refl}
 use native.Mathlib.Omega.{arith}
 use lib.ListN.{length}
-use Rattle.lines.proofs.Splitting.{Seeking, seeking-above, seeking-turn, seeking-found, seeking-fits, seeking-end}
+use Rattle.lines.proofs.Splitting.{Seeking, seeking-start, seeking-above, seeking-turn, seeking-found, seeking-fits, seeking-end}
 use borrow.Author.Needs.{needs}
 use Rattle.lines.proofs.split.next_line.Statement.{statement}
 use Rattle.lines.proofs.split.next_line.Tie as tie
 
 abbrev Inv-loop : tie.InvT-loop
-Inv-loop text from rule i₀ i = Seeking rule text from i
+Inv-loop text from rule begin i₀ i = Seeking rule text from i
 
 abbrev μ-loop : tie.MeasureT-loop
-μ-loop text from rule i₀ i = length text - i
+μ-loop text from rule begin i₀ i = length text - i
+
+behind-blanks-requires : tie.Need-behind-blanks-requires Inv-loop μ-loop
+behind-blanks-requires c κs = search needs
 
 loop-holds : tie.Need-loop-holds Inv-loop μ-loop
-loop-holds c = record { ends = refl; goes = refl }
+loop-holds c = seeking-start _ _ _ (c .behind-blanks .ensures)
 
 shared-slice-read-if1 : tie.Need-shared-slice-read-if1 Inv-loop μ-loop
 shared-slice-read-if1 c = search needs
@@ -42,11 +44,11 @@ part-end-mark-end c = search needs
 end-mark-requires : tie.Need-end-mark-requires Inv-loop μ-loop
 end-mark-requires c κs = search needs
 
-add-t15 : tie.Need-add-t15 Inv-loop μ-loop
-add-t15 c = omega (arith, seeking-fits (c .before .before .before .before .before .before .loop .inv) (c .before .before .before .before .before .loop-test .taken) (c .before .end-mark .ensures) (c .if2 .taken))
+add-t16 : tie.Need-add-t16 Inv-loop μ-loop
+add-t16 c = omega (arith, seeking-fits (c .before .before .before .before .before .before .loop .inv) (c .before .before .before .before .before .loop-test .taken) (c .before .end-mark .ensures) (c .if2 .taken))
 
 returns : tie.Need-returns Inv-loop μ-loop
-returns c = seeking-found (c .before .before .before .before .before .before .loop .inv) (c .before .before .before .before .before .loop-test .taken) (c .before .end-mark .ensures) (c .if2 .taken)
+returns c = seeking-found (c .before .before .before .before .before .before .loop .inv) (c .before .before .before .before .before .loop-test .taken) (c .before .end-mark .ensures) (c .if2 .taken) (c .before .before .before .before .before .before .before .behind-blanks .ensures)
 
 add-i-2 : tie.Need-add-i-2 Inv-loop μ-loop
 add-i-2 c = search needs
@@ -58,7 +60,7 @@ loop-again-2 : tie.Need-loop-again-2 Inv-loop μ-loop
 loop-again-2 c = seeking-turn (c .before .before .before .before .before .before .loop .inv) (c .before .before .before .before .before .loop-test .taken) (c .before .end-mark .ensures) (c .if2 .left)
 
 returns-2 : tie.Need-returns-2 Inv-loop μ-loop
-returns-2 c = seeking-end (c .before .loop .inv) (c .loop-test .left)
+returns-2 c = seeking-end (c .before .loop .inv) (c .before .before .behind-blanks .ensures) (c .loop-test .left)
 
 pub next-line-spec : {M : Type 1} → statement M
 next-line-spec =
@@ -66,6 +68,7 @@ next-line-spec =
     (tie.spec
     Inv-loop
     μ-loop
+    behind-blanks-requires
     loop-holds
     shared-slice-read-if1
     add-i
@@ -75,7 +78,7 @@ next-line-spec =
     part-end-mark-start
     part-end-mark-end
     end-mark-requires
-    add-t15
+    add-t16
     returns
     add-i-2
     loop-less-2

@@ -1,0 +1,55 @@
+-- `lines::split::behind_blanks` meets its contract.
+-- Assumes nothing.
+use Prim.Native.Nat.{_-_}
+use mathlib.Core.Path.{refl}
+use lib.ListN.{length}
+use borrow.Author.Tests.{not-true, not-false}
+use Rattle.lines.proofs.Blanks.{Skipped, skipped-turn, skipped-found, skipped-end}
+use borrow.Author.Needs.{needs}
+use Rattle.lines.proofs.split.behind_blanks.Statement.{statement}
+use Rattle.lines.proofs.split.behind_blanks.Tie as tie
+
+abbrev Inv-loop : tie.InvT-loop
+Inv-loop text from i₀ i = Skipped text from i
+
+abbrev μ-loop : tie.MeasureT-loop
+μ-loop text from i₀ i = length text - i
+
+loop-holds : tie.Need-loop-holds Inv-loop μ-loop
+loop-holds c = record { gives = refl }
+
+shared-slice-read-is-blank : tie.Need-shared-slice-read-is-blank Inv-loop μ-loop
+shared-slice-read-is-blank c = search needs
+
+is-blank-requires : tie.Need-is-blank-requires Inv-loop μ-loop
+is-blank-requires c κs = search needs
+
+returns : tie.Need-returns Inv-loop μ-loop
+returns c = skipped-found (c .before .before .before .before .loop .inv) (c .before .before .before .loop-test .taken) (c .before .is-blank .ensures) (not-true _ (c .if1 .taken))
+
+add-i : tie.Need-add-i Inv-loop μ-loop
+add-i c = search needs
+
+loop-less : tie.Need-loop-less Inv-loop μ-loop
+loop-less c = search needs
+
+loop-again : tie.Need-loop-again Inv-loop μ-loop
+loop-again c = skipped-turn (c .before .before .before .before .loop .inv) (c .before .before .before .loop-test .taken) (c .before .is-blank .ensures) (not-false _ (c .if1 .left))
+
+returns-2 : tie.Need-returns-2 Inv-loop μ-loop
+returns-2 c = skipped-end (c .before .loop .inv) (c .loop-test .left)
+
+pub behind-blanks-spec : {M : Type 1} → statement M
+behind-blanks-spec =
+    tie.close
+    (tie.spec
+    Inv-loop
+    μ-loop
+    loop-holds
+    shared-slice-read-is-blank
+    is-blank-requires
+    returns
+    add-i
+    loop-less
+    loop-again
+    returns-2)
