@@ -90,7 +90,7 @@ module _ {s : List ℕ} {i : ℕ} (k : Passed s i) where
       passed-stop t = let e : domainLength (drop i s) ≡ 0 = rw here (outside _ _ l (told ∙ t)) in omega arith
 
 -- eight bytes, none above one that is below 80
-pub passed-eight : {s : List ℕ} {i r : ℕ} → Passed s i → 8 ≤ length s - i → Tops s i r → r < 0x80 → Passed s (i + 8)
+passed-eight : {s : List ℕ} {i r : ℕ} → Passed s i → 8 ≤ length s - i → Tops s i r → r < 0x80 → Passed s (i + 8)
 passed-eight {s} {i} {r} k h t l =
     on 7 (omega arith) (omega (arith, t .eighth))
     (on 6 (omega arith) (omega (arith, t .seventh))
@@ -103,6 +103,11 @@ passed-eight {s} {i} {r} k h t l =
   where
     on : (n : ℕ) → n < 8 → getD s (i + n) 0 < 0x80 → Passed s (i + n) → Passed s (i + suc n)
     on n m b p = let e : i + n + 1 ≡ i + suc n = omega arith in subst (Passed s) e (passed-byte p (omega arith) b)
+
+pub passed-sixteen : {s : List ℕ} {i a b r : ℕ} → Passed s i → 16 ≤ length s - i → Tops s i a → Tops s (i + 8) b → (a ≤ r) × (b ≤ r) → r < 0x80 → Passed s (i + 16)
+passed-sixteen {s} {i} k h t u m l =
+    let e : i + 8 + 8 ≡ i + 16 = omega arith in
+    subst (Passed s) e (passed-eight (passed-eight k (omega arith) t (omega arith)) (omega arith) u (omega arith))
 
 -- ---- the answer
 

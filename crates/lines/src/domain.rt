@@ -43,16 +43,16 @@ fn top_of_eight(text: &[u8], i: usize) -> u8
     larger(a, b)
 }
 
-// So many bytes in front that all of them lie in the domain: eight at a time, as long as these are below 80.
+// So many bytes in front that all of them lie in the domain: two eights at a time, as long as these are below 80.
 fn passed_by_eights(text: &[u8]) -> usize
     ensures { λ r. ⌜ Passed (now (text .entry)) r ⌝ }
 {
     let mut i: usize = 0;
-    while text.len() - i >= 8 {
-        if top_of_eight(text, i) >= 0x80 {
+    while text.len() - i >= 16 {
+        if larger(top_of_eight(text, i), top_of_eight(text, i + 8)) >= 0x80 {
             return i;
         }
-        i += 8;
+        i += 16;
     }
     i
 }

@@ -4,7 +4,7 @@ use Prim.Native.Nat.{_-_}
 use native.Mathlib.Omega.{arith}
 use lib.ListN.{length}
 use Rattle.lines.specs.Domain.{Passed}
-use Rattle.lines.proofs.Limits.{passed-start, passed-eight}
+use Rattle.lines.proofs.Limits.{passed-start, passed-sixteen}
 use borrow.Author.Needs.{needs}
 use Rattle.lines.proofs.domain.passed_by_eights.Statement.{statement}
 use Rattle.lines.proofs.domain.passed_by_eights.Tie as tie
@@ -24,8 +24,17 @@ sub-loop c = search needs
 top-of-eight-requires : tie.Need-top-of-eight-requires Inv-loop μ-loop
 top-of-eight-requires c κs = search needs
 
+add-top-of-eight : tie.Need-add-top-of-eight Inv-loop μ-loop
+add-top-of-eight c = search needs
+
+top-of-eight-requires-2 : tie.Need-top-of-eight-requires-2 Inv-loop μ-loop
+top-of-eight-requires-2 c κs = omega arith
+
+larger-requires : tie.Need-larger-requires Inv-loop μ-loop
+larger-requires c κs = search needs
+
 returns : tie.Need-returns Inv-loop μ-loop
-returns c = c .before .before .before .loop .inv
+returns c = c .before .before .before .before .before .loop .inv
 
 add-i : tie.Need-add-i Inv-loop μ-loop
 add-i c = search needs
@@ -34,7 +43,7 @@ loop-less : tie.Need-loop-less Inv-loop μ-loop
 loop-less c = search needs
 
 loop-again : tie.Need-loop-again Inv-loop μ-loop
-loop-again c = passed-eight (c .before .before .before .loop .inv) (c .before .before .loop-test .taken) (c .before .top-of-eight .ensures) (c .if1 .left)
+loop-again c = passed-sixteen (c .before .before .before .before .before .loop .inv) (c .before .before .before .before .loop-test .taken) (c .before .before .before .top-of-eight .ensures) (c .before .before .top-of-eight2 .ensures) (c .before .larger .ensures) (c .if1 .left)
 
 returns-2 : tie.Need-returns-2 Inv-loop μ-loop
 returns-2 c = c .before .loop .inv
@@ -48,6 +57,9 @@ passed-by-eights-spec =
     loop-holds
     sub-loop
     top-of-eight-requires
+    add-top-of-eight
+    top-of-eight-requires-2
+    larger-requires
     returns
     add-i
     loop-less
