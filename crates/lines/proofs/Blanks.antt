@@ -12,7 +12,7 @@ use lib.Seq.{drop-cons}
 use borrow.Author.Tests.{eq-eqb, ne-eqb, eqb-true}
 use Rattle.ascii.specs.Bytes.{between, isSpace}
 use Rattle.lines.specs.Front.{ofKind}
-use Rattle.lines.specs.TextLines.{isBlank, blanksIn}
+use Rattle.lines.specs.TextLines.{isBlank, blanksIn, Skipped}
 use Rattle.lines.specs.declared.front.Kind.the-variants.{White}
 use Rattle.lines.proofs.Parts.{taken, left}
 
@@ -71,9 +71,10 @@ pub blanks-nil : blanksIn [] ≡ 0
 unfolding blanksIn
 blanks-nil = refl
 
--- the loop over them: the bytes from a place up to i are blanks
-pub record Skipped (t : List ℕ) (from i : ℕ) : Type 0 where
-  pub gives : i + blanksIn (drop i t) ≡ from + blanksIn (drop from t)
+-- ---- the loops over them
+
+pub skipped-none : (t : List ℕ) (from : ℕ) → Skipped t from from
+skipped-none t from = record { gives = refl }
 
 module _ {t : List ℕ} {from i : ℕ} (k : Skipped t from i) where
   pub skipped-end : length t ≤ i → i ≡ from + blanksIn (drop from t)
@@ -90,6 +91,10 @@ module _ {t : List ℕ} {from i : ℕ} (k : Skipped t from i) where
 
     pub skipped-found : r ≡ false → i ≡ from + blanksIn (drop from t)
     skipped-found e = let s : blanksIn (drop i t) ≡ 0 = rw here (blanks-none _ _ (sym q ∙ e)) in omega arith
+
+-- a byte that is one more of a run of blanks
+pub skipped-run : {t : List ℕ} {from i : ℕ} {b : ℕ} → Skipped t from i → i < length t → isBlank b ≡ true → getD t i 0 ≡ b → Skipped t from (i + 1)
+skipped-run k h q e = skipped-turn k h refl (ap isBlank e ∙ q)
 
 -- ---- what one blank in front does not change, all of them in front of a line do not
 

@@ -3,6 +3,7 @@
 -- A text as given is split as the Rust's str::lines does: a lone CR stays in its line.
 -- Assumes nothing.
 use Prim.Native.Nat.{ℕ, zero, suc, _+_}
+use mathlib.Core.Path.{_≡_}
 use mathlib.Core.Bool.{Bool, true, false, cond, _&&_, _||_}
 use mathlib.Core.List.{List, [], _∷_, map}
 use lib.Dec.{eqb}
@@ -69,6 +70,10 @@ unfoldable pub blanksIn : List ℕ → ℕ
 unfolding isBlank
 blanksIn [] = 0
 blanksIn (b ∷ s) = elim (isBlank b) [ true ↦ suc (blanksIn s) | false ↦ 0 ]
+
+-- the bytes from a place up to i are blanks
+pub record Skipped (t : List ℕ) (from i : ℕ) : Type 0 where
+  pub gives : i + blanksIn (drop i t) ≡ from + blanksIn (drop from t)
 
 -- the line that begins at a place: where its blanks in front end, where it ends, and where the next one begins
 unfoldable pub lineFrom : LineRule → List ℕ → ℕ → TextLine

@@ -1,9 +1,10 @@
 // The lines of a text, found where they stand: nothing is copied.
 use crate::front;
 ghost use mathlib.Core.Path.{_≡_};
+ghost use mathlib.Core.Bool.{true};
 ghost use Prim.Native.Nat.{_+_};
 ghost use lib.ListN.{drop};
-ghost use Rattle.lines.specs.TextLines.{isBlank, blanksIn, endMark, lineFrom};
+ghost use Rattle.lines.specs.TextLines.{isBlank, blanksIn, Skipped, endMark, lineFrom};
 
 // What ends a line.
 pub enum LineRule {
@@ -52,11 +53,33 @@ fn is_blank(b: u8) -> bool
     b == 0x0C
 }
 
-// The place behind the blanks that stand from a place on.
+// The place behind the run of one blank that stands from a place on.
+fn behind_run(text: &[u8], from: usize, blank: u8) -> usize
+    requires { ⌜ isBlank blank ≡ true ⌝ }
+    ensures { λ r. ⌜ Skipped (now (text .entry)) from r ⌝ }
+{
+    let mut i: usize = from;
+    while i < text.len() {
+        if text[i] != blank {
+            return i;
+        }
+        i += 1;
+    }
+    i
+}
+
+// The place behind the blanks that stand from a place on. Most are a run of one, which is passed with one test for each byte.
 fn behind_blanks(text: &[u8], from: usize) -> usize
     ensures { λ r. ⌜ r ≡ from + blanksIn (drop from (now (text .entry))) ⌝ }
 {
-    let mut i: usize = from;
+    if text.len() <= from {
+        return from;
+    }
+    let first = text[from];
+    if !is_blank(first) {
+        return from;
+    }
+    let mut i = behind_run(text, from, first);
     while i < text.len() {
         if !is_blank(text[i]) {
             return i;
