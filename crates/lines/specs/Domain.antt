@@ -26,7 +26,7 @@ domainLength (b ∷ []) = elim (ltb b 0x80) [ true ↦ 1 | false ↦ 0 ]
 domainLength (b ∷ c ∷ s) =
     elim (ltb b 0x80) [ true ↦ suc (domainLength (c ∷ s)) | false ↦ elim (isPi (b ∷ c ∷ s)) [ true ↦ suc (suc (domainLength s)) | false ↦ 0 ] ]
 
--- the i bytes in front lie in the domain
+-- what lies in the domain in front ends where it does behind the first i bytes
 pub record Passed (t : List ℕ) (i : ℕ) : Type 0 where
   pub within : i ≤ length t
   pub gives : i + domainLength (drop i t) ≡ domainLength t

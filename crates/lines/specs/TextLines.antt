@@ -71,7 +71,7 @@ unfolding isBlank
 blanksIn [] = 0
 blanksIn (b ∷ s) = elim (isBlank b) [ true ↦ suc (blanksIn s) | false ↦ 0 ]
 
--- the bytes from a place up to i are blanks
+-- the blanks from i on end where those from a place on do
 pub record Skipped (t : List ℕ) (from i : ℕ) : Type 0 where
   pub gives : i + blanksIn (drop i t) ≡ from + blanksIn (drop from t)
 

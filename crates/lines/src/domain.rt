@@ -43,7 +43,7 @@ fn top_of_eight(text: &[u8], i: usize) -> u8
     larger(a, b)
 }
 
-// So many bytes in front that all of them lie in the domain: two eights at a time, as long as these are below 80.
+// How many bytes in front, counted in two eights, are below 80: all of them lie in the domain.
 fn passed_by_eights(text: &[u8]) -> usize
     ensures { λ r. ⌜ Passed (now (text .entry)) r ⌝ }
 {
