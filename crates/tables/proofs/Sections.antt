@@ -1,13 +1,14 @@
 -- The lists as sections of the stored words.
 -- Assumes nothing.
 use Prim.Native.Nat.{ℕ, _-_, _≤_, _<_}
-use mathlib.Core.Path.{_≡_, refl, sym, ap, _∙_}
+use mathlib.Core.Path.{_≡_, refl, sym, ap, _∙_, subst}
 use mathlib.Core.List.{List, [], _∷_, _++_}
 use native.Mathlib.Omega.{arith}
 use lib.Dec.{T}
 use lib.ListN.{length, take, drop, length-drop}
 use lib.Seq.{take-all}
 use Rattle.words.specs.Find.{Entry}
+use Rattle.words.specs.Initials.{allRaised}
 use Rattle.words.specs.Run.{rising, spelled}
 use Rattle.words.proofs.Sections.{section-stored, section-spells, stored-long, length-spelled}
 use Rattle.tables.specs.Rom.{v2Words, operators}
@@ -52,3 +53,6 @@ module _ {b s ts : List ℕ} (w : SpellsWords b s ts) where
 
     pub part-spells : spelled b (take (length s - k) (drop k s)) (take n (drop k ts)) ≡ take n (drop k allWords)
     part-spells = rw tail (section-spells b s ts k n ∙ ap (λ (es : List Entry). take n (drop k es)) (w .spells))
+
+    pub part-raised : {es : List Entry} → take n (drop k allWords) ≡ es → T (allRaised es) → T (allRaised (spelled b (take (length s - k) (drop k s)) (take n (drop k ts))))
+    part-raised e = subst (λ (x : List Entry). T (allRaised x)) (sym (part-spells ∙ e))

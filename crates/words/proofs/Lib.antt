@@ -1,4 +1,5 @@
 pub mod Comparing
+pub mod Initials
 pub mod Sameness
 pub mod Search
 pub mod Sections

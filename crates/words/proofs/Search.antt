@@ -24,7 +24,7 @@ and-right true b t = t
 and-right false b t = absurd t
 
 module _ (b s ts : List ℕ) (i : ℕ) (h : i < length ts) where
-  spelled-cons : spelled b (drop i s) (drop i ts) ≡ record { word = wordOf b s i; token = getD ts i 0 } ∷ spelled b (drop (i + 1) s) (drop (i + 1) ts)
+  pub spelled-cons : spelled b (drop i s) (drop i ts) ≡ record { word = wordOf b s i; token = getD ts i 0 } ∷ spelled b (drop (i + 1) s) (drop (i + 1) ts)
   unfolding spelled wordOf
   spelled-cons = rw (drop-cons ts i 0) (simp (getD-drop, drop-drop, add-zero, add-one))
 

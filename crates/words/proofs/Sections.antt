@@ -21,7 +21,7 @@ drop-one k [] = drop-nil k
 drop-one k (x ∷ s) = refl
 
 module _ (b : List ℕ) where
-  spelled-drop : (k : ℕ) (s ts : List ℕ) → spelled b (drop k s) (drop k ts) ≡ drop k (spelled b s ts)
+  pub spelled-drop : (k : ℕ) (s ts : List ℕ) → spelled b (drop k s) (drop k ts) ≡ drop k (spelled b s ts)
   unfolding spelled
   spelled-drop zero s ts = refl
   spelled-drop (suc k) s [] = refl

@@ -7,6 +7,7 @@ ghost use lib.Dec.{T};
 ghost use lib.ListN.{length};
 ghost use Rattle.words.specs.Compare.{begins as beginsOf, alike as alikeOf, same as sameOf};
 ghost use Rattle.words.specs.Find.{wordIn, liveIn, nameIn, sameIn};
+ghost use Rattle.words.specs.Initials.{initial as initialOf, allRaised};
 ghost use Rattle.words.specs.Run.{Lies, wordOf, rising, spelled};
 
 pub enum Match {
@@ -80,42 +81,62 @@ pub fn word_at<'a>(bytes: &'a [u8], starts: &[u16], k: usize) -> &'a [u8]
     &bytes[from..to]
 }
 
-// The first word of the list that the text begins with.
+// The first byte of a text, a small letter as its capital; 0 where there is none.
+fn initial_of(text: &[u8]) -> u8
+    ensures { λ r. ⌜ r ≡ initialOf (now (text .entry)) ⌝ }
+{
+    if text.len() == 0 {
+        return 0;
+    }
+    ascii::upper(text[0])
+}
+
+// The first word of the list that the text begins with. Nearly all words are passed by their first byte, which is stored as a capital.
 pub fn first_word(bytes: &[u8], starts: &[u16], tokens: &[u8], text: &[u8]) -> Match
-    requires { ⌜ T (rising (length (now bytes)) (now starts) (now tokens)) ⌝ }
+    requires { ⌜ T (rising (length (now bytes)) (now starts) (now tokens)) × T (allRaised (spelled (now bytes) (now starts) (now tokens))) ⌝ }
     ensures { λ r. ⌜ r ≡ wordIn (spelled (now (bytes .entry)) (now (starts .entry)) (now (tokens .entry))) (now (text .entry)) ⌝ }
 {
+    let initial = initial_of(text);
     let mut i: usize = 0;
     while i < tokens.len() {
         let word = word_at(bytes, starts, i);
-        if begins(word, text) {
-            return Match::Word {
-                index: i,
-                used: word.len(),
-                token: tokens[i],
-            };
+        if word[0] != initial {
+            i += 1;
+        } else {
+            if begins(word, text) {
+                return Match::Word {
+                    index: i,
+                    used: word.len(),
+                    token: tokens[i],
+                };
+            }
+            i += 1;
         }
-        i += 1;
     }
     Match::Nothing
 }
 
 // The same among the words that are live.
 pub fn first_live(bytes: &[u8], starts: &[u16], tokens: &[u8], live: &[bool], text: &[u8]) -> Match
-    requires { ⌜ T (rising (length (now bytes)) (now starts) (now tokens)) × (length (now tokens) ≤ length (now live)) ⌝ }
+    requires { ⌜ T (rising (length (now bytes)) (now starts) (now tokens)) × T (allRaised (spelled (now bytes) (now starts) (now tokens))) × (length (now tokens) ≤ length (now live)) ⌝ }
     ensures { λ r. ⌜ r ≡ liveIn (now (live .entry)) (spelled (now (bytes .entry)) (now (starts .entry)) (now (tokens .entry))) (now (text .entry)) ⌝ }
 {
+    let initial = initial_of(text);
     let mut i: usize = 0;
     while i < tokens.len() {
         let word = word_at(bytes, starts, i);
-        if begins_live(live[i], word, text) {
-            return Match::Word {
-                index: i,
-                used: word.len(),
-                token: tokens[i],
-            };
+        if word[0] != initial {
+            i += 1;
+        } else {
+            if begins_live(live[i], word, text) {
+                return Match::Word {
+                    index: i,
+                    used: word.len(),
+                    token: tokens[i],
+                };
+            }
+            i += 1;
         }
-        i += 1;
     }
     Match::Nothing
 }

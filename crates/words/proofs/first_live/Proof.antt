@@ -1,10 +1,13 @@
 -- `words::first_live` meets its contract: the search with the test "the word is live and the text begins with it".
 -- Assumes nothing.
 use Prim.Native.Nat.{_-_}
+use mathlib.Core.Path.{refl}
+use denote.Ref.{now}
 use lib.ListN.{length, getD}
 use Rattle.words.specs.Compare.{begins}
 use Rattle.words.specs.Find.{liveIn}
 use Rattle.words.specs.Run.{spelled}
+use Rattle.words.proofs.Initials.{initial-there, initial-other-live}
 use Rattle.words.proofs.Search.{Sought, sought-start, sought-lies, sought-found, sought-turn, sought-end}
 use mathlib.Core.Bool.{false, _&&_}
 use borrow.Author.Needs.{needs}
@@ -12,30 +15,24 @@ use Rattle.words.proofs.first_live.Statement.{statement}
 use Rattle.words.proofs.first_live.Tie as tie
 
 abbrev Inv-loop : tie.InvT-loop
-Inv-loop bytes starts tokens live text i₀ i =
+Inv-loop bytes starts tokens live text initial i₀ i =
     Sought (λ k w. getD live k false && begins w text) bytes starts tokens (liveIn live (spelled bytes starts tokens) text) i
 
 abbrev μ-loop : tie.MeasureT-loop
-μ-loop bytes starts tokens live text i₀ i = length tokens - i
+μ-loop bytes starts tokens live text initial i₀ i = length tokens - i
+
+initial-of-requires : tie.Need-initial-of-requires Inv-loop μ-loop
+initial-of-requires c κs = search needs
 
 loop-holds : tie.Need-loop-holds Inv-loop μ-loop
 unfolding liveIn
-loop-holds c = sought-start _ _ _ _ (c .before .before .before .before .before .pre .0)
+loop-holds c = sought-start _ _ _ _ (c .before .before .before .before .before .before .pre .0)
 
 word-at-requires : tie.Need-word-at-requires Inv-loop μ-loop
 word-at-requires c κs = sought-lies (c .before .loop .inv) (c .loop-test .taken)
 
-shared-slice-read-begins-live : tie.Need-shared-slice-read-begins-live Inv-loop μ-loop
-shared-slice-read-begins-live c = search needs
-
-begins-live-requires : tie.Need-begins-live-requires Inv-loop μ-loop
-begins-live-requires c κs = search needs
-
-shared-slice-read-t14 : tie.Need-shared-slice-read-t14 Inv-loop μ-loop
-shared-slice-read-t14 c = search needs
-
-returns : tie.Need-returns Inv-loop μ-loop
-returns c = sought-found (c .before .before .before .before .before .before .loop .inv) (c .before .before .before .before .before .loop-test .taken) (c .before .before .before .before .word-at .ensures) (c .before .before .begins-live .ensures) (c .before .if1 .taken)
+shared-slice-read-if1 : tie.Need-shared-slice-read-if1 Inv-loop μ-loop
+shared-slice-read-if1 c = initial-there (now (c .before .before .before .before .before .before .before .before .before .before .args .bytes)) (now (c .before .before .before .before .before .before .before .before .before .before .args .starts)) (now (c .before .before .before .before .before .before .before .before .before .before .args .tokens)) (c .before .before .before .before .before .before .before .before .before .before .pre .1) (c .before .before .loop-test .taken) (c .before .word-at .ensures)
 
 add-i : tie.Need-add-i Inv-loop μ-loop
 add-i c = search needs
@@ -44,7 +41,28 @@ loop-less : tie.Need-loop-less Inv-loop μ-loop
 loop-less c = search needs
 
 loop-again : tie.Need-loop-again Inv-loop μ-loop
-loop-again c = sought-turn (c .before .before .before .before .before .loop .inv) (c .before .before .before .before .loop-test .taken) (c .before .before .before .word-at .ensures) (c .before .begins-live .ensures) (c .if1 .left)
+loop-again c = sought-turn (c .before .before .before .before .loop .inv) (c .before .before .before .loop-test .taken) (c .before .before .word-at .ensures) (initial-other-live (now (c .before .before .before .before .before .before .before .before .before .before .before .args .bytes)) (now (c .before .before .before .before .before .before .before .before .before .before .before .args .starts)) (now (c .before .before .before .before .before .before .before .before .before .before .before .args .tokens)) (c .before .before .before .before .before .before .before .before .before .before .before .pre .1) (c .before .before .before .loop-test .taken) (c .before .before .word-at .ensures) (now (c .before .before .before .before .before .before .before .before .before .before .before .args .text)) (c .before .before .before .before .before .initial-of .ensures) (c .if1 .taken) (getD (now (c .before .before .before .before .before .before .before .before .before .before .before .args .live)) (c .before .before .before .before .loop .i) false)) refl
+
+shared-slice-read-begins-live : tie.Need-shared-slice-read-begins-live Inv-loop μ-loop
+shared-slice-read-begins-live c = search needs
+
+begins-live-requires : tie.Need-begins-live-requires Inv-loop μ-loop
+begins-live-requires c κs = search needs
+
+shared-slice-read-t18 : tie.Need-shared-slice-read-t18 Inv-loop μ-loop
+shared-slice-read-t18 c = search needs
+
+returns : tie.Need-returns Inv-loop μ-loop
+returns c = sought-found (c .before .before .before .before .before .before .before .before .loop .inv) (c .before .before .before .before .before .before .before .loop-test .taken) (c .before .before .before .before .before .before .word-at .ensures) (c .before .before .begins-live .ensures) (c .before .if2 .taken)
+
+add-i-2 : tie.Need-add-i-2 Inv-loop μ-loop
+add-i-2 c = search needs
+
+loop-less-2 : tie.Need-loop-less-2 Inv-loop μ-loop
+loop-less-2 c = search needs
+
+loop-again-2 : tie.Need-loop-again-2 Inv-loop μ-loop
+loop-again-2 c = sought-turn (c .before .before .before .before .before .before .before .loop .inv) (c .before .before .before .before .before .before .loop-test .taken) (c .before .before .before .before .before .word-at .ensures) (c .before .begins-live .ensures) (c .if2 .left)
 
 returns-2 : tie.Need-returns-2 Inv-loop μ-loop
 returns-2 c = sought-end (c .before .loop .inv) (c .loop-test .left)
@@ -55,13 +73,18 @@ first-live-spec =
     (tie.spec
     Inv-loop
     μ-loop
+    initial-of-requires
     loop-holds
     word-at-requires
-    shared-slice-read-begins-live
-    begins-live-requires
-    shared-slice-read-t14
-    returns
+    shared-slice-read-if1
     add-i
     loop-less
     loop-again
+    shared-slice-read-begins-live
+    begins-live-requires
+    shared-slice-read-t18
+    returns
+    add-i-2
+    loop-less-2
+    loop-again-2
     returns-2)

@@ -6,7 +6,8 @@ use denote.Ref.{now}
 use native.Mathlib.Omega.{arith}
 use lib.ListN.{take, drop, length-take, length-drop}
 use Rattle.words.specs.Find.{Entry, liveIn}
-use Rattle.tables.proofs.Sections.{tokens-long, starts-long, part-stored, part-spells, tsb-section}
+use Rattle.tables.proofs.Sections.{tokens-long, starts-long, part-stored, part-raised, part-spells, tsb-section}
+use Rattle.tables.proofs.Lists.{tsb-raised}
 use borrow.Author.Needs.{needs}
 use Rattle.tables.proofs.matching.match_tsb_in.Statement.{statement}
 use Rattle.tables.proofs.matching.match_tsb_in.Tie as tie
@@ -30,7 +31,7 @@ part-first-live-end-2 : tie.Need-part-first-live-end-2
 part-first-live-end-2 c = omega (arith, tokens-long (c .before .before .before .before .before .before .pre .0))
 
 first-live-requires : tie.Need-first-live-requires
-first-live-requires c κs = (part-stored (c .before .before .before .before .before .before .before .pre .0) 76 123 (omega arith), omega (arith, tokens-long (c .before .before .before .before .before .before .before .pre .0), length-take 123 (drop 76 (now (c .before .before .before .before .before .before .before .args .tokens))), length-drop 76 (now (c .before .before .before .before .before .before .before .args .tokens))))
+first-live-requires c κs = (part-stored (c .before .before .before .before .before .before .before .pre .0) 76 123 (omega arith), part-raised (c .before .before .before .before .before .before .before .pre .0) 76 123 tsb-section tsb-raised, omega (arith, tokens-long (c .before .before .before .before .before .before .before .pre .0), length-take 123 (drop 76 (now (c .before .before .before .before .before .before .before .args .tokens))), length-drop 76 (now (c .before .before .before .before .before .before .before .args .tokens))))
 
 returns : tie.Need-returns
 returns c = c .first-live .ensures ∙ ap (λ (es : List Entry). liveIn (now (c .before .before .before .before .before .before .before .before .args .set)) es (now (c .before .before .before .before .before .before .before .before .args .text))) (part-spells (c .before .before .before .before .before .before .before .before .pre .0) 76 123 ∙ tsb-section)
