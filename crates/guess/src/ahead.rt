@@ -22,7 +22,8 @@ pub fn tsb_word(text: &[u8], bytes: &[u8], starts: &[u16], tokens: &[u8]) -> Mat
     tables::matching::match_tsb(bytes, starts, tokens, text)
 }
 
-// How many bytes a list takes behind its opening parenthesis: up to the closing one, or to the end.
+// How many bytes a list takes behind its opening parenthesis: up to the closing one, or to the end. Most bytes are above both: they
+// are told apart by one test.
 fn closing(text: &[u8]) -> usize
     ensures { λ r. ⌜ r ≡ closingOf 0 (now (text .entry)) ⌝ }
 {
@@ -30,18 +31,22 @@ fn closing(text: &[u8]) -> usize
     let mut i: usize = 0;
     while i < text.len() {
         let b = text[i];
-        if b == 0x29 {
-            if depth == 0 {
-                return i + 1;
-            }
-            depth -= 1;
+        if b > 0x29 {
             i += 1;
         } else {
-            if b == 0x28 {
-                depth += 1;
+            if b == 0x29 {
+                if depth == 0 {
+                    return i + 1;
+                }
+                depth -= 1;
                 i += 1;
             } else {
-                i += 1;
+                if b == 0x28 {
+                    depth += 1;
+                    i += 1;
+                } else {
+                    i += 1;
+                }
             }
         }
     }
