@@ -1,4 +1,4 @@
--- What stands behind a word: the loop over a list in parentheses, and an assignment.
+-- What stands behind a word: the loop over a list in parentheses, an assignment, and none where no = follows.
 -- Assumes nothing.
 use Prim.Native.Nat.{ℕ, zero, suc, _+_, _-_, _≤_, _<_}
 use mathlib.Core.Path.{_≡_, refl, sym, ap, _∙_}
@@ -10,10 +10,12 @@ use lib.Dec.{eqb}
 use lib.ListN.{length, getD, take, drop, drop-of-length-le, length-drop}
 use lib.Seq.{drop-cons, drop-drop}
 use borrow.Author.Tests.{eq-eqb, ne-eqb}
+use Rattle.escapes.specs.Places.{equals, before, behindLast}
+use Rattle.escapes.proofs.Placing.{none-behind}
 use Rattle.lines.specs.Front.{startsWith, frontOf}
 use Rattle.lines.specs.declared.front.Kind.{Kind}
 use Rattle.lines.proofs.Fronts.{front-le, starts-long}
-use Rattle.lines.proofs.Parts.{tail, taken, left}
+use Rattle.lines.proofs.Parts.{tail, taken, left, either}
 use Rattle.guess.specs.Ahead.{closing, behindList, behindBlanks, assigns}
 
 -- ---- a byte of a list
@@ -148,3 +150,36 @@ module _ (blank : Kind) (t : List ℕ) {a : ℕ} (p : a ≡ frontOf blank t) whe
           pub assigns-list : {y : Bool} → y ≡ startsWith 0x3D (rest (rest (rest t a) (1 + n)) m) → y ≡ assigns blank t
           unfolding assigns
           assigns-list r = r ∙ ap (startsWith 0x3D) behind ∙ sym (taken _ _ (told ∙ e))
+
+-- ---- no assignment where no = follows
+
+-- a text without a byte does not start with it
+starts-without : (x : ℕ) (s : List ℕ) → before (equals x) s ≡ length s → startsWith x s ≡ false
+unfolding before startsWith
+starts-without x [] h = refl
+starts-without x (b ∷ s) h = go (eqb b x) h
+  where
+    go : (r : Bool) → elim r [ true ↦ 0 | false ↦ suc (before (equals x) s) ] ≡ suc (length s) → r ≡ false
+    go true e = absurd (omega arith)
+    go false e = refl
+
+module _ (line : List ℕ) {last k : ℕ} (p : last ≡ behindLast (equals 0x3D) line) (h : last ≤ k) where
+  starts-later : (m : ℕ) → k ≤ m → startsWith 0x3D (drop m line) ≡ false
+  starts-later m l = starts-without 0x3D (drop m line) (none-behind (equals 0x3D) line m (omega arith))
+
+  blanks-later : (blank : Kind) (m : ℕ) → k ≤ m → startsWith 0x3D (behindBlanks blank (drop m line)) ≡ false
+  unfolding behindBlanks
+  blanks-later blank m l =
+      let a : ℕ = frontOf blank (drop m line) in
+      ap (startsWith 0x3D) (drop-drop a m line) ∙ starts-later (m + a) (omega arith)
+
+  -- either = that is looked for would stand at a place from k on
+  pub none-assigned : (blank : Kind) → assigns blank (drop k line) ≡ false
+  unfolding assigns behindBlanks behindList
+  none-assigned blank =
+      let a : ℕ = frontOf blank (drop k line) in
+      let n : ℕ = suc (closing 0 (drop 1 (drop a (drop k line)))) in
+      let e : drop n (drop a (drop k line)) ≡ drop (k + a + n) line = ap (drop n) (drop-drop a k line) ∙ drop-drop n (k + a) line in
+      either (λ (x : Bool). x ≡ false) (startsWith 0x28 (drop a (drop k line))) _ _
+      (λ _. ap (λ (l : List ℕ). startsWith 0x3D (behindBlanks blank l)) e ∙ blanks-later blank (k + a + n) (omega arith))
+      (λ _. blanks-later blank k (omega arith))

@@ -16,6 +16,7 @@ use Rattle.words.specs.declared.Match.{Match}
 use Rattle.words.specs.declared.Match.the-variants.{Word, Nothing}
 use Rattle.tables.specs.Spelling.{bytesOf}
 use Rattle.tables.specs.Tsb.{tsbWords}
+use Rattle.escapes.specs.Places.{equals, behindLast}
 use Rattle.lines.specs.Front.{ofKind}
 use Rattle.lines.specs.declared.front.Kind.the-variants.{Space, White}
 use Rattle.lines.proofs.Parts.{tail, taken, left, either}
@@ -26,7 +27,7 @@ use Rattle.guess.specs.declared.place.Place.{Place}
 use Rattle.guess.specs.declared.place.Place.the-variants.{Within, Quoted, Data}
 use Rattle.guess.specs.declared.variables.Pass.{Pass}
 use Rattle.guess.specs.declared.variables.Pass.the-variants.{Remark, Move, Name}
-use Rattle.guess.proofs.Behind.{rest, rest-long}
+use Rattle.guess.proofs.Behind.{rest, rest-long, none-assigned}
 use Rattle.guess.proofs.Words.{Bounded, begins-long, word-bounds}
 
 -- ---- back to the last byte that is no white space
@@ -92,6 +93,12 @@ module _ (line : List ℕ) (i : ℕ) where
         ∙ ap (dimEnds line) p ∙ sym (taken _ _ (le-leb _ _ h))
 
 -- ---- a word that is a variable
+
+-- no = follows, as the place behind the last one says
+pub name-last : (line : List ℕ) (i used : ℕ) {last : ℕ} {y : Bool} → last ≡ behindLast (equals 0x3D) line → last ≤ i + used → y ≡ afterDim line i
+    → y ≡ isName line i used
+unfolding isName
+name-last line i used p h q = q ∙ sym (left _ _ (none-assigned line p h Space))
 
 module _ (line : List ℕ) (i used : ℕ) {x : Bool} (p : x ≡ assigns Space (rest line (i + used))) where
   assigned : assigns Space (drop (i + used) line) ≡ x

@@ -2,12 +2,14 @@
 use crate::ahead;
 use crate::place;
 use crate::place::Place;
+use escapes::places;
 use lines::front;
 use lines::front::Kind;
 use words::Match;
 ghost use mathlib.Core.Path.{_≡_};
 ghost use Prim.Native.Nat.{_+_, _≤_, _<_};
 ghost use lib.ListN.{length, drop};
+ghost use Rattle.escapes.specs.Places.{equals, behindLast};
 ghost use Rattle.tables.specs.Words.{SpellsWords};
 ghost use Rattle.guess.specs.Variables.{solidBefore, afterDim, isName, wordPass, plainPass, passOf, lineNames};
 
@@ -49,12 +51,16 @@ fn after_dim(line: &[u8], i: usize) -> bool
     words::alike(b"DIM", &line[e - 3..e])
 }
 
-// Whether a TSB word of so many bytes at i is a variable.
-fn is_name(line: &[u8], i: usize, used: usize) -> bool
-    requires { ⌜ i + used ≤ length (now line) ⌝ }
+// Whether a TSB word of so many bytes at i is a variable. Where the last = stands before the word's end nothing is assigned to, and
+// no list in parentheses is gone through.
+fn is_name(line: &[u8], i: usize, used: usize, last: usize) -> bool
+    requires { ⌜ (i + used ≤ length (now line)) × (last ≡ behindLast (equals 0x3D) (now line)) ⌝ }
     ensures { λ r. ⌜ r ≡ isName (now (line .entry)) i used ⌝ }
 {
     let behind = i + used;
+    if last <= behind {
+        return after_dim(line, i);
+    }
     if ahead::assigns(&line[behind..], Kind::Space) {
         return true;
     }
@@ -68,8 +74,15 @@ fn moved(used: usize, place: Place) -> Pass
 }
 
 // A step at a place where a TSB word may stand.
-fn word_pass(line: &[u8], i: usize, bytes: &[u8], starts: &[u16], tokens: &[u8]) -> Pass
-    requires { ⌜ SpellsWords (now bytes) (now starts) (now tokens) × (i ≤ length (now line)) ⌝ }
+fn word_pass(
+    line: &[u8],
+    i: usize,
+    last: usize,
+    bytes: &[u8],
+    starts: &[u16],
+    tokens: &[u8],
+) -> Pass
+    requires { ⌜ SpellsWords (now bytes) (now starts) (now tokens) × (i ≤ length (now line)) × (last ≡ behindLast (equals 0x3D) (now line)) ⌝ }
     ensures { λ r. ⌜ r ≡ wordPass (now (line .entry)) i ⌝ }
 {
     match ahead::tsb_word(&line[i..], bytes, starts, tokens) {
@@ -78,7 +91,7 @@ fn word_pass(line: &[u8], i: usize, bytes: &[u8], starts: &[u16], tokens: &[u8])
             used,
             token: _,
         } => {
-            if is_name(line, i, used) {
+            if is_name(line, i, used, last) {
                 return Pass::Name { index, used };
             }
             moved(used, Place::Within)
@@ -88,8 +101,15 @@ fn word_pass(line: &[u8], i: usize, bytes: &[u8], starts: &[u16], tokens: &[u8])
 }
 
 // A step outside strings and DATA.
-fn plain_pass(line: &[u8], i: usize, bytes: &[u8], starts: &[u16], tokens: &[u8]) -> Pass
-    requires { ⌜ SpellsWords (now bytes) (now starts) (now tokens) × (i < length (now line)) ⌝ }
+fn plain_pass(
+    line: &[u8],
+    i: usize,
+    last: usize,
+    bytes: &[u8],
+    starts: &[u16],
+    tokens: &[u8],
+) -> Pass
+    requires { ⌜ SpellsWords (now bytes) (now starts) (now tokens) × (i < length (now line)) × (last ≡ behindLast (equals 0x3D) (now line)) ⌝ }
     ensures { λ r. ⌜ r ≡ plainPass (now (line .entry)) i ⌝ }
 {
     if line[i] == 0x22 {
@@ -102,35 +122,37 @@ fn plain_pass(line: &[u8], i: usize, bytes: &[u8], starts: &[u16], tokens: &[u8]
     if words::begins(b"DATA", text) {
         return moved(4, Place::Data);
     }
-    word_pass(line, i, bytes, starts, tokens)
+    word_pass(line, i, last, bytes, starts, tokens)
 }
 
 fn next_pass(
     line: &[u8],
     i: usize,
     place: Place,
+    last: usize,
     bytes: &[u8],
     starts: &[u16],
     tokens: &[u8],
 ) -> Pass
-    requires { ⌜ SpellsWords (now bytes) (now starts) (now tokens) × (i < length (now line)) ⌝ }
+    requires { ⌜ SpellsWords (now bytes) (now starts) (now tokens) × (i < length (now line)) × (last ≡ behindLast (equals 0x3D) (now line)) ⌝ }
     ensures { λ r. ⌜ r ≡ passOf (now (line .entry)) i place ⌝ }
 {
     if place::is_plain(place) {
-        return plain_pass(line, i, bytes, starts, tokens);
+        return plain_pass(line, i, last, bytes, starts, tokens);
     }
     moved(1, place::aside(place, line[i]))
 }
 
-// Adds the words that the line uses as variables to those that were found.
+// Adds the words that the line uses as variables to those that were found. The place behind the last = is found once to a line.
 pub fn line_names(line: &[u8], bytes: &[u8], starts: &[u16], tokens: &[u8], found: &mut [bool])
     requires { ⌜ SpellsWords (now bytes) (now starts) (now tokens) × (123 ≤ length (now found)) ⌝ }
     ensures { λ r. ⌜ now (found .exit) ≡ lineNames (now (line .entry)) (now (found .entry)) ⌝ }
 {
+    let last = places::behind_last(line, 0x3D);
     let mut i: usize = 0;
     let mut place = Place::Within;
     while i < line.len() {
-        match next_pass(line, i, place, bytes, starts, tokens) {
+        match next_pass(line, i, place, last, bytes, starts, tokens) {
             Pass::Remark => {
                 return;
             }

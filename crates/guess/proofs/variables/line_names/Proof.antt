@@ -10,16 +10,19 @@ use Rattle.guess.proofs.variables.line_names.Statement.{statement}
 use Rattle.guess.proofs.variables.line_names.Tie as tie
 
 abbrev Inv-loop : tie.InvT-loop
-Inv-loop line bytes starts tokens found₀ i₀ place₀ found i place = Passing line (lineNames line found₀) (length found₀) found place i
+Inv-loop line bytes starts tokens found₀ last i₀ place₀ found i place = Passing line (lineNames line found₀) (length found₀) found place i
 
 abbrev μ-loop : tie.MeasureT-loop
-μ-loop line bytes starts tokens found₀ i₀ place₀ found i place = length line - i
+μ-loop line bytes starts tokens found₀ last i₀ place₀ found i place = length line - i
+
+behind-last-requires : tie.Need-behind-last-requires Inv-loop μ-loop
+behind-last-requires c κs = search needs
 
 loop-holds : tie.Need-loop-holds Inv-loop μ-loop
-loop-holds c = passing-start _ _ (c .before .before .before .before .before .pre .1)
+loop-holds c = passing-start _ _ (c .before .before .before .before .before .before .pre .1)
 
 next-pass-requires : tie.Need-next-pass-requires Inv-loop μ-loop
-next-pass-requires c κs = (c .before .before .before .before .before .before .before .pre .0, c .loop-test .taken)
+next-pass-requires c κs = (c .before .before .before .before .before .before .before .before .pre .0, c .loop-test .taken, c .before .before .behind-last .ensures)
 
 enum-told : tie.Need-enum-told Inv-loop μ-loop
 enum-told c = search needs
@@ -69,6 +72,7 @@ line-names-spec =
     (tie.spec
     Inv-loop
     μ-loop
+    behind-last-requires
     loop-holds
     next-pass-requires
     enum-told

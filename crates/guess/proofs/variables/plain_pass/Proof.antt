@@ -47,7 +47,7 @@ returns-3 : tie.Need-returns-3
 returns-3 c = c .moved2 .ensures ∙ pass-data _ _ (c .before .before .before .before .before .before .before .before .if1 .left) (c .before .before .before .before .before .begins .ensures) (c .before .before .before .before .if2 .left) (c .before .before .begins2 .ensures) (c .before .if3 .taken)
 
 word-pass-requires : tie.Need-word-pass-requires
-word-pass-requires c κs = (c .before .before .before .before .before .before .before .before .before .before .before .before .before .pre .0, omega arith)
+word-pass-requires c κs = (c .before .before .before .before .before .before .before .before .before .before .before .before .before .pre .0, omega arith, c .before .before .before .before .before .before .before .before .before .before .before .before .before .pre .2)
 
 returns-4 : tie.Need-returns-4
 returns-4 c = pass-on _ _ (c .before .before .before .before .before .before .before .before .if1 .left) (c .before .before .before .before .before .begins .ensures) (c .before .before .before .before .if2 .left) (c .before .before .begins2 .ensures) (c .before .if3 .left) (c .word-pass .ensures)

@@ -22,7 +22,7 @@ enum-known-index : tie.Need-enum-known-index
 enum-known-index c = search needs
 
 is-name-requires : tie.Need-is-name-requires
-is-name-requires c κs = name-within (c .before .before .before .before .before .before .before .before .before .args .line .now) (c .before .before .before .before .before .before .before .before .before .args .i) (c .before .before .before .tsb-word .ensures) (c .before .index .given .1) (c .before .before .before .before .before .before .before .before .before .pre .1)
+is-name-requires c κs = (name-within (c .before .before .before .before .before .before .before .before .before .args .line .now) (c .before .before .before .before .before .before .before .before .before .args .i) (c .before .before .before .tsb-word .ensures) (c .before .index .given .1) (c .before .before .before .before .before .before .before .before .before .pre .1), c .before .before .before .before .before .before .before .before .before .pre .2)
 
 returns : tie.Need-returns
 returns c = pass-name _ _ (c .before .before .before .before .before .tsb-word .ensures) (c .before .before .before .index .given .1) (c .before .is-name .ensures) (c .if1 .taken)
