@@ -50,6 +50,30 @@ before-le p (b ∷ s) = go (p b) (before-le p s)
     go true h = omega arith
     go false h = omega arith
 
+-- the first of a kind, looked for among the first k bytes alone: it is the first of all, or it stands behind them
+pub before-within : (p : ℕ → Bool) (k : ℕ) (s : List ℕ) → before p (take k s) < length (take k s) → before p (take k s) ≡ before p s
+unfolding before
+before-within p zero s h = absurd (omega arith)
+before-within p (suc k) [] h = absurd (omega arith)
+before-within p (suc k) (b ∷ s) h = go (p b) h (before-within p k s)
+  where
+    go : (r : Bool) → elim r [ true ↦ 0 | false ↦ suc (before p (take k s)) ] < suc (length (take k s))
+        → (before p (take k s) < length (take k s) → before p (take k s) ≡ before p s)
+        → _≡_ {A = ℕ} (elim r [ true ↦ 0 | false ↦ suc (before p (take k s)) ]) (elim r [ true ↦ 0 | false ↦ suc (before p s) ])
+    go true l f = refl
+    go false l f = ap suc (f (omega arith))
+
+pub before-beyond : (p : ℕ → Bool) (k : ℕ) (s : List ℕ) → k ≤ before p (take k s) → k ≤ before p s
+unfolding before
+before-beyond p zero s h = omega arith
+before-beyond p (suc k) [] h = h
+before-beyond p (suc k) (b ∷ s) h = go (p b) h (before-beyond p k s)
+  where
+    go : (r : Bool) → suc k ≤ elim r [ true ↦ 0 | false ↦ suc (before p (take k s)) ] → (k ≤ before p (take k s) → k ≤ before p s)
+        → suc k ≤ elim r [ true ↦ 0 | false ↦ suc (before p s) ]
+    go true l f = absurd (omega arith)
+    go false l f = let m : k ≤ before p s = f (omega arith) in omega arith
+
 -- ---- from the end
 
 -- none of the bytes passed, from the end down to e, is of the kind

@@ -4,7 +4,7 @@ use crate::places;
 use tables::keys;
 use words::Match;
 ghost use mathlib.Core.Path.{_≡_};
-ghost use Prim.Native.Nat.{_<_};
+ghost use Prim.Native.Nat.{_<_, min};
 ghost use Rattle.escapes.specs.Keys.{controlByte, keyWith, keyEscape};
 
 const KEY_BYTES: [u8; 28] = *b"ctrlcntrlcontrolcmcbmshshift";
@@ -59,12 +59,23 @@ fn key_with(key: u8, b: u8, count: u64) -> Escape
     }
 }
 
-// The escape of a name that is a prefix, a mark and one byte.
+fn at_most_eight(n: usize) -> usize
+    ensures { λ r. ⌜ r ≡ min n 8 ⌝ }
+{
+    if n < 8 {
+        return n;
+    }
+    8
+}
+
+// The escape of a name that is a prefix, a mark and one byte. No prefix has more than seven bytes, so its mark is one of the first
+// eight: a long text between braces is not gone through.
 pub fn key_escape(name: &[u8], count: u64) -> Escape
     ensures { λ r. ⌜ r ≡ keyEscape (now (name .entry)) count ⌝ }
 {
-    let mark = places::before_mark(name);
-    if name.len() <= mark {
+    let reach = at_most_eight(name.len());
+    let mark = places::before_mark(&name[..reach]);
+    if reach <= mark {
         return Escape::Unknown;
     }
     let from = mark + 1;
