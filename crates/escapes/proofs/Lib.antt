@@ -1,3 +1,4 @@
+pub mod Counting
 pub mod Keying
 pub mod Numbering
 pub mod Placing

@@ -2,6 +2,7 @@
 -- Assumes nothing.
 use Prim.Native.Nat.{ℕ, zero, suc, _-_}
 use mathlib.Core.Path.{_≡_, refl, sym, ap, _∙_}
+use mathlib.Core.Bool.{Bool, false}
 use mathlib.Core.List.{List, [], _∷_}
 use native.Mathlib.Omega.{arith}
 use lib.ListN.{length, take, drop}
@@ -11,12 +12,13 @@ use Rattle.words.specs.declared.Match.{Match}
 use Rattle.words.specs.declared.Match.the-variants.{Word, Nothing}
 use Rattle.tables.specs.Escapes.{escapeNames}
 use Rattle.escapes.specs.Places.{equals, behindLast}
-use Rattle.escapes.specs.Numbers.{numberOf, hexOf, countOf}
+use Rattle.escapes.specs.Numbers.{numberOf, hexOf, countOf, countable}
 use Rattle.escapes.specs.Keys.{keyEscape}
 use Rattle.escapes.specs.Escape.{nameEscape, repeated, starred, escapeOf}
 use Rattle.escapes.specs.declared.numbers.Number.{Number}
 use Rattle.escapes.specs.declared.numbers.Number.the-variants.{Value, Missing}
 use Rattle.escapes.specs.declared.Escape.the-variants.{Byte, Unknown}
+use Rattle.escapes.proofs.Counting.{uncounted}
 use Rattle.escapes.proofs.Placing.{tail-is}
 
 -- ---- a name
@@ -64,6 +66,15 @@ repeated-some : (t : List ℕ) (n k : ℕ) → (k ≡ 0 → ⊥) → repeated t 
 unfolding repeated
 repeated-some t n zero h = absurd (h refl)
 repeated-some t n (suc k) h = refl
+
+-- where no count can stand at the end, the last * does not matter
+pub escape-countless : (inside : List ℕ) {t : List ℕ} {r : Bool} → t ≡ trim inside → r ≡ countable t → r ≡ false → nameEscape t 1 ≡ escapeOf inside
+unfolding escapeOf starred repeated
+escape-countless inside {t} trimmed q f = rw (← trimmed) (go (behindLast (equals 42) t))
+  where
+    go : (n : ℕ) → nameEscape t 1 ≡ starred t n
+    go zero = refl
+    go (suc n) = ap (repeated t n) (sym (uncounted t (sym q ∙ f) (suc n)))
 
 module _ (inside : List ℕ) {t : List ℕ} {star : ℕ} (trimmed : t ≡ trim inside) (s : star ≡ behindLast (equals 42) t) where
   is-starred : starred t star ≡ escapeOf inside

@@ -34,6 +34,10 @@ pub fn resolve_petscii_escape(inside: &[u8], bytes: &[u8], starts: &[u16], token
     ensures { λ r. ⌜ r ≡ escapeOf (now (inside .entry)) ⌝ }
 {
     let text = ascii::trim(inside);
+    // A count ends in a digit: most escapes have none, and no `*` is looked for.
+    if !numbers::may_end_in_count(text) {
+        return resolve_name(text, 1, bytes, starts, tokens);
+    }
     let star = places::behind_last(text, b'*');
     if star == 0 {
         return resolve_name(text, 1, bytes, starts, tokens);

@@ -1,7 +1,7 @@
 // Numbers in an escape. A number that passes its limit is none, however many digits follow.
 ghost use mathlib.Core.Path.{_≡_};
 ghost use Prim.Native.Nat.{_≤_, _<_};
-ghost use Rattle.escapes.specs.Numbers.{digitOf, numberOf, hexOf, countOf, unsigned};
+ghost use Rattle.escapes.specs.Numbers.{digitOf, numberOf, hexOf, countOf, unsigned, countable};
 
 pub enum Number {
     Value(u64),
@@ -82,4 +82,19 @@ pub fn count_of(s: &[u8]) -> u64
         Number::Value(n) => n,
         Number::Missing => 0,
     }
+}
+
+// Whether a count can stand at the end of a text: only where the last byte is a digit or white space.
+pub fn may_end_in_count(text: &[u8]) -> bool
+    ensures { λ r. ⌜ r ≡ countable (now (text .entry)) ⌝ }
+{
+    let n = text.len();
+    if n == 0 {
+        return false;
+    }
+    let last = text[n - 1];
+    if ascii::is_digit(last) {
+        return true;
+    }
+    ascii::is_space(last)
 }

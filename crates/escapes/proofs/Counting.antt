@@ -1,0 +1,128 @@
+-- A text whose last byte is neither a digit nor white space has no count at its end, wherever one might begin.
+-- Assumes nothing.
+use Prim.Native.Nat.{ℕ, zero, suc, _+_, _-_, _*_, _^_, _≤_}
+use mathlib.Core.Path.{_≡_, refl, sym, ap, _∙_}
+use mathlib.Core.Bool.{Bool, true, false, _||_, false≢true}
+use mathlib.Core.List.{List, [], _∷_}
+use native.Mathlib.Omega.{arith}
+use lib.ListN.{length, getD, take, drop}
+use lib.Dec.{ltb, eqb}
+use borrow.Author.Tests.{le-ltb}
+use Rattle.ascii.specs.Bytes.{between, isDigit, isLetter, isSpace, upper}
+use Rattle.ascii.specs.Trim.{trim, leading, solid, countsWith}
+use Rattle.ascii.proofs.Ranges.{between-in}
+use Rattle.escapes.specs.Numbers.{digitOf, numberAfter, numberOf, unsigned, countOf, lastFrom, lastOf, countable}
+use Rattle.escapes.specs.declared.numbers.Number.the-variants.{Missing}
+use Rattle.escapes.proofs.Numbering.{digit-letter, digit-none}
+use Rattle.escapes.proofs.Placing.{tail-is}
+
+-- ---- the last byte
+
+last-from : (b : ℕ) (s : List ℕ) → getD (b ∷ s) (length s) 0 ≡ lastFrom b s
+unfolding lastFrom
+last-from b [] = refl
+last-from b (c ∷ s) = last-from c s
+
+last-is : (t : List ℕ) → getD t (length t - 1) 0 ≡ lastOf t
+unfolding lastOf
+last-is [] = refl
+last-is (b ∷ s) = let e : suc (length s) - 1 ≡ length s = omega arith in ap (λ (n : ℕ). getD (b ∷ s) n 0) e ∙ last-from b s
+
+-- what is left from a place on has the same last byte, or none
+last-drop : (p : ℕ → Bool) → p 0 ≡ false → (k : ℕ) (t : List ℕ) → p (lastOf t) ≡ false → p (lastOf (drop k t)) ≡ false
+unfolding lastOf lastFrom
+last-drop p z zero t e = e
+last-drop p z (suc k) [] e = e
+last-drop p z (suc k) (b ∷ []) e = last-drop p z k [] z
+last-drop p z (suc k) (b ∷ c ∷ s) e = last-drop p z k (c ∷ s) e
+
+-- ---- a number ends in a digit
+
+no-digit : (b : ℕ) → isDigit b ≡ false → 10 ≤ digitOf b
+no-digit b e = go (isLetter b) refl
+  where
+    go : (r : Bool) → isLetter b ≡ r → 10 ≤ digitOf b
+    go true f = omega (arith, between-in 65 90 (upper b) f, digit-letter b e f)
+    go false f = omega (arith, digit-none b e f)
+
+unended : (limit n b : ℕ) (s : List ℕ) → isDigit (lastFrom b s) ≡ false → numberAfter 10 limit n (b ∷ s) ≡ Missing
+unfolding numberAfter lastFrom
+unended limit n b [] e = rw (numberAfter, le-ltb _ _ (no-digit b e))
+unended limit n b (c ∷ s) e = go (ltb (digitOf b) 10) (unended limit (n * 10 + digitOf b) c s e)
+  where
+    go : (r : Bool) → numberAfter 10 limit (n * 10 + digitOf b) (c ∷ s) ≡ Missing
+        → elim r [ true ↦ numberAfter 10 limit (n * 10 + digitOf b) (c ∷ s) | false ↦ Missing ] ≡ Missing
+    go true m = m
+    go false m = refl
+
+no-number : (limit : ℕ) (s : List ℕ) → isDigit (lastOf s) ≡ false → numberOf 10 limit s ≡ Missing
+unfolding numberOf lastOf
+no-number limit [] e = refl
+no-number limit (b ∷ s) e = unended limit 0 b s e
+
+zero-no-digit : isDigit 0 ≡ false
+unfolding between
+zero-no-digit = refl
+
+zero-no-space : isSpace 0 ≡ false
+unfolding between
+zero-no-space = refl
+
+last-unsigned : (s : List ℕ) → isDigit (lastOf s) ≡ false → isDigit (lastOf (unsigned s)) ≡ false
+unfolding unsigned
+last-unsigned [] e = e
+last-unsigned (b ∷ s) e = go (eqb b 43)
+  where
+    go : (r : Bool) → isDigit (lastOf (elim r [ true ↦ s | false ↦ b ∷ s ])) ≡ false
+    go true = last-drop isDigit zero-no-digit 1 (b ∷ s) e
+    go false = e
+
+no-count : (s : List ℕ) → isDigit (lastOf s) ≡ false → countOf s ≡ 0
+unfolding countOf
+no-count s e = rw (countOf, no-number (2 ^ 64 - 1) (unsigned s) (last-unsigned s e))
+
+-- ---- no white space at the end to trim
+
+solid-whole : (t : List ℕ) → isSpace (lastOf t) ≡ false → solid t ≡ length t
+unfolding solid countsWith lastOf lastFrom
+solid-whole [] e = refl
+solid-whole (b ∷ []) e = rw (countsWith, e)
+solid-whole (b ∷ c ∷ s) e = ap (countsWith b) (solid-whole (c ∷ s) e)
+
+trim-front : (t : List ℕ) → isSpace (lastOf t) ≡ false → trim t ≡ drop (leading t) t
+unfolding trim
+trim-front t e = ap (λ (n : ℕ). take (n - leading t) (drop (leading t) t)) (solid-whole t e) ∙ tail-is (leading t) t
+
+-- ---- both
+
+neither : (a b : Bool) → (a || b) ≡ false → (a ≡ false) × (b ≡ false)
+neither true b e = absurd (false≢true (sym e))
+neither false b e = (refl, e)
+
+pub uncounted : (t : List ℕ) → countable t ≡ false → (k : ℕ) → countOf (trim (drop k t)) ≡ 0
+unfolding countable
+uncounted t u k =
+    let n = neither (isDigit (lastOf t)) (isSpace (lastOf t)) u in
+    let rest = drop k t in
+    let digit : isDigit (lastOf rest) ≡ false = last-drop isDigit zero-no-digit k t (n .0) in
+    let space : isSpace (lastOf rest) ≡ false = last-drop isSpace zero-no-space k t (n .1) in
+    ap countOf (trim-front rest space) ∙ no-count (drop (leading rest) rest) (last-drop isDigit zero-no-digit (leading rest) rest digit)
+
+-- ---- the test of the last byte
+
+pub countable-empty : (t : List ℕ) → length t ≡ 0 → false ≡ countable t
+unfolding countable lastOf between
+countable-empty [] e = refl
+countable-empty (b ∷ t) e = absurd (omega arith)
+
+module _ (t : List ℕ) {d : Bool} (p : d ≡ isDigit (getD t (length t - 1) 0)) where
+  is-digit : d ≡ isDigit (lastOf t)
+  is-digit = p ∙ ap isDigit (last-is t)
+
+  pub countable-digit : d ≡ true → true ≡ countable t
+  unfolding countable
+  countable-digit e = rw (sym is-digit ∙ e)
+
+  pub countable-space : d ≡ false → {r : Bool} → r ≡ isSpace (getD t (length t - 1) 0) → r ≡ countable t
+  unfolding countable
+  countable-space e q = rw (sym is-digit ∙ e) (q ∙ ap isSpace (last-is t))
