@@ -1,5 +1,1 @@
-pub mod Ahead
-pub mod Evidence
 pub mod Guess
-pub mod Places
-pub mod Variables

@@ -1,0 +1,5 @@
+pub mod Behind
+pub mod Passes
+pub mod Places
+pub mod Steps
+pub mod Words

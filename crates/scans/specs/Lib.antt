@@ -1,0 +1,4 @@
+pub mod Ahead
+pub mod Evidence
+pub mod Places
+pub mod Variables

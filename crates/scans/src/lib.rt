@@ -1,0 +1,5 @@
+// Both scans of a line: whether it proves that a text is TSB, and which TSB words it uses as variables.
+mod ahead;
+pub mod evidence;
+mod place;
+pub mod variables;
