@@ -2,10 +2,11 @@
 use crate::dialects;
 use crate::frames;
 use crate::rooms;
-use dialects::Meant;
 use frames::Answer;
 use guess::resolve;
 use guess::resolve::Resolved;
+use tables::dialect;
+use tables::dialect::Named;
 
 pub fn crunch(payload: &[u8], room: &mut [u8]) -> bool {
     if payload.len() < 7 {
@@ -16,7 +17,7 @@ pub fn crunch(payload: &[u8], room: &mut [u8]) -> bool {
     if size > room.len() {
         return Answer::malformed().send();
     }
-    let Meant::Dialect(dialect) = dialects::dialect_of(payload[2]) else {
+    let Named::Known(dialect) = dialect::dialect_by_number(payload[2]) else {
         return Answer::malformed().send();
     };
     rooms::fill(&mut room[0..size]);
@@ -29,13 +30,13 @@ pub fn room_for_crunch(payload: &[u8]) -> bool {
         return Answer::malformed().send();
     }
     let load = frames::u16_at(payload, 0);
-    match dialects::dialect_of(payload[2]) {
-        Meant::Dialect(dialect) => frames::length_of(image::room(
+    match dialect::dialect_by_number(payload[2]) {
+        Named::Known(dialect) => frames::length_of(image::room(
             &payload[3..],
             load,
             dialect,
         )).send(),
-        Meant::Nothing => Answer::malformed().send(),
+        Named::Refused(_) => Answer::malformed().send(),
     }
 }
 
@@ -43,9 +44,9 @@ pub fn resolved_dialect(payload: &[u8]) -> bool {
     if payload.len() < 1 {
         return Answer::malformed().send();
     }
-    match dialects::dialect_of(payload[0]) {
-        Meant::Dialect(dialect) => send_resolved(resolve::resolved_dialect(&payload[1..], dialect)),
-        Meant::Nothing => Answer::malformed().send(),
+    match dialect::dialect_by_number(payload[0]) {
+        Named::Known(dialect) => send_resolved(resolve::resolved_dialect(&payload[1..], dialect)),
+        Named::Refused(_) => Answer::malformed().send(),
     }
 }
 
