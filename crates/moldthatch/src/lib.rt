@@ -1,0 +1,80 @@
+// The library for C and for Rust: its calls take and give numbers and slices. A dialect is 0 for Auto, 1 for BASIC V2, 2 for TSB.
+use readers::Checked;
+use readers::links;
+use refusals::Code;
+use tables::dialect;
+use tables::dialect::Named;
+ghost use mathlib.Core.Path.{_≡_};
+ghost use Rattle.refusals.specs.Code.{lengthCode};
+ghost use Rattle.refusals.specs.Lent.{intoBuffer, roomFor};
+ghost use Rattle.readers.specs.Answers.{checkedAnswer};
+ghost use Rattle.readers.specs.Lines.{overview};
+ghost use Rattle.readers.specs.Links.{linkStep};
+ghost use Rattle.listing.specs.Listing.{listing};
+ghost use Rattle.moldthatch.specs.Told.{crunchedBy, told, overviewCode};
+
+// Crunches a text into the start of a buffer: the image's length.
+#[no_mangle]
+pub extern "C" fn moldthatch_crunch(text: &[u8], load: u16, dialect: u8, out: &mut [u8]) -> Code
+    ensures { λ r. ⌜ record { code = r; buffer = now (out .exit) } ≡ told (intoBuffer (crunchedBy dialect load (now (text .entry))) (now (out .entry))) ⌝ }
+{
+    match dialect::dialect_by_number(dialect) {
+        Named::Known(known) => refusals::outcome_code(image::crunch(text, load, known, out)),
+        Named::Refused(refusal) => refusals::refusal_code(refusal),
+    }
+}
+
+// The room that the image of a text needs.
+#[no_mangle]
+pub extern "C" fn moldthatch_crunch_room(text: &[u8], load: u16, dialect: u8) -> Code
+    ensures { λ r. ⌜ r ≡ lengthCode (roomFor (crunchedBy dialect load (now (text .entry)))) ⌝ }
+{
+    match dialect::dialect_by_number(dialect) {
+        Named::Known(known) => refusals::outcome_code(image::room(text, load, known)),
+        Named::Refused(refusal) => refusals::refusal_code(refusal),
+    }
+}
+
+// Lists an image into the start of a buffer: the listing's length.
+#[no_mangle]
+pub extern "C" fn moldthatch_list(image: &[u8], out: &mut [u8]) -> Code
+    ensures { λ r. ⌜ record { code = r; buffer = now (out .exit) } ≡ told (intoBuffer (listing (now (image .entry))) (now (out .entry))) ⌝ }
+{
+    refusals::outcome_code(listing::list(image, out))
+}
+
+// The room that the listing of an image needs.
+#[no_mangle]
+pub extern "C" fn moldthatch_list_room(image: &[u8]) -> Code
+    ensures { λ r. ⌜ r ≡ lengthCode (roomFor (listing (now (image .entry)))) ⌝ }
+{
+    refusals::outcome_code(listing::room(image))
+}
+
+// Reads a whole image by its links: its load address and how many lines it has.
+#[no_mangle]
+pub extern "C" fn moldthatch_check(image: &[u8]) -> Code
+    ensures { λ r. ⌜ r ≡ overviewCode (overview linkStep (now (image .entry))) ⌝ }
+{
+    checked_code(links::check(image))
+}
+
+fn checked_code(checked: Checked) -> Code
+    ensures { λ r. ⌜ r ≡ overviewCode (checkedAnswer checked) ⌝ }
+{
+    match checked {
+        Checked::Image { load, lines } => Code {
+            number: 0,
+            count: 2,
+            first: wide(load),
+            second: lines,
+        },
+        Checked::Refused(refusal) => refusals::refusal_code(refusal),
+    }
+}
+
+fn wide(x: u16) -> usize
+    ensures { λ r. ⌜ r ≡ x ⌝ }
+{
+    x as usize
+}
