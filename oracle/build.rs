@@ -9,7 +9,7 @@ use std::path::{Path, PathBuf};
 
 const MODULES: [&str; 4] = ["petscii", "prg", "source", "tokens"];
 
-fn main() {
+pub fn main() {
     println!("cargo::rerun-if-env-changed=ORIGINAL");
     println!("cargo::rerun-if-changed=build.rs");
     let folder = std::env::var_os("ORIGINAL").expect("ORIGINAL names the original's folder");

@@ -1,0 +1,148 @@
+//! What is measured: the five tasks, the hostile texts, and what is asked how it grows.
+
+use crate::hostile;
+use crate::lifelike::{self, Kind};
+use crate::moldthatch::{self, Dialect};
+use crate::sides::Work;
+
+pub struct Subject {
+    pub name: &'static str,
+    pub work: Work,
+}
+
+/// Texts crunched under Auto, of a size and of twice that size.
+pub struct Growing {
+    pub name: &'static str,
+    pub text: fn(usize) -> String,
+    pub size: usize,
+}
+
+impl Growing {
+    pub fn work(&self, size: usize) -> Work {
+        Work::Crunch {
+            text: (self.text)(size),
+            dialect: Dialect::Auto,
+        }
+    }
+}
+
+/// The size of a program that nearly fills a disk magazine's page.
+const PROGRAM: usize = 40_000;
+
+/// A text may have so many bytes.
+const MEGABYTE: usize = 1_048_576;
+
+pub fn tasks() -> Vec<Subject> {
+    let v2 = lifelike::program(Kind::V2, PROGRAM);
+    let tsb = lifelike::program(Kind::Tsb, PROGRAM);
+    let image = moldthatch::crunched(tsb.as_bytes(), 0x0801, Dialect::Tsb)
+        .expect("a life-like program has an image");
+    vec![
+        crunch("crunch, Auto, V2 text", v2.clone(), Dialect::Auto),
+        crunch("crunch, Auto, TSB text", tsb.clone(), Dialect::Auto),
+        crunch("crunch, BasicV2", v2, Dialect::BasicV2),
+        crunch("crunch, Tsb", tsb, Dialect::Tsb),
+        Subject {
+            name: "list",
+            work: Work::List { image },
+        },
+    ]
+}
+
+/// The texts that the bar names, and their kin.
+pub fn hostile() -> Vec<Subject> {
+    let auto = |name, text| crunch(name, text, Dialect::Auto);
+    vec![
+        auto("string of {", hostile::braces(60_000)),
+        auto("string of { and one }", hostile::closed_braces(4_000)),
+        auto("MAP( in MAP(", hostile::nested_calls(20_000)),
+        auto("a megabyte on one line", hostile::one_line(MEGABYTE)),
+        auto("a megabyte of one letter", hostile::one_letter(MEGABYTE)),
+        auto("spaces, one line", hostile::spaces(100_000)),
+        auto("a megabyte of spaces", hostile::spaces(MEGABYTE)),
+        auto("tabs, one line", hostile::tabs(100_000)),
+        auto("line ends", hostile::line_ends(100_000)),
+        auto("white space of all kinds", hostile::white_space(100_000)),
+        auto("one line in blanks", hostile::blanks_around(100_000)),
+        auto("lines of Q", hostile::no_words(PROGRAM)),
+        auto("lines of R", hostile::many_words(PROGRAM)),
+        auto("marks", hostile::marks(PROGRAM)),
+        auto("CR for line ends", hostile::carriage_returns(PROGRAM)),
+        list("list, tokens", &[0x99, 0x20, 0xB2]),
+        list("list, codes in braces", &[0x01, 0x9B, 0x22, 0xF0]),
+        list("list, letters", b"HELLO "),
+    ]
+}
+
+/// Texts that no author writes and on which the original is faster, or no slower:
+/// shown, and not part of the verdict.
+pub fn slower() -> Vec<Subject> {
+    let of = crunch;
+    vec![
+        of(
+            "escapes without a known name",
+            hostile::unknown_escapes(PROGRAM),
+            Dialect::Auto,
+        ),
+        of(
+            "the last escape of the list",
+            hostile::late_escapes(PROGRAM),
+            Dialect::Auto,
+        ),
+        of(
+            "MAP( in MAP(, closed, and =",
+            hostile::closed_calls(20_000),
+            Dialect::Auto,
+        ),
+        of(
+            "words cut short, BasicV2",
+            hostile::nearly_words(PROGRAM),
+            Dialect::BasicV2,
+        ),
+        of(
+            "words cut short, Tsb",
+            hostile::nearly_words(PROGRAM),
+            Dialect::Tsb,
+        ),
+        list("list, TSB words", &[0x64, 0x01, 0x64, 0x76]),
+    ]
+}
+
+pub fn growing() -> Vec<Growing> {
+    let of = |name, text, size| Growing { name, text, size };
+    vec![
+        of(
+            "life-like V2 text",
+            |size| lifelike::program(Kind::V2, size),
+            20_000,
+        ),
+        of(
+            "life-like TSB text",
+            |size| lifelike::program(Kind::Tsb, size),
+            20_000,
+        ),
+        of("string of {", hostile::braces, 30_000),
+        of("string of {, to a megabyte", hostile::braces, MEGABYTE / 2),
+        of("string of { and one }", hostile::closed_braces, 4_000),
+        of("MAP( in MAP(", hostile::nested_calls, 20_000),
+        of("one line, to a megabyte", hostile::one_line, MEGABYTE / 2),
+        of("spaces, to a megabyte", hostile::spaces, MEGABYTE / 2),
+        of("line ends, to a megabyte", hostile::line_ends, MEGABYTE / 2),
+    ]
+}
+
+fn crunch(name: &'static str, text: String, dialect: Dialect) -> Subject {
+    Subject {
+        name,
+        work: Work::Crunch { text, dialect },
+    }
+}
+
+fn list(name: &'static str, piece: &[u8]) -> Subject {
+    Subject {
+        name,
+        work: Work::List {
+            image: hostile::image(piece, PROGRAM),
+        },
+    }
+}
