@@ -27,7 +27,7 @@ fn main() -> ExitCode {
         [] => {
             let rows = speed::table();
             growth::table();
-            let beyond = speed::slower_table();
+            let beyond = speed::further_table();
             speed::verdict(&rows, &beyond)
         }
         // A run of its own, which growth::table can cut off.

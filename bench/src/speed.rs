@@ -35,10 +35,10 @@ pub fn table() -> Vec<Row> {
     rows("task", subjects)
 }
 
-/// Measures and prints what the original is known to be faster at.
-pub fn slower_table() -> Vec<Row> {
+/// Measures and prints what is outside the verdict.
+pub fn further_table() -> Vec<Row> {
     println!();
-    rows("slower here", subjects::slower())
+    rows("further texts, no bar", subjects::further())
 }
 
 fn rows(title: &str, subjects: Vec<Subject>) -> Vec<Row> {

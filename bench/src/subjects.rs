@@ -74,9 +74,9 @@ pub fn hostile() -> Vec<Subject> {
     ]
 }
 
-/// Texts that no author writes and on which the original is faster, or no slower:
-/// shown, and not part of the verdict.
-pub fn slower() -> Vec<Subject> {
+/// Texts that no author writes and that no bar stands for: on some of them the
+/// original is faster. Shown, and not part of the verdict.
+pub fn further() -> Vec<Subject> {
     let of = crunch;
     vec![
         of(
