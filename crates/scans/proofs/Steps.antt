@@ -10,6 +10,7 @@ use lib.Dec.{eqb}
 use lib.ListN.{length, getD, take, drop, drop-of-length-le, length-drop}
 use lib.Seq.{drop-cons, drop-drop}
 use borrow.Author.Tests.{eq-eqb, ne-eqb}
+use Rattle.ascii.specs.Bytes.{between, upper}
 use Rattle.words.specs.Compare.{begins}
 use Rattle.words.specs.Find.{wordIn}
 use Rattle.words.specs.declared.Match.{Match}
@@ -84,6 +85,11 @@ module _ (place : Place) (t : List ℕ) {m : Match} (p : m ≡ wordIn tsbWords t
   no-word-proves e = rw (sym p ∙ e)
 
 -- ---- a step outside strings and DATA
+
+pub plain-space : (place : Place) (t : List ℕ) → getD t 0 0 ≡ 0x20 → Move 1 place ≡ plainStep place t
+unfolding plainStep wordStep begins ofKind upper between
+plain-space place [] e = absurd (omega arith)
+plain-space place (b ∷ s) e = rw e
 
 module _ (place : Place) (t : List ℕ) where
   pub plain-quote : getD t 0 0 ≡ 0x22 → Move 1 Quoted ≡ plainStep place t

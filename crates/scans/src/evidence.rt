@@ -91,6 +91,10 @@ fn plain_step(place: Place, text: &[u8], bytes: &[u8], starts: &[u16], tokens: &
     ensures { λ r. ⌜ r ≡ plainStep place (now (text .entry)) ⌝ }
 {
     let b = text[0];
+    // A space begins no word: it is asked for first, since no byte is more frequent.
+    if b == 0x20 {
+        return moved(1, place);
+    }
     if b == 0x22 {
         return moved(1, Place::Quoted);
     }
