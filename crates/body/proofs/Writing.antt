@@ -9,7 +9,8 @@ use native.Mathlib.Omega.{arith}
 use lib.Dec.{T}
 use lib.ListN.{length, drop, set, replicate, length-append, length-set, length-drop, length-replicate, drop-of-length-le}
 use lib.Seq.{sets, drop-drop}
-use Rattle.stores.specs.Stores.{Room, Put, put-long, put-as, room-as, room-first, room-second, put-both, put-none}
+use Rattle.lent.specs.Stores.{Room, Put}
+use Rattle.lent.proofs.Storing.{put-long, put-as, room-as, room-first, room-second, put-both, put-none}
 use Rattle.body.specs.Body.{prefixOf, written, bodyFrom, bodyOf}
 use Rattle.body.specs.Lexicon.{Lexicon}
 use Rattle.body.specs.Proper.{proper}

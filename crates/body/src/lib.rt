@@ -4,7 +4,7 @@ use crate::moves::Move;
 ghost use mathlib.Core.Path.{_≡_};
 ghost use Prim.Native.Nat.{_+_, _<_, min};
 ghost use lib.ListN.{length, replicate};
-ghost use Rattle.stores.specs.Stores.{Room, Put};
+ghost use Rattle.lent.specs.Stores.{Room, Put};
 ghost use Rattle.body.specs.Body.{prefixOf, written, bodyOf};
 ghost use Rattle.body.specs.Lexicon.{lexicon};
 ghost use Rattle.body.specs.Lent.{Lends};

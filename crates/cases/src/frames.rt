@@ -3,8 +3,8 @@ ghost use mathlib.Core.Path.{_≡_};
 ghost use Prim.Native.Nat.{_+_, _*_, _^_, _≤_};
 ghost use lib.ListN.{length};
 ghost use Rattle.cases.specs.Frames.{u16At, u32At, u64At, Sendable};
+use lent::Outcome;
 use libc::STDOUT_FILENO;
-use refusals::Outcome;
 use refusals::Refusal;
 
 // The number of two bytes at a place, the low byte first; then of four and of eight.

@@ -19,10 +19,10 @@ use Rattle.lines.specs.declared.split.LineRule.the-variants.{AsGiven, AfterCr}
 use Rattle.lines.specs.declared.split.TextLine.{TextLine}
 use Rattle.lines.proofs.Splitting.{line-step, lines-end, line-behind}
 use Rattle.lines.proofs.Parts.{taken, left}
-use Rattle.scans.specs.Evidence.{lineEvidence}
-use Rattle.scans.specs.Variables.{lineNames}
+use Rattle.guess_scans.specs.Evidence.{lineEvidence}
+use Rattle.guess_scans.specs.Variables.{lineNames}
 use Rattle.guess.specs.Guess.{anyEvidence, evidence, allNames, none, all, names, guessedDialect, resolved, WordSets, wordSets}
-use Rattle.scans.proofs.Steps.{evidence-blank}
+use Rattle.guess_scans.proofs.Steps.{evidence-blank}
 
 -- ---- evidence
 

@@ -12,8 +12,8 @@ use Rattle.lines.specs.Domain.{checkedText}
 use Rattle.lines.specs.TextLines.{linesOf}
 use Rattle.lines.specs.declared.split.LineRule.{LineRule}
 use Rattle.lines.specs.declared.split.LineRule.the-variants.{AsGiven, AfterCr}
-use Rattle.scans.specs.Evidence.{lineEvidence}
-use Rattle.scans.specs.Variables.{lineNames}
+use Rattle.guess_scans.specs.Evidence.{lineEvidence}
+use Rattle.guess_scans.specs.Variables.{lineNames}
 use Rattle.guess.specs.declared.resolve.Resolved.{Resolved}
 use Rattle.guess.specs.declared.resolve.Resolved.the-variants.{Is, Refused}
 

@@ -1,11 +1,11 @@
 // The dialect of a text, and the TSB words that are live in it.
+use guess_scans::evidence;
+use guess_scans::variables;
 use lines::domain;
 use lines::domain::Checked;
 use lines::split;
 use lines::split::LineRule;
 use refusals::Refusal;
-use scans::evidence;
-use scans::variables;
 use tables::dialect::Dialect;
 use tables::spellings;
 ghost use mathlib.Core.Path.{_≡_};

@@ -7,7 +7,8 @@ use native.Mathlib.Omega.{arith}
 use lib.ListN.{length, take, drop, set, length-set, length-drop}
 use lib.Seq.{sets, take-all, length-sets}
 use borrow.Rule.Slice.PartMut.{midOf, putMid}
-use Rattle.stores.specs.Stores.{Room, Put, tail-put}
+use Rattle.lent.specs.Stores.{Room, Put}
+use Rattle.lent.proofs.Storing.{tail-put}
 use Rattle.layout.specs.Layout.{linkedBytes, linkOf, lineBytes, twoBytes}
 use Rattle.layout.proofs.Laying.{line-length}
 use Rattle.layout.proofs.Writing.{line-stored}

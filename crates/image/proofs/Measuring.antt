@@ -8,7 +8,7 @@ use native.Mathlib.Omega.{arith}
 use lib.ListN.{length, take, drop}
 use Rattle.refusals.specs.Numbers.{Numbered}
 use Rattle.refusals.specs.Answer.{Answer, done, refused, mapDone}
-use Rattle.refusals.specs.Lent.{roomFor}
+use Rattle.lent.specs.Lent.{roomFor}
 use Rattle.lines.specs.declared.split.TextLine.{TextLine}
 use Rattle.lines.specs.declared.split.LineRule.the-variants.{AfterCr}
 use Rattle.lines.specs.TextLines.{linesOf, lineFrom}

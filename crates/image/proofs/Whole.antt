@@ -5,7 +5,7 @@ use mathlib.Core.Path.{_≡_, sym, ap, _∙_}
 use mathlib.Core.Bool.{Bool}
 use mathlib.Core.List.{List}
 use Rattle.refusals.specs.Answer.{Answer, done, refused, numbered, mapDone, andThen}
-use Rattle.refusals.specs.Lent.{roomFor}
+use Rattle.lent.specs.Lent.{roomFor}
 use Rattle.refusals.specs.declared.Refusal.{Refusal}
 use Rattle.tables.specs.declared.dialect.Dialect.{Dialect}
 use Rattle.lines.specs.declared.domain.Checked.{Checked}

@@ -7,9 +7,11 @@ use native.Mathlib.Omega.{arith}
 use lib.ListN.{length, take, drop, length-append}
 use Rattle.refusals.specs.Numbers.{Numbered}
 use Rattle.refusals.specs.Answer.{Answer, done, refused, mapDone, andThen}
-use Rattle.refusals.specs.Lent.{Lent, intoBuffer}
-use Rattle.stores.specs.Stores.{Room, Put, put-long, put-both, put-none, put-as}
-use Rattle.stores.specs.Outcomes.{HasRoom, into-done}
+use Rattle.lent.specs.Lent.{Lent, intoBuffer}
+use Rattle.lent.specs.Stores.{Room, Put}
+use Rattle.lent.proofs.Storing.{put-long, put-both, put-none, put-as}
+use Rattle.lent.specs.Stores.{HasRoom}
+use Rattle.lent.proofs.Outcomes.{into-done}
 use Rattle.lines.specs.declared.split.TextLine.{TextLine}
 use Rattle.lines.specs.declared.split.LineRule.the-variants.{AfterCr}
 use Rattle.lines.specs.TextLines.{linesOf, lineFrom}

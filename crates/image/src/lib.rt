@@ -1,20 +1,20 @@
 // A text, crunched to an image.
 use guess::resolve;
+use lent::Outcome;
 use lines::domain;
 use lines::domain::Checked;
 use lines::number;
 use lines::number::Numbering;
 use lines::split;
 use lines::split::LineRule;
-use refusals::Outcome;
 use refusals::Refusal;
 use tables::dialect::Dialect;
 use tables::spellings;
 ghost use mathlib.Core.Path.{_≡_};
 ghost use Prim.Native.Nat.{_≤_};
-ghost use Rattle.refusals.specs.Lent.{intoBuffer, roomFor, outcomeAnswer, left};
-ghost use Rattle.stores.specs.Stores.{Room, Put};
-ghost use Rattle.stores.specs.Outcomes.{HasRoom};
+ghost use Rattle.lent.specs.Lent.{intoBuffer, roomFor, outcomeAnswer, left};
+ghost use Rattle.lent.specs.Stores.{Room, Put};
+ghost use Rattle.lent.specs.Stores.{HasRoom};
 ghost use Rattle.tables.specs.Words.{SpellsWords};
 ghost use Rattle.body.specs.Lent.{Lends};
 ghost use Rattle.body.specs.Lexicon.{lexicon};

@@ -7,7 +7,7 @@ use native.Mathlib.Omega.{arith}
 use lib.ListN.{length, set}
 use lib.Seq.{sets}
 use Rattle.readers.specs.NumberedBody.{NumberedBody}
-use Rattle.stores.specs.Stores.{sets-append, header}
+use Rattle.lent.proofs.Storing.{sets-append, header}
 use Rattle.layout.specs.Layout.{linkedBytes, linkOf, lineBytes, linesBytes, imageOf}
 use Rattle.layout.proofs.Laying.{line-length}
 

@@ -5,7 +5,8 @@ use mathlib.Core.Path.{_≡_, refl, sym, ap, _∙_}
 use mathlib.Core.List.{List, [], _∷_, _++_}
 use native.Mathlib.Omega.{arith}
 use lib.ListN.{length, length-append}
-use Rattle.stores.specs.Stores.{Room, Put, room-first, room-second, put-both}
+use Rattle.lent.specs.Stores.{Room, Put}
+use Rattle.lent.proofs.Storing.{room-first, room-second, put-both}
 use Rattle.listing.specs.Body.{places, decimal, bodyListing, lineListing}
 use Rattle.listing.proofs.Digits.{places-most, decimal-long}
 use Rattle.listing.proofs.Progress.{body-short}

@@ -8,7 +8,8 @@ use native.Mathlib.Numerals.{add-one}
 use native.Mathlib.Omega.{arith}
 use lib.ListN.{length, getD, drop, length-append, length-drop, drop-of-length-le}
 use lib.Seq.{drop-cons, drop-drop}
-use Rattle.stores.specs.Stores.{Room, Put, put-long, put-both, put-none}
+use Rattle.lent.specs.Stores.{Room, Put}
+use Rattle.lent.proofs.Storing.{put-long, put-both, put-none}
 use Rattle.pieces.specs.Pieces.{Shown, shown, pieceText, listedAs}
 use Rattle.pieces.specs.declared.Listed.{Listed}
 use Rattle.listing.specs.Body.{shownWithin, bodyListing}

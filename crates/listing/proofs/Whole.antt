@@ -7,9 +7,11 @@ use native.Mathlib.Omega.{arith}
 use lib.ListN.{length, length-append}
 use Rattle.refusals.specs.Numbers.{Numbered}
 use Rattle.refusals.specs.Answer.{Answer, done, refused, mapDone}
-use Rattle.refusals.specs.Lent.{Lent, intoBuffer, roomFor}
-use Rattle.stores.specs.Stores.{Room, Put, room-first, room-second, put-long, put-both, put-none}
-use Rattle.stores.specs.Outcomes.{HasRoom, into-done}
+use Rattle.lent.specs.Lent.{Lent, intoBuffer, roomFor}
+use Rattle.lent.specs.Stores.{Room, Put}
+use Rattle.lent.proofs.Storing.{room-first, room-second, put-long, put-both, put-none}
+use Rattle.lent.specs.Stores.{HasRoom}
+use Rattle.lent.proofs.Outcomes.{into-done}
 use Rattle.readers.specs.declared.Line.{Line}
 use Rattle.readers.specs.Image.{line, end}
 use Rattle.readers.specs.Lines.{LiesAt, Sound}

@@ -3,7 +3,7 @@ use crate::decimal;
 ghost use mathlib.Core.Path.{_≡_};
 ghost use Prim.Native.Nat.{_≤_};
 ghost use lib.ListN.{length};
-ghost use Rattle.stores.specs.Stores.{Room, Put};
+ghost use Rattle.lent.specs.Stores.{Room, Put};
 ghost use Rattle.tables.specs.Texts.{SpellsTexts, hexDigits};
 ghost use Rattle.listing.specs.Body.{bodyListing, lineListing};
 

@@ -2,7 +2,7 @@
 ghost use mathlib.Core.Path.{_≡_};
 ghost use mathlib.Core.List.{[], _∷_};
 ghost use Prim.Native.Nat.{_+_, _/_, _%_, _<_};
-ghost use Rattle.stores.specs.Stores.{Room, Put};
+ghost use Rattle.lent.specs.Stores.{Room, Put};
 ghost use Rattle.listing.specs.Body.{places as placesOf, decimal};
 
 // How many digits a number takes.

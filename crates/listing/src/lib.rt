@@ -1,14 +1,14 @@
 // The listing of an image.
+use lent::Outcome;
 use readers::Step;
 use readers::terminators;
-use refusals::Outcome;
 use refusals::Refusal;
 use tables::petscii;
 use tables::texts;
 ghost use mathlib.Core.Path.{_≡_};
-ghost use Rattle.refusals.specs.Lent.{intoBuffer, roomFor, outcomeAnswer, left};
+ghost use Rattle.lent.specs.Lent.{intoBuffer, roomFor, outcomeAnswer, left};
 ghost use Rattle.tables.specs.Texts.{SpellsTexts, hexDigits};
-ghost use Rattle.stores.specs.Outcomes.{HasRoom};
+ghost use Rattle.lent.specs.Stores.{HasRoom};
 ghost use Rattle.listing.specs.Listing.{listing};
 
 pub mod body;

@@ -5,9 +5,9 @@ use mathlib.Core.Path.{_≡_, sym, ap, _∙_}
 use mathlib.Core.List.{List}
 use Rattle.refusals.specs.Answer.{Answer, refused, numbered, andThen}
 use Rattle.refusals.specs.Code.{codeOf, lengthCode}
-use Rattle.refusals.specs.Lent.{Lent, intoBuffer, roomFor, outcomeAnswer, left}
+use Rattle.lent.specs.Lent.{Lent, intoBuffer, roomFor, outcomeAnswer, left}
 use Rattle.refusals.specs.declared.Code.{Code}
-use Rattle.refusals.specs.declared.Outcome.{Outcome}
+use Rattle.lent.specs.declared.Outcome.{Outcome}
 use Rattle.refusals.specs.declared.Refusal.{Refusal}
 use Rattle.tables.specs.Dialects.{byNumber, namedAnswer}
 use Rattle.tables.specs.declared.dialect.Dialect.{Dialect}

@@ -4,7 +4,7 @@ use Prim.Native.Nat.{ℕ}
 use mathlib.Core.List.{List, [], _∷_}
 use Rattle.refusals.specs.Answer.{Answer, done, refused, andThen}
 use Rattle.refusals.specs.Code.{answerCode, lengthCode}
-use Rattle.refusals.specs.Lent.{Lent}
+use Rattle.lent.specs.Lent.{Lent}
 use Rattle.refusals.specs.declared.Code.{Code}
 use Rattle.tables.specs.Dialects.{byNumber}
 use Rattle.readers.specs.Lines.{Overview}

@@ -6,7 +6,7 @@ use tables::dialect;
 use tables::dialect::Named;
 ghost use mathlib.Core.Path.{_≡_};
 ghost use Rattle.refusals.specs.Code.{lengthCode};
-ghost use Rattle.refusals.specs.Lent.{intoBuffer, roomFor};
+ghost use Rattle.lent.specs.Lent.{intoBuffer, roomFor};
 ghost use Rattle.readers.specs.Answers.{checkedAnswer};
 ghost use Rattle.readers.specs.Lines.{overview};
 ghost use Rattle.readers.specs.Links.{linkStep};
@@ -19,7 +19,7 @@ pub extern "C" fn moldthatch_crunch(text: &[u8], load: u16, dialect: u8, out: &m
     ensures { λ r. ⌜ record { code = r; buffer = now (out .exit) } ≡ told (intoBuffer (crunchedBy dialect load (now (text .entry))) (now (out .entry))) ⌝ }
 {
     match dialect::dialect_by_number(dialect) {
-        Named::Known(known) => refusals::outcome_code(image::crunch(text, load, known, out)),
+        Named::Known(known) => lent::outcome_code(image::crunch(text, load, known, out)),
         Named::Refused(refusal) => refusals::refusal_code(refusal),
     }
 }
@@ -30,7 +30,7 @@ pub extern "C" fn moldthatch_crunch_room(text: &[u8], load: u16, dialect: u8) ->
     ensures { λ r. ⌜ r ≡ lengthCode (roomFor (crunchedBy dialect load (now (text .entry)))) ⌝ }
 {
     match dialect::dialect_by_number(dialect) {
-        Named::Known(known) => refusals::outcome_code(image::room(text, load, known)),
+        Named::Known(known) => lent::outcome_code(image::room(text, load, known)),
         Named::Refused(refusal) => refusals::refusal_code(refusal),
     }
 }
@@ -40,7 +40,7 @@ pub extern "C" fn moldthatch_crunch_room(text: &[u8], load: u16, dialect: u8) ->
 pub extern "C" fn moldthatch_list(image: &[u8], out: &mut [u8]) -> Code
     ensures { λ r. ⌜ record { code = r; buffer = now (out .exit) } ≡ told (intoBuffer (listing (now (image .entry))) (now (out .entry))) ⌝ }
 {
-    refusals::outcome_code(listing::list(image, out))
+    lent::outcome_code(listing::list(image, out))
 }
 
 // The room that the listing of an image needs.
@@ -48,7 +48,7 @@ pub extern "C" fn moldthatch_list(image: &[u8], out: &mut [u8]) -> Code
 pub extern "C" fn moldthatch_list_room(image: &[u8]) -> Code
     ensures { λ r. ⌜ r ≡ lengthCode (roomFor (listing (now (image .entry)))) ⌝ }
 {
-    refusals::outcome_code(listing::room(image))
+    lent::outcome_code(listing::room(image))
 }
 
 // Reads a whole image by its links: its load address and how many lines it has.

@@ -1,6 +1,6 @@
 // What a program writes to standard output: the bytes of a result alone, or the number of the refusal on a line.
+use lent::Outcome;
 use libc::STDOUT_FILENO;
-use refusals::Outcome;
 use refusals::Refusal;
 
 // Writes the first bytes of a buffer, as many as there are, or the refusal; false where it cannot be written.

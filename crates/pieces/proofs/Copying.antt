@@ -7,7 +7,7 @@ use native.Mathlib.Numerals.{add-one}
 use native.Mathlib.Omega.{arith}
 use lib.ListN.{length, getD, drop, set, length-set, drop-of-length-le}
 use lib.Seq.{sets, drop-cons}
-use Rattle.stores.specs.Stores.{Room, Put}
+use Rattle.lent.specs.Stores.{Room, Put}
 
 -- i bytes of the text are stored from the place on: what is left makes the whole
 pub record Copied (text : List ℕ) (at : ℕ) (buffer out : List ℕ) (i : ℕ) : Type 0 where

@@ -4,7 +4,7 @@ use tables::texts;
 ghost use mathlib.Core.Path.{_≡_};
 ghost use Prim.Native.Nat.{_+_, _<_};
 ghost use lib.ListN.{length, getD, drop};
-ghost use Rattle.stores.specs.Stores.{Room, Put};
+ghost use Rattle.lent.specs.Stores.{Room, Put};
 ghost use Rattle.tables.specs.Texts.{SpellsTexts, hexDigits};
 ghost use Rattle.tables.specs.Tsb.{tsbId};
 ghost use Rattle.pieces.specs.Pieces.{pieceText, pairText, shown, listedAs};

@@ -5,10 +5,7 @@ use mathlib.Core.Path.{_≡_, refl, sym, ap, _∙_}
 use mathlib.Core.List.{List, [], _∷_}
 use lib.ListN.{getD}
 use Rattle.refusals.specs.Numbers.{Numbered}
-use Rattle.refusals.specs.Answer.{Answer, done, refused, numbered}
-use Rattle.refusals.specs.Lent.{Lent, outcomeAnswer, left}
-use Rattle.refusals.specs.declared.Outcome.{Outcome}
-use Rattle.refusals.specs.declared.Outcome.the-variants.{Done, Refused}
+use Rattle.refusals.specs.Answer.{numbered}
 use Rattle.refusals.specs.declared.Refusal.{Refusal}
 use Rattle.refusals.specs.declared.Refusal.the-variants.{TextTooLong, BadByte, MissingLineNumber, LineNumberOutOfRange, AddressOverflow, NoRoom, ImageTooLong, TooShort, UnexpectedEof, MissingEnd, LinkBackward, LinkOutside, LinkNoEnd, UnknownDialect}
 
@@ -45,21 +42,3 @@ tells-apart f g inverse a b e = sym (inverse a) ∙ ap g e ∙ inverse b
 
 pub numbered-tight : (r s : Refusal) → numbered r ≡ numbered s → r ≡ s
 numbered-tight = tells-apart numbered named named-numbered
-
-answered : Answer ℕ → Outcome
-answered (done length) = Done length
-answered (refused n) = Refused (named n)
-
-answered-outcome : (r : Outcome) → answered (outcomeAnswer r) ≡ r
-unfolding answered
-answered-outcome (Done length) = refl
-answered-outcome (Refused r) = ap Refused (named-numbered r)
-
--- two outcomes that meet one promise are the same
-pub outcome-tight : (a : Answer ℕ) (r s : Outcome) → outcomeAnswer r ≡ a → outcomeAnswer s ≡ a → r ≡ s
-outcome-tight a r s p q = tells-apart outcomeAnswer answered answered-outcome r s (p ∙ sym q)
-
--- and so are the buffers that they leave
-pub lent-tight : (l : Lent) (r s : Outcome) (b c : List ℕ) → left r b ≡ l → left s c ≡ l → (r ≡ s) × (b ≡ c)
-lent-tight l r s b c p q =
-    (outcome-tight (l .answer) r s (ap (λ (x : Lent). x .answer) p) (ap (λ (x : Lent). x .answer) q), ap (λ (x : Lent). x .buffer) (p ∙ sym q))

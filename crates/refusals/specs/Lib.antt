@@ -1,4 +1,3 @@
 pub mod Answer
 pub mod Code
-pub mod Lent
 pub mod Numbers

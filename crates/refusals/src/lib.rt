@@ -1,8 +1,7 @@
 // The refusals: what a call answers where there is no result, with the number and the values of document 01.
 ghost use mathlib.Core.Path.{_≡_};
 ghost use Rattle.refusals.specs.Answer.{numbered as numberedOf};
-ghost use Rattle.refusals.specs.Code.{codeOf, lengthCode};
-ghost use Rattle.refusals.specs.Lent.{outcomeAnswer};
+ghost use Rattle.refusals.specs.Code.{codeOf};
 
 pub enum Refusal {
     TextTooLong { length: usize },
@@ -21,12 +20,6 @@ pub enum Refusal {
     LinkOutside { offset: usize },
     LinkNoEnd { offset: usize },
     UnknownDialect,
-}
-
-// What a call that makes bytes answers: how many they are, or why there are none.
-pub enum Outcome {
-    Done(usize),
-    Refused(Refusal),
 }
 
 // An answer as numbers, for callers in other languages: 0 or a refusal's number, how many values it carries, and the values, 0 where
@@ -50,7 +43,8 @@ fn bare(number: u8) -> Code
     }
 }
 
-fn with_one(number: u8, first: usize) -> Code
+// A number that carries one value.
+pub fn with_one(number: u8, first: usize) -> Code
     ensures { λ r. ⌜ r ≡ record { number = number; count = 1; first = first; second = 0 } ⌝ }
 {
     Code {
@@ -90,15 +84,5 @@ pub fn refusal_code(refusal: Refusal) -> Code
         Refusal::LinkOutside { offset } => with_one(12, offset),
         Refusal::LinkNoEnd { offset } => with_one(13, offset),
         Refusal::UnknownDialect => bare(14),
-    }
-}
-
-// The length that was made, or the refusal.
-pub fn outcome_code(outcome: Outcome) -> Code
-    ensures { λ r. ⌜ r ≡ lengthCode (outcomeAnswer outcome) ⌝ }
-{
-    match outcome {
-        Outcome::Done(length) => with_one(0, length),
-        Outcome::Refused(refusal) => refusal_code(refusal),
     }
 }

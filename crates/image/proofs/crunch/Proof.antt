@@ -7,8 +7,8 @@ use denote.Ref.{now}
 use Rattle.words.specs.Run.{rising, spelled, wordOf}
 use Rattle.tables.specs.Words.{allWords}
 use Rattle.refusals.specs.Answer.{Answer}
-use Rattle.refusals.specs.Lent.{intoBuffer}
-use Rattle.stores.specs.Outcomes.{into-refused}
+use Rattle.lent.specs.Lent.{intoBuffer}
+use Rattle.lent.proofs.Outcomes.{into-refused}
 use Rattle.image.proofs.Whole.{image-taken, image-refused}
 use borrow.Author.Needs.{needs}
 use Rattle.image.proofs.crunch.Statement.{statement}

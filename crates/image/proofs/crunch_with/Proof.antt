@@ -5,7 +5,7 @@ use mathlib.Core.List.{List}
 use Prim.Native.Nat.{ℕ}
 use denote.Ref.{now}
 use Rattle.refusals.specs.Answer.{Answer}
-use Rattle.refusals.specs.Lent.{intoBuffer}
+use Rattle.lent.specs.Lent.{intoBuffer}
 use Rattle.image.proofs.Whole.{image-found}
 use borrow.Author.Needs.{needs}
 use Rattle.image.proofs.crunch_with.Statement.{statement}

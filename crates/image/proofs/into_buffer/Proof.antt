@@ -2,7 +2,7 @@
 -- Assumes nothing.
 use denote.Ref.{now}
 use Rattle.body.specs.Lexicon.{lexicon}
-use Rattle.stores.specs.Outcomes.{told-outcome, has-room, into-refused, into-none}
+use Rattle.lent.proofs.Outcomes.{told-outcome, has-room, into-refused, into-none}
 use Rattle.image.specs.Passes.{textImage}
 use borrow.Author.Needs.{needs}
 use Rattle.image.proofs.into_buffer.Statement.{statement}

@@ -5,7 +5,7 @@ use denote.Ref.{now}
 use lib.ListN.{length-set}
 use Rattle.body.specs.Lexicon.{lexicon}
 use Rattle.body.specs.Body.{bodyOf}
-use Rattle.stores.specs.Stores.{put-long}
+use Rattle.lent.proofs.Storing.{put-long}
 use Rattle.image.proofs.Laying.{line-room, tail-room, tail-fits, put-line-bytes}
 use borrow.Author.Needs.{needs}
 use Rattle.image.proofs.put_line.Statement.{statement}

@@ -3,7 +3,7 @@
 use mathlib.Core.Path.{refl, ap, _∙_}
 use Rattle.words.specs.Run.{rising, spelled, wordOf}
 use Rattle.tables.specs.Words.{allWords}
-use Rattle.refusals.specs.Lent.{roomFor}
+use Rattle.lent.specs.Lent.{roomFor}
 use Rattle.image.proofs.Whole.{image-taken, image-refused}
 use borrow.Author.Needs.{needs}
 use Rattle.image.proofs.room.Statement.{statement}

@@ -1,7 +1,7 @@
 -- `image::room_with` meets its contract: the words that are found are the text's.
 -- Assumes nothing.
 use mathlib.Core.Path.{ap, _∙_}
-use Rattle.refusals.specs.Lent.{roomFor}
+use Rattle.lent.specs.Lent.{roomFor}
 use Rattle.image.proofs.Whole.{image-found}
 use borrow.Author.Needs.{needs}
 use Rattle.image.proofs.room_with.Statement.{statement}

@@ -4,7 +4,7 @@ use Prim.Native.Nat.{_-_}
 use native.Mathlib.Omega.{arith}
 use lib.ListN.{length}
 use Rattle.body.specs.Lexicon.{lexicon}
-use Rattle.stores.specs.Stores.{put-long}
+use Rattle.lent.proofs.Storing.{put-long}
 use Rattle.image.proofs.Measuring.{reached-part, reached-on}
 use Rattle.image.proofs.Writing.{Written, room-load, written-start, written-address, written-long, written-room, written-turn, written-room-end, written-end}
 use borrow.Author.Needs.{needs}

@@ -4,7 +4,7 @@ use mathlib.Core.Path.{_≡_, ap, sym, _∙_}
 use mathlib.Core.List.{List, append-nil}
 use native.Mathlib.Omega.{arith}
 use denote.Ref.{now}
-use Rattle.stores.specs.Stores.{room-as, put-as, put-none}
+use Rattle.lent.proofs.Storing.{room-as, put-as, put-none}
 use Rattle.layout.specs.Layout.{linesBytes}
 use Rattle.lines.proofs.Numbers.{Placed, numbered-placed}
 use Rattle.image.proofs.Lining.{gives-none, gives-line}

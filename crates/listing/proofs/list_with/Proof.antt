@@ -2,7 +2,7 @@
 -- Assumes nothing.
 use denote.Ref.{now}
 use Rattle.listing.specs.Listing.{listing}
-use Rattle.stores.specs.Outcomes.{told-outcome, has-room, into-refused, into-none}
+use Rattle.lent.proofs.Outcomes.{told-outcome, has-room, into-refused, into-none}
 use borrow.Author.Needs.{needs}
 use Rattle.listing.proofs.list_with.Statement.{statement}
 use Rattle.listing.proofs.list_with.Tie as tie

@@ -3,7 +3,7 @@
 use Prim.Native.Nat.{ℕ}
 use mathlib.Core.Path.{_≡_, ap, sym, _∙_}
 use mathlib.Core.List.{List}
-use Rattle.stores.specs.Stores.{room-as, put-as}
+use Rattle.lent.proofs.Storing.{room-as, put-as}
 use Rattle.pieces.specs.Pieces.{pieceText}
 use Rattle.pieces.specs.declared.Piece.{Piece}
 use Rattle.pieces.proofs.Held.{held-within, held-long, held-text}

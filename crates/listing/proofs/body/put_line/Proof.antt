@@ -1,6 +1,6 @@
 -- `listing::body::put_line` meets its contract: number, space, body and line end, one behind the other.
 -- Assumes nothing.
-use Rattle.stores.specs.Stores.{put-long}
+use Rattle.lent.proofs.Storing.{put-long}
 use Rattle.listing.proofs.Lining.{room-number, room-space, room-body, room-end, put-all}
 use borrow.Author.Needs.{needs}
 use Rattle.listing.proofs.body.put_line.Statement.{statement}

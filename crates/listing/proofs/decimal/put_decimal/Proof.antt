@@ -1,7 +1,7 @@
 -- `listing::decimal::put_decimal` meets its contract.
 -- Assumes nothing.
 use native.Mathlib.Omega.{arith}
-use Rattle.stores.specs.Stores.{room-as, put-as}
+use Rattle.lent.proofs.Storing.{room-as, put-as}
 use Rattle.listing.proofs.Digits.{places-most, digits-are}
 use borrow.Author.Needs.{needs}
 use Rattle.listing.proofs.decimal.put_decimal.Statement.{statement}

@@ -1,0 +1,39 @@
+-- `guess_scans::evidence::next_step` meets its contract.
+-- Assumes nothing.
+use Rattle.guess_scans.proofs.Steps.{step-plain, step-aside}
+use borrow.Author.Needs.{needs}
+use Rattle.guess_scans.proofs.evidence.next_step.Statement.{statement}
+use Rattle.guess_scans.proofs.evidence.next_step.Tie as tie
+
+is-plain-requires : tie.Need-is-plain-requires
+is-plain-requires c κs = search needs
+
+plain-step-requires : tie.Need-plain-step-requires
+plain-step-requires c κs = c .before .before .before .before .before .before .pre
+
+returns : tie.Need-returns
+returns c = step-plain _ _ (c .before .before .is-plain .ensures) (c .before .if1 .taken) (c .plain-step .ensures)
+
+shared-slice-read-aside : tie.Need-shared-slice-read-aside
+shared-slice-read-aside c = c .before .before .before .before .before .before .before .pre .1
+
+aside-requires : tie.Need-aside-requires
+aside-requires c κs = search needs
+
+moved-requires : tie.Need-moved-requires
+moved-requires c κs = search needs
+
+returns-2 : tie.Need-returns-2
+returns-2 c = step-aside _ _ (c .before .before .before .before .is-plain .ensures) (c .before .before .before .if1 .left) (c .before .aside .ensures) (c .moved .ensures)
+
+pub next-step-spec : {M : Type 1} → statement M
+next-step-spec =
+    tie.close
+    (tie.spec
+    is-plain-requires
+    plain-step-requires
+    returns
+    shared-slice-read-aside
+    aside-requires
+    moved-requires
+    returns-2)

@@ -1,0 +1,69 @@
+// What stands at a place and behind it: a TSB word, a list in parentheses, an assignment.
+use lines::front;
+use lines::front::Kind;
+use words::Match;
+ghost use mathlib.Core.Path.{_≡_};
+ghost use Rattle.words.specs.Find.{wordIn};
+ghost use Rattle.tables.specs.Tsb.{tsbWords};
+ghost use Rattle.tables.specs.Words.{SpellsWords};
+ghost use Rattle.guess_scans.specs.Ahead.{closing as closingOf, assigns as assignsOf};
+
+// The TSB word that a text begins with. Each begins with a letter, so any other byte is not looked up.
+pub fn tsb_word(text: &[u8], bytes: &[u8], starts: &[u16], tokens: &[u8]) -> Match
+    requires { ⌜ SpellsWords (now bytes) (now starts) (now tokens) ⌝ }
+    ensures { λ r. ⌜ r ≡ wordIn tsbWords (now (text .entry)) ⌝ }
+{
+    if text.len() == 0 {
+        return Match::Nothing;
+    }
+    if !ascii::is_letter(text[0]) {
+        return Match::Nothing;
+    }
+    tables::matching::match_tsb(bytes, starts, tokens, text)
+}
+
+// How many bytes a list takes behind its opening parenthesis: up to the closing one, or to the end. Most bytes are above both: they
+// are told apart by one test.
+fn closing(text: &[u8]) -> usize
+    ensures { λ r. ⌜ r ≡ closingOf 0 (now (text .entry)) ⌝ }
+{
+    let mut depth: usize = 0;
+    let mut i: usize = 0;
+    while i < text.len() {
+        let b = text[i];
+        if b > 0x29 {
+            i += 1;
+        } else {
+            if b == 0x29 {
+                if depth == 0 {
+                    return i + 1;
+                }
+                depth -= 1;
+                i += 1;
+            } else {
+                if b == 0x28 {
+                    depth += 1;
+                    i += 1;
+                } else {
+                    i += 1;
+                }
+            }
+        }
+    }
+    i
+}
+
+// Whether an assignment follows a name: blanks, perhaps a list in parentheses and blanks behind it, then =.
+pub fn assigns(text: &[u8], blank: Kind) -> bool
+    ensures { λ r. ⌜ r ≡ assignsOf blank (now (text .entry)) ⌝ }
+{
+    let blanks = front::front(text, blank);
+    let rest = &text[blanks..];
+    if !front::starts_with(rest, 0x28) {
+        return front::starts_with(rest, 0x3D);
+    }
+    let list = 1 + closing(&rest[1..]);
+    let behind = &rest[list..];
+    let more = front::front(behind, blank);
+    front::starts_with(&behind[more..], 0x3D)
+}

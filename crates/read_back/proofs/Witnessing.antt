@@ -1,0 +1,64 @@
+-- An image that was crunched into a lent buffer, and what the reader by links is lent of it.
+-- Assumes nothing.
+use Prim.Native.Nat.{ℕ, _≤_}
+use mathlib.Core.Path.{_≡_, refl, sym, ap, _∙_}
+use mathlib.Core.Bool.{Bool, true, false, cond}
+use mathlib.Core.List.{List}
+use native.Mathlib.Omega.{arith}
+use lib.Dec.{leb}
+use lib.ListN.{length, take}
+use lib.Seq.{sets, length-sets, length-take-le}
+use borrow.Author.Tests.{leb-true}
+use Rattle.refusals.specs.Numbers.{noRoom}
+use Rattle.refusals.specs.Answer.{Answer, done, refused, numbered}
+use Rattle.lent.specs.Lent.{Lent, intoBuffer, left}
+use Rattle.lent.specs.declared.Outcome.{Outcome}
+use Rattle.lent.specs.declared.Outcome.the-variants.{Done, Refused}
+use Rattle.refusals.specs.declared.Refusal.{Refusal}
+use Rattle.readers.specs.declared.Checked.{Checked}
+use Rattle.readers.specs.Answers.{checkedAnswer}
+use Rattle.readers.specs.Lines.{Overview, overview}
+use Rattle.readers.specs.Links.{linkStep}
+use Rattle.read_back.specs.Witness.{Witnessed, readingBack}
+
+-- what was stored is no longer than the buffer
+stored-fits : (a : Answer (List ℕ)) (buffer : List ℕ) {n : ℕ} {after : List ℕ} → left (Done n) after ≡ intoBuffer a buffer → n ≤ length after
+unfolding intoBuffer
+stored-fits (done bytes) buffer {n} {after} e = go (leb (length bytes) (length buffer)) refl e
+  where
+    go : (b : Bool) → leb (length bytes) (length buffer) ≡ b
+        → _≡_ {A = Lent} (record { answer = done n; buffer = after })
+        (cond b (record { answer = done (length bytes); buffer = sets buffer 0 bytes }) (record { answer = refused (noRoom (length bytes)); buffer = buffer }))
+        → n ≤ length after
+    go true h p =
+        let q : _≡_ {A = Answer ℕ} (done n) (done (length bytes)) = ap (λ (x : Lent). x .answer) p in
+        let s : n ≡ length bytes = cc in
+        let t : after ≡ sets buffer 0 bytes = ap (λ (x : Lent). x .buffer) p in
+        omega (arith, leb-true (length bytes) (length buffer) h, length-sets buffer 0 bytes, ap length t)
+    go false h p = let q : _≡_ {A = Answer ℕ} (done n) (refused (noRoom (length bytes))) = ap (λ (x : Lent). x .answer) p in let z : _≡_ {A = ℕ} 0 1 = cc in absurd (omega arith)
+stored-fits (refused m) buffer {n} e = let q : _≡_ {A = Answer ℕ} (done n) (refused m) = ap (λ (x : Lent). x .answer) e in let z : _≡_ {A = ℕ} 0 1 = cc in absurd (omega arith)
+
+module _ (a : Answer (List ℕ)) (buffer : List ℕ) {r : Outcome} {after : List ℕ} where
+  -- an image was stored
+  module _ {n : ℕ} (told : r ≡ Done n) (is : left r after ≡ intoBuffer a buffer) where
+    stored : left (Done n) after ≡ intoBuffer a buffer
+    stored = ap (λ (x : Outcome). left x after) (sym told) ∙ is
+
+    pub image-fits : n ≤ length after
+    image-fits = stored-fits a buffer stored
+
+    pub image-long : n ≡ length (take n after)
+    image-long = sym (length-take-le n after image-fits)
+
+    pub image-read : {c x : Checked} → c ≡ x → checkedAnswer c ≡ overview linkStep (take n after)
+        → _≡_ {A = Witnessed} (record { answer = done (record { size = n; overview = checkedAnswer x }); buffer = after }) (readingBack (intoBuffer a buffer))
+    unfolding readingBack
+    image-read known read =
+        ap (λ (o : Answer Overview). record { answer = done (record { size = n; overview = o }); buffer = after }) (ap checkedAnswer (sym known) ∙ read)
+        ∙ ap readingBack stored
+
+  -- or none
+  pub image-none : {x : Refusal} → r ≡ Refused x → left r after ≡ intoBuffer a buffer
+      → _≡_ {A = Witnessed} (record { answer = refused (numbered x); buffer = after }) (readingBack (intoBuffer a buffer))
+  unfolding readingBack
+  image-none told is = ap readingBack (ap (λ (x : Outcome). left x after) (sym told) ∙ is)

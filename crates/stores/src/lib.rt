@@ -1,1 +1,0 @@
-// Laws alone: bytes stored in a lent buffer.
