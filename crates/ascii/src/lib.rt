@@ -1,7 +1,23 @@
-// Bytes as ASCII text: letters without regard to case, digits, white space, trimming.
+// Bytes as ASCII text: letters without regard to case, digits, white space, trimming; and searches in bytes.
 ghost use mathlib.Core.Path.{_≡_};
 ghost use Rattle.ascii.specs.Bytes.{between as betweenOf, upper as upperOf, isDigit, isLetter, isSpace, isAscii};
 ghost use Rattle.ascii.specs.Trim.{leading, solid, trim as trimOf};
+
+pub mod search;
+
+// A byte as a length or a place.
+pub fn wide(b: u8) -> usize
+    ensures { λ r. ⌜ r ≡ b ⌝ }
+{
+    b as usize
+}
+
+// The same of a number of 16 bits.
+pub fn wide16(n: u16) -> usize
+    ensures { λ r. ⌜ r ≡ n ⌝ }
+{
+    n as usize
+}
 
 // Whether b is one of the bytes low to high.
 pub fn between(low: u8, high: u8, b: u8) -> bool
