@@ -10,10 +10,11 @@ use lib.ListN.{length}
 use Rattle.refusals.specs.Answer.{done, mapDone}
 use Rattle.readers.specs.NumberedBody.{NumberedBody}
 use Rattle.readers.specs.Image.{lowFirstAt, line, end}
-use Rattle.readers.specs.Lines.{Reader, linesFrom, overviewOf, Sound, lines-line, lines-end}
+use Rattle.readers.specs.Lines.{Reader, linesFrom, overviewOf}
 use Rattle.readers.specs.Bodies.{numberedBody, bodiesFrom}
 use Rattle.readers.specs.Links.{linkStep}
 use Rattle.readers.specs.Terminators.{terminatorStep}
+use Rattle.readers.proofs.Equations.{Sound, lines-line, lines-end}
 use Rattle.readers.proofs.ByLinks.{link-sound}
 use Rattle.readers.proofs.ByTerminators.{terminator-sound}
 use Rattle.readers.proofs.Reading.{overview-bodies}

@@ -108,12 +108,10 @@ module _ {s : List ℕ} {p link : ℕ} {l : NumberedBody} {rest : List ℕ} (k :
     found-by-links leads =
         let t = p + 5 + length (l .body) in
         let z : getD s (t - 1) 0 ≡ 0 = rw (let e : t - 1 ≡ p + 4 + length (l .body) = omega arith in e) zero-there in
-        sym (link-line s p long (omega (arith, long-as)) t (omega (arith, link-there fits)) (omega (arith, long-as)) no-end (omega arith) (omega (arith, long-as)) z)
-        ∙ ap (λ x. done (line x)) (at-place (omega arith) refl)
+        sym (link-line s p long (omega (arith, long-as)) (omega (arith, long-as)) no-end (omega arith) (omega (arith, long-as)) z (omega (arith, link-there fits)) (sym (at-place (omega arith) refl)))
 
     -- by terminators, where no byte of the body is 00
     pub found-by-terminators : NoZero (l .body) → terminatorStep s p ≡ done (line (placedLine link p l))
     found-by-terminators none =
         let e : bodyEnd s p ≡ p + 4 + length (l .body) = ap (λ (b : List ℕ). p + 4 + beforeZero b) body-there ∙ ap (λ (n : ℕ). p + 4 + n) (before-zero (l .body) rest none) in
-        sym (terminator-line s p long (omega (arith, long-as)) (omega (arith, long-as)) (omega (arith, long-as)) no-end (omega (arith, long-as)))
-        ∙ ap (λ x. done (line x)) (at-place e (omega (arith, long-as, e)))
+        sym (terminator-line s p long (omega (arith, long-as)) (omega (arith, long-as)) (omega (arith, long-as)) no-end (omega (arith, long-as)) (sym (at-place e (omega (arith, long-as, e)))))

@@ -10,11 +10,11 @@ use Rattle.refusals.specs.Numbers.{Numbered}
 use Rattle.refusals.specs.Answer.{Answer, done, refused, mapDone}
 use Rattle.readers.specs.declared.Line.{Line}
 use Rattle.readers.specs.Image.{Found, line, end}
-use Rattle.readers.specs.Lines.{LiesAt}
+use Rattle.readers.proofs.Equations.{LiesAt, by-lines}
 use Rattle.readers.specs.NumberedBody.{NumberedBody}
 use Rattle.readers.specs.Bodies.{bodyOf, numberedBody, bodiesFrom}
 use Rattle.readers.specs.Terminators.{terminatorStep}
-use Rattle.readers.proofs.Reading.{by-lines, bodies-line, bodies-end, bodies-refused, body-length}
+use Rattle.readers.proofs.Reading.{bodies-line, bodies-end, bodies-refused, body-length}
 use Rattle.readers.proofs.ByTerminators.{terminator-sound}
 use Rattle.listing.specs.Body.{lineListing}
 use Rattle.listing.specs.Listing.{linesListing, listing}

@@ -14,12 +14,12 @@ use Rattle.lent.specs.Stores.{HasRoom}
 use Rattle.lent.proofs.Outcomes.{into-done}
 use Rattle.readers.specs.declared.Line.{Line}
 use Rattle.readers.specs.Image.{line, end}
-use Rattle.readers.specs.Lines.{LiesAt, Sound}
+use Rattle.readers.proofs.Equations.{LiesAt, Sound}
 use Rattle.readers.specs.NumberedBody.{NumberedBody}
 use Rattle.readers.specs.Bodies.{bodyOf, numberedBody, bodiesFrom}
 use Rattle.readers.specs.Terminators.{terminatorStep}
 use Rattle.readers.proofs.Reading.{bodies-line, bodies-end, bodies-refused, body-length}
-use Rattle.readers.proofs.ByTerminators.{TerminatedAt, terminator-found, terminator-sound}
+use Rattle.readers.proofs.ByTerminators.{terminator-sound}
 use Rattle.listing.specs.Body.{lineListing}
 use Rattle.listing.specs.Listing.{linesListing, listing}
 use Rattle.listing.proofs.Lining.{line-short}
@@ -60,10 +60,10 @@ module _ {image : List ℕ} {p : ℕ} {l : Line} (f : FoundAt image p l) where
   found-part = omega (arith, lies .runs, lies .ends, lies .within)
 
   pub found-on : p < l .next × (l .next ≤ length image) × (length image ≤ 1048576)
-  found-on = omega (arith, lies .starts, lies .runs, lies .ends, lies .within, terminator-found image p (f .is) .long)
+  found-on = omega (arith, lies .starts, lies .runs, lies .ends, lies .within, terminator-sound .not-too-long image p (f .is))
 
   pub found-body : length (bodyOf image l) ≤ 1048576
-  found-body = omega (arith, body-length lies, lies .ends, lies .within, terminator-found image p (f .is) .long)
+  found-body = omega (arith, body-length lies, lies .ends, lies .within, terminator-sound .not-too-long image p (f .is))
 
   shown-short : length (lineShown image l) + 8 * p ≤ 8 * l .next
   shown-short = omega (arith, line-short (l .number) (bodyOf image l), body-length lies, lies .starts, lies .runs, lies .ends)

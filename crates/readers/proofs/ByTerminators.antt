@@ -14,18 +14,21 @@ use Rattle.refusals.specs.Answer.{done, refused}
 use Rattle.refusals.specs.Numbers.{imageTooLong, tooShort, unexpectedEof}
 use Rattle.readers.specs.declared.Line.{Line}
 use Rattle.readers.specs.Image.{lineAt, line, end}
-use Rattle.readers.specs.Lines.{LiesAt, Sound}
+use Rattle.readers.proofs.Equations.{LiesAt, Sound}
 use Rattle.readers.specs.Terminators.{beforeZero, bodyEnd, terminatedLine, terminatorStep}
-use Rattle.readers.proofs.Finding.{sized-long, sized-short, Knows, cond-by, sized-knows, knows-long, knows-line}
+use Rattle.readers.proofs.Finding.{sized-long, sized-short, RightLength, Knows, cond-by, sized-knows, knows-length, knows-line}
 
 -- ---- the search for the 00
 
 -- i bytes passed, none of them 00
-pub record Passed (s : List ℕ) (i : ℕ) : Type 0 where
+pub record NoZeroYet (s : List ℕ) (i : ℕ) : Type 0 where
   pub within : i ≤ length s
   pub gives : i + beforeZero (drop i s) ≡ beforeZero s
 
-module _ {s : List ℕ} {i : ℕ} (k : Passed s i) where
+pub passed-none : (s : List ℕ) → NoZeroYet s 0
+passed-none s = record { within = omega arith; gives = omega arith }
+
+module _ {s : List ℕ} {i : ℕ} (k : NoZeroYet s i) where
   pub passed-end : length s ≤ i → i ≡ beforeZero s
   unfolding beforeZero
   passed-end h = let e : beforeZero (drop i s) ≡ 0 = rw (drop-of-length-le s h) in omega arith
@@ -34,7 +37,7 @@ module _ {s : List ℕ} {i : ℕ} (k : Passed s i) where
   unfolding beforeZero
   passed-zero h z = let e : beforeZero (drop i s) ≡ 0 = rw (drop-cons s i 0 h, eq-eqb _ _ z, beforeZero) in omega arith
 
-  pub passed-turn : i < length s → (getD s i 0 ≡ 0 → ⊥) → Passed s (i + 1)
+  pub passed-turn : i < length s → (getD s i 0 ≡ 0 → ⊥) → NoZeroYet s (i + 1)
   unfolding beforeZero
   passed-turn h z =
       let e : beforeZero (drop i s) ≡ suc (beforeZero (drop (i + 1) s)) = rw (add-one, drop-cons s i 0 h, ne-eqb _ _ z, beforeZero) in
@@ -51,30 +54,38 @@ module _ (s : List ℕ) (p : ℕ) where
   unfolding terminatorStep
   terminator-short h = sized-short s _ h
 
--- an image of a right length
-module _ (s : List ℕ) (p : ℕ) (long : length s ≤ 1048576) (short : 2 ≤ length s) where
-  pub terminator-beyond : length s ≤ p → done end ≡ terminatorStep s p
-  unfolding terminatorStep
-  terminator-beyond h = simp (le-ltb _ _ long, le-ltb _ _ short, le-leb _ _ h)
-
-  -- an offset within it
-  module _ (h : p < length s) where
-    pub terminator-lone : length s < p + 2 → refused unexpectedEof ≡ terminatorStep s p
+  -- an image of a right length
+  module _ (long : length s ≤ 1048576) (short : 2 ≤ length s) where
+    pub terminator-beyond : length s ≤ p → done end ≡ terminatorStep s p
     unfolding terminatorStep
-    terminator-lone l = simp (le-ltb _ _ long, le-ltb _ _ short, lt-leb _ _ h, lt-ltb _ _ l)
+    terminator-beyond h = simp (le-ltb _ _ long, le-ltb _ _ short, le-leb _ _ h)
 
-    pub terminator-end : p + 2 ≤ length s → getD s (p + 1) 0 ≡ 0 → done end ≡ terminatorStep s p
-    unfolding terminatorStep
-    terminator-end l e = simp (le-ltb _ _ long, le-ltb _ _ short, lt-leb _ _ h, le-ltb _ _ l, eq-eqb _ _ e)
-
-    module _ (l : p + 2 ≤ length s) (e : getD s (p + 1) 0 ≡ 0 → ⊥) where
-      pub terminator-cut : length s < p + 4 → refused unexpectedEof ≡ terminatorStep s p
+    -- an offset within it
+    module _ (h : p < length s) where
+      pub terminator-lone : length s - p < 2 → refused unexpectedEof ≡ terminatorStep s p
       unfolding terminatorStep
-      terminator-cut n = simp (le-ltb _ _ long, le-ltb _ _ short, lt-leb _ _ h, le-ltb _ _ l, ne-eqb _ _ e, lt-ltb _ _ n)
+      terminator-lone l = let g : length s < p + 2 = omega arith in simp (le-ltb _ _ long, le-ltb _ _ short, lt-leb _ _ h, lt-ltb _ _ g)
 
-      pub terminator-line : p + 4 ≤ length s → done (line (terminatedLine s p)) ≡ terminatorStep s p
-      unfolding terminatorStep
-      terminator-line n = simp (le-ltb _ _ long, le-ltb _ _ short, lt-leb _ _ h, le-ltb _ _ l, ne-eqb _ _ e, le-ltb _ _ n)
+      module _ (l : 2 ≤ length s - p) where
+        two : p + 2 ≤ length s
+        two = omega arith
+
+        pub terminator-end : getD s (p + 1) 0 ≡ 0 → done end ≡ terminatorStep s p
+        unfolding terminatorStep
+        terminator-end e = simp (le-ltb _ _ long, le-ltb _ _ short, lt-leb _ _ h, le-ltb _ _ two, eq-eqb _ _ e)
+
+        module _ (e : getD s (p + 1) 0 ≡ 0 → ⊥) where
+          pub terminator-cut : length s - p < 4 → refused unexpectedEof ≡ terminatorStep s p
+          unfolding terminatorStep
+          terminator-cut n =
+              let g : length s < p + 4 = omega arith in
+              simp (le-ltb _ _ long, le-ltb _ _ short, lt-leb _ _ h, le-ltb _ _ two, ne-eqb _ _ e, lt-ltb _ _ g)
+
+          pub terminator-line : 4 ≤ length s - p → {f : Line} → f ≡ terminatedLine s p → done (line f) ≡ terminatorStep s p
+          unfolding terminatorStep
+          terminator-line n is =
+              let g : p + 4 ≤ length s = omega arith in
+              rw is (simp (le-ltb _ _ long, le-ltb _ _ short, lt-leb _ _ h, le-ltb _ _ two, ne-eqb _ _ e, le-ltb _ _ g))
 
 -- ---- what was found
 
@@ -93,25 +104,25 @@ body-end-within s p h = omega (arith, before-within (drop (p + 4) s), length-dro
 
 -- b bytes stand before the 00 in the part from p + 4 on
 module _ (s : List ℕ) (p : ℕ) (h : p + 4 ≤ length s) {b : ℕ} (q : b ≡ beforeZero (take (length s - (p + 4)) (drop (p + 4) s))) where
-  pub body-end : p + 4 + b ≡ bodyEnd s p
+  body-end : p + 4 + b ≡ bodyEnd s p
   body-end = ap (λ (x : ℕ). p + 4 + x) (q ∙ ap beforeZero (take-all (length s - (p + 4)) (drop (p + 4) s) (omega (arith, length-drop (p + 4) s))))
 
   pub body-within : p + 4 + b ≤ length s
   body-within = omega (arith, body-end, body-end-within s p h)
 
-  next-at : {next : ℕ} → next ≡ min (p + 4 + b + 1) (length s) → lineAt s p (p + 4 + b) next ≡ terminatedLine s p
-  next-at x = rw (x, body-end)
+  next-at : {l : Line} {next : ℕ} → l ≡ lineAt s p (p + 4 + b) next → next ≡ min (p + 4 + b + 1) (length s) → l ≡ terminatedLine s p
+  next-at is x = is ∙ rw (x, body-end)
 
   -- the 00 was found, or there is none
-  pub line-terminated : p + 4 + b < length s → lineAt s p (p + 4 + b) (p + 4 + b + 1) ≡ terminatedLine s p
-  line-terminated z = next-at (omega arith)
+  module _ {l : Line} where
+    pub line-terminated : p + 4 + b < length s → l ≡ lineAt s p (p + 4 + b) (p + 4 + b + 1) → l ≡ terminatedLine s p
+    line-terminated z is = next-at is (omega arith)
 
-  pub line-open : length s ≤ p + 4 + b → lineAt s p (p + 4 + b) (p + 4 + b) ≡ terminatedLine s p
-  line-open z = next-at (omega (arith, body-within))
+    pub line-open : length s ≤ p + 4 + b → l ≡ lineAt s p (p + 4 + b) (p + 4 + b) → l ≡ terminatedLine s p
+    line-open z is = next-at is (omega (arith, body-within))
 
 -- what is known of a line that was found at p
 pub record TerminatedAt (s : List ℕ) (p : ℕ) (l : Line) : Type 0 where
-  pub long : length s ≤ 1048576
   pub left : p + 4 ≤ length s
   pub no-end : getD s (p + 1) 0 ≡ 0 → ⊥
   pub is : l ≡ terminatedLine s p
@@ -120,12 +131,12 @@ terminator-knows : (s : List ℕ) (p : ℕ) → Knows (TerminatedAt s p) s (term
 unfolding terminatorStep
 terminator-knows s p =
     let K = Knows (TerminatedAt s p) s in
-    sized-knows (TerminatedAt s p) s _ (λ long short.
-    cond-by K (leb (length s) p) (λ _. short) (λ _.
+    sized-knows (TerminatedAt s p) s _ (λ right.
+    cond-by K (leb (length s) p) (λ _. right) (λ _.
     cond-by K (ltb (length s) (p + 2)) (λ _. tt) (λ _.
-    cond-by K (eqb (getD s (p + 1) 0) 0) (λ _. short) (λ no-end.
+    cond-by K (eqb (getD s (p + 1) 0) 0) (λ _. right) (λ no-end.
     cond-by K (ltb (length s) (p + 4)) (λ _. tt)
-    (λ left. (short, record { long = long; left = ltb-false _ _ left; no-end = eqb-false _ _ no-end; is = refl }))))))
+    (λ left. (right, record { left = ltb-false _ _ left; no-end = eqb-false _ _ no-end; is = refl }))))))
 
 pub terminator-found : (s : List ℕ) (p : ℕ) {l : Line} → terminatorStep s p ≡ done (line l) → TerminatedAt s p l
 terminator-found s p e = knows-line (TerminatedAt s p) s e (terminator-knows s p)
@@ -135,6 +146,7 @@ terminated-lies {s} {p} k = rw (k .is) (omega (arith, body-end-within s p (k .le
 
 pub terminator-sound : Sound terminatorStep
 terminator-sound = record {
-  long-enough = λ s p {f} e. knows-long (TerminatedAt s p) s f e (terminator-knows s p);
+  long-enough = λ s p {f} e. knows-length (TerminatedAt s p) s f e (terminator-knows s p) .short;
+  not-too-long = λ s p {f} e. knows-length (TerminatedAt s p) s f e (terminator-knows s p) .long;
   lies = λ s p e. terminated-lies (terminator-found s p e);
 }

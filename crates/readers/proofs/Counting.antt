@@ -1,55 +1,69 @@
--- The loop that reads a whole image, for any step that is sound: its invariant, a turn, and its two ends.
+-- The loop that reads a whole image, by either reader: its invariant, a turn, and its two ends.
 -- Assumes nothing.
-use Prim.Native.Nat.{ℕ, _+_, _≤_}
+use Prim.Native.Nat.{ℕ, _+_, _-_, _≤_, _<_}
 use mathlib.Core.Path.{_≡_, refl, sym, ap, _∙_}
 use mathlib.Core.List.{List, _∷_}
 use native.Mathlib.Omega.{arith}
 use lib.ListN.{length}
-use Rattle.refusals.specs.Numbers.{Numbered}
-use Rattle.refusals.specs.Answer.{Answer, done, refused, mapDone}
+use mir.Syntax.{w64}
+use mir.Val.{Fits}
+use Rattle.refusals.specs.Answer.{Answer, done, refused, mapDone, numbered}
+use Rattle.refusals.specs.declared.Refusal.{Refusal}
+use Rattle.readers.specs.declared.By.{By}
 use Rattle.readers.specs.declared.Line.{Line}
-use Rattle.readers.specs.Image.{lowFirstAt, line, end}
-use Rattle.readers.specs.Lines.{Reader, linesFrom, Overview, overviewOf, overview, LiesAt, Sound, lines-line, lines-end, lines-refused}
+use Rattle.readers.specs.declared.Step.{Step}
+use Rattle.readers.specs.declared.Step.the-variants.{Found as FoundLine, End, Refused}
+use Rattle.readers.specs.Answers.{stepAnswer}
+use Rattle.readers.specs.Image.{lowFirstAt}
+use Rattle.readers.specs.Lines.{linesFrom, Overview, overviewOf, overview}
+use Rattle.readers.specs.Readers.{stepBy}
+use Rattle.readers.proofs.Equations.{LiesAt, Sound, lines-line, lines-end, lines-refused}
+use Rattle.readers.proofs.Finding.{told}
+use Rattle.readers.proofs.Steps.{by-sound}
 
 -- the load address, and so many lines more than were passed
 abbrev after : List ℕ → ℕ → List Line → Overview
 after s n ls = record { load = lowFirstAt s 0; lines = n + length ls }
 
 -- n lines were passed before p, and with those from p on they make the overview
-pub record Counted (step : Reader) (s : List ℕ) (p n : ℕ) : Type 0 where
+pub record LinesPassed (by : By) (s : List ℕ) (p n : ℕ) : Type 0 where
   pub few : n ≤ p
-  pub gives : mapDone (after s n) (linesFrom step s p) ≡ overview step s
+  pub gives : mapDone (after s n) (linesFrom (stepBy by) s p) ≡ overview (stepBy by) s
 
 module _ (s : List ℕ) where
   none-passed : (a : Answer (List Line)) → mapDone (after s 0) a ≡ mapDone (overviewOf s) a
-  none-passed (done ls) = let e : 0 + length ls ≡ length ls = omega arith in ap (λ (k : ℕ). done (record { load = lowFirstAt s 0; lines = k })) e
+  none-passed (done ls) = let e : 0 + length ls ≡ length ls = omega arith in rw e
   none-passed (refused n) = refl
 
   one-passed : (n : ℕ) (l : Line) (a : Answer (List Line)) → mapDone (after s (n + 1)) a ≡ mapDone (after s n) (mapDone (λ ls. l ∷ ls) a)
-  one-passed n l (done ls) =
-      let e : n + 1 + length ls ≡ n + length (l ∷ ls) = omega arith in ap (λ (k : ℕ). done (record { load = lowFirstAt s 0; lines = k })) e
+  one-passed n l (done ls) = let e : n + 1 + length ls ≡ n + length (l ∷ ls) = omega arith in rw e
   one-passed n l (refused m) = refl
 
-pub counted-start : (step : Reader) (s : List ℕ) → Counted step s 2 0
+pub passed-start : (by : By) (s : List ℕ) → LinesPassed by s 2 0
 unfolding overview
-counted-start step s = record { few = omega arith; gives = none-passed s (linesFrom step s 2) }
+passed-start by s = record { few = omega arith; gives = none-passed s (linesFrom (stepBy by) s 2) }
 
-module _ {step : Reader} {s : List ℕ} {p n : ℕ} (k : Counted step s p n) where
-  pub counted-turn : Sound step → {l : Line} → step s p ≡ done (line l) → Counted step s (l .next) (n + 1)
-  counted-turn sound {l} e =
-      let d : LiesAt s p l = sound .lies s p e in
+-- a step at p found a line
+module _ {by : By} {s : List ℕ} {p n : ℕ} {r : Step} {l : Line} (is : r ≡ FoundLine l) (e : stepAnswer r ≡ stepBy by s p) (k : LinesPassed by s p n) where
+  pub passed-turn : LinesPassed by s (l .next) (n + 1)
+  passed-turn =
+      let d : LiesAt s p l = by-sound by .lies s p (told is e) in
       record {
         few = omega arith;
-        gives = one-passed s n l (linesFrom step s (l .next)) ∙ ap (mapDone (after s n)) (sym (lines-line sound s p e)) ∙ k .gives;
+        gives = one-passed s n l (linesFrom (stepBy by) s (l .next)) ∙ ap (mapDone (after s n)) (sym (lines-line (by-sound by) s p (told is e))) ∙ k .gives;
       }
 
-  pub counted-end : {load : ℕ} → load ≡ lowFirstAt s 0 → step s p ≡ done end → done (record { load = load; lines = n }) ≡ overview step s
-  counted-end {load} w e =
-      let z : n ≡ n + 0 = omega arith in
-      ap (λ (x : ℕ). done (record { load = x; lines = n })) w
-      ∙ ap (λ (x : ℕ). done (record { load = lowFirstAt s 0; lines = x })) z
-      ∙ sym (ap (mapDone (after s n)) (lines-end step s p e))
-      ∙ k .gives
+  pub passed-fits : Fits w64 (n + 1)
+  passed-fits =
+      let d : LiesAt s p l = by-sound by .lies s p (told is e) in
+      record { fits = omega (arith, by-sound by .not-too-long s p (told is e)) }
 
-  pub counted-refused : {m : Numbered} → step s p ≡ refused m → refused m ≡ overview step s
-  counted-refused e = sym (ap (mapDone (after s n)) (lines-refused step s p e)) ∙ k .gives
+pub passed-end : {by : By} {s : List ℕ} {p n : ℕ} {r : Step} {load : ℕ} → r ≡ End → stepAnswer r ≡ stepBy by s p → LinesPassed by s p n → load ≡ lowFirstAt s 0
+    → done (record { load = load; lines = n }) ≡ overview (stepBy by) s
+passed-end {by} {s} {p} {n} is e k w =
+    let z : n ≡ n + 0 = omega arith in
+    rw (w, z) (sym (ap (mapDone (after s n)) (lines-end (stepBy by) s p (told is e))) ∙ k .gives)
+
+pub passed-refused : {by : By} {s : List ℕ} {p n : ℕ} {r : Step} {m : Refusal} → r ≡ Refused m → stepAnswer r ≡ stepBy by s p → LinesPassed by s p n
+    → refused (numbered m) ≡ overview (stepBy by) s
+passed-refused {by} {s} {p} {n} is e k = sym (ap (mapDone (after s n)) (lines-refused (stepBy by) s p (told is e))) ∙ k .gives

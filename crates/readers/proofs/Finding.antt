@@ -39,10 +39,15 @@ module _ {A : Type 0} (s : List ℕ) (a : Answer A) where
 
 -- ---- what is known of what was found
 
--- what is to be known of an answer: that the image is long enough, and Q of a line
+-- the length of an image that is read
+pub record RightLength (s : List ℕ) : Type 0 where
+  pub long : length s ≤ 1048576
+  pub short : 2 ≤ length s
+
+-- what is to be known of an answer: that the image's length is right, and Q of a line
 abbrev pub Knows : (Line → Type 0) → List ℕ → Answer Found → Type 0
-Knows Q s (done (line l)) = (2 ≤ length s) × Q l
-Knows Q s (done end) = 2 ≤ length s
+Knows Q s (done (line l)) = RightLength s × Q l
+Knows Q s (done end) = RightLength s
 Knows Q s (refused n) = Unit {0}
 
 -- it is known of a choice if it is known of each case under its test
@@ -51,15 +56,15 @@ cond-by P true f g = f refl
 cond-by P false f g = g refl
 
 module _ (Q : Line → Type 0) (s : List ℕ) where
-  pub sized-knows : (a : Answer Found) → (length s ≤ 1048576 → 2 ≤ length s → Knows Q s a) → Knows Q s (sized s a)
+  pub sized-knows : (a : Answer Found) → (RightLength s → Knows Q s a) → Knows Q s (sized s a)
   sized-knows a f =
       cond-by (Knows Q s) (ltb 1048576 (length s)) (λ _. tt) (λ long.
       cond-by (Knows Q s) (ltb (length s) 2) (λ _. tt) (λ short.
-      f (ltb-false 1048576 (length s) long) (ltb-false (length s) 2 short)))
+      f (record { long = ltb-false 1048576 (length s) long; short = ltb-false (length s) 2 short })))
 
-  pub knows-long : {a : Answer Found} (f : Found) → a ≡ done f → Knows Q s a → 2 ≤ length s
-  knows-long (line l) e k = subst (Knows Q s) e k .0
-  knows-long end e k = subst (Knows Q s) e k
+  pub knows-length : {a : Answer Found} (f : Found) → a ≡ done f → Knows Q s a → RightLength s
+  knows-length (line l) e k = subst (Knows Q s) e k .0
+  knows-length end e k = subst (Knows Q s) e k
 
   pub knows-line : {a : Answer Found} {l : Line} → a ≡ done (line l) → Knows Q s a → Q l
   knows-line e k = subst (Knows Q s) e k .1

@@ -1,7 +1,7 @@
 -- Reading on, line by line, by any step that is sound: the lines of an image are those that steps one after the other find, and the
 -- equations of the numbers and bodies.
 -- Assumes nothing.
-use Prim.Native.Nat.{ℕ, zero, suc, _+_, _-_, _≤_}
+use Prim.Native.Nat.{ℕ, _-_}
 use mathlib.Core.Path.{_≡_, refl, sym, ap, _∙_, subst}
 use mathlib.Core.List.{List, [], _∷_, _++_, map, append-nil}
 use native.Mathlib.Omega.{arith}
@@ -11,26 +11,10 @@ use Rattle.refusals.specs.Numbers.{Numbered}
 use Rattle.refusals.specs.Answer.{Answer, done, refused, mapDone}
 use Rattle.readers.specs.declared.Line.{Line}
 use Rattle.readers.specs.Image.{lowFirstAt, Found, line, end}
-use Rattle.readers.specs.Lines.{Reader, onward, linesFrom, linesOf, overviewOf, overview, LiesAt, Sound, lines-from, lines-line, lines-end, lines-refused}
+use Rattle.readers.specs.Lines.{Reader, onward, linesFrom, linesOf, overviewOf, overview}
+use Rattle.readers.proofs.Equations.{LiesAt, Sound, lines-from, lines-line, lines-end, lines-refused, by-lines}
 use Rattle.readers.specs.Chain.{Chain, here, on, Leads}
 use Rattle.readers.specs.Bodies.{bodyOf, numberedBody, bodiesFrom, bodiesOf}
-
--- ---- induction line by line
-
--- what holds at an offset whenever it holds at the next offset of the line there, holds at every offset
-pub by-lines : {step : Reader} → Sound step → (s : List ℕ) (P : ℕ → Type 0)
-    → ((p : ℕ) → ((l : Line) → step s p ≡ done (line l) → P (l .next)) → P p) → (p : ℕ) → P p
-by-lines {step} sound s P f p = go (length s) p (omega arith)
-  where
-    on-from : (k q : ℕ) → length s ≤ q + suc k → (l : Line) → step s q ≡ done (line l) → length s ≤ l .next + k
-    on-from k q h l e = let d : LiesAt s q l = sound .lies s q e in omega arith
-
-    none : (q : ℕ) → length s ≤ q + zero → (l : Line) → step s q ≡ done (line l) → ⊥
-    none q h l e = let d : LiesAt s q l = sound .lies s q e in omega arith
-
-    go : (k q : ℕ) → length s ≤ q + k → P q
-    go zero q h = f q (λ l e. absurd (none q h l e))
-    go (suc k) q h = f q (λ l e. go k (l .next) (on-from k q h l e))
 
 -- ---- steps one after the other
 

@@ -5,4 +5,5 @@ pub mod Image
 pub mod Lines
 pub mod Links
 pub mod NumberedBody
+pub mod Readers
 pub mod Terminators

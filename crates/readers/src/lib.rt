@@ -1,9 +1,14 @@
 // The two readers of an image: by terminators, as the original reads, and by links, as the machine follows them.
-// Each has three calls: `check` reads the whole image, `step` the line at an offset, `body` hands out that line's bytes.
+// Each has three calls: `check` reads the whole image, `step` the line at an offset, `body` hands out that line's bytes. What both do alike
+// stands here, with the reader as an argument.
 ghost use mathlib.Core.Path.{_≡_};
 ghost use Prim.Native.Nat.{_+_, _*_, _≤_, _<_};
 ghost use lib.ListN.{length};
+ghost use Rattle.readers.specs.Answers.{stepAnswer, checkedAnswer};
+ghost use Rattle.readers.specs.Bodies.{bodyAt};
 ghost use Rattle.readers.specs.Image.{lowFirstAt, lineAt};
+ghost use Rattle.readers.specs.Lines.{overview};
+ghost use Rattle.readers.specs.Readers.{stepBy};
 use refusals::Refusal;
 
 pub mod links;
@@ -11,6 +16,12 @@ pub mod terminators;
 
 // An image has at most this many bytes.
 const LONGEST: usize = 1048576;
+
+// What says where a line ends: the first 00 behind its number, or its link.
+pub enum By {
+    Terminators,
+    Links,
+}
 
 // A line of an image: its link and its number, the offsets of its body's first byte and behind its last, and the offset of what
 // follows the line.
@@ -33,6 +44,54 @@ pub enum Step {
 pub enum Checked {
     Image { load: u16, lines: usize },
     Refused(Refusal),
+}
+
+// Reads the lines from the first to the end.
+pub fn check_by(image: &[u8], by: By) -> Checked
+    ensures { λ r. ⌜ checkedAnswer r ≡ overview (stepBy by) (now (image .entry)) ⌝ }
+{
+    let mut offset: usize = 2;
+    let mut lines: usize = 0;
+    loop {
+        match step_by(image, offset, by) {
+            Step::Found(line) => {
+                offset = line.next;
+                lines += 1;
+            }
+            Step::End => {
+                let load = low_first_at(image, 0);
+                return Checked::Image { load, lines };
+            }
+            Step::Refused(refusal) => {
+                return Checked::Refused(refusal);
+            }
+        }
+    }
+}
+
+// The line at an offset, any offset.
+pub fn step_by(image: &[u8], offset: usize, by: By) -> Step
+    ensures { λ r. ⌜ stepAnswer r ≡ stepBy by (now (image .entry)) offset ⌝ }
+{
+    match by {
+        By::Terminators => terminators::step(image, offset),
+        By::Links => links::step(image, offset),
+    }
+}
+
+// The body of the line at an offset, as that part of the image; an empty part where no line is.
+pub fn body_by(image: &[u8], offset: usize, by: By) -> &[u8]
+    ensures { λ r. ⌜ now r ≡ bodyAt (stepBy by) (now (image .entry)) offset ⌝ }
+{
+    match step_by(image, offset, by) {
+        Step::Found(line) => {
+            let from = line.from;
+            let to = line.to;
+            &image[from..to]
+        }
+        Step::End => &image[..0],
+        Step::Refused(_) => &image[..0],
+    }
 }
 
 // The line at an offset: its link and number stand there, then its body up to an offset; what follows it stands at another.

@@ -1,10 +1,12 @@
 // By links: a line ends where its link leads, and the byte before that place is its 00.
 ghost use mathlib.Core.Path.{_≡_};
-ghost use Prim.Native.Nat.{_+_, _-_};
+ghost use Prim.Native.Nat.{_+_, _≤_};
+ghost use lib.ListN.{length};
 ghost use Rattle.readers.specs.Answers.{stepAnswer, checkedAnswer};
 ghost use Rattle.readers.specs.Bodies.{bodyAt};
 ghost use Rattle.readers.specs.Lines.{overview};
-ghost use Rattle.readers.specs.Links.{linkStep};
+ghost use Rattle.readers.specs.Links.{targetAt, linkStep};
+use crate::By;
 use crate::Checked;
 use crate::LONGEST;
 use crate::Step;
@@ -16,23 +18,7 @@ use refusals::Refusal;
 pub fn check(image: &[u8]) -> Checked
     ensures { λ r. ⌜ checkedAnswer r ≡ overview linkStep (now (image .entry)) ⌝ }
 {
-    let mut offset: usize = 2;
-    let mut lines: usize = 0;
-    loop {
-        match step(image, offset) {
-            Step::Found(line) => {
-                offset = line.next;
-                lines += 1;
-            }
-            Step::End => {
-                let load = low_first_at(image, 0);
-                return Checked::Image { load, lines };
-            }
-            Step::Refused(refusal) => {
-                return Checked::Refused(refusal);
-            }
-        }
-    }
+    crate::check_by(image, By::Links)
 }
 
 // The line at an offset, any offset.
@@ -52,7 +38,7 @@ pub fn step(image: &[u8], offset: usize) -> Step
     if image[offset + 1] == 0 {
         return Step::End;
     }
-    let target = target_of(low_first_at(image, offset), low_first_at(image, 0));
+    let target = target_at(image, offset);
     if target < offset + 5 {
         return Step::Refused(Refusal::LinkBackward { offset });
     }
@@ -70,22 +56,15 @@ pub fn step(image: &[u8], offset: usize) -> Step
 pub fn body(image: &[u8], offset: usize) -> &[u8]
     ensures { λ r. ⌜ now r ≡ bodyAt linkStep (now (image .entry)) offset ⌝ }
 {
-    match step(image, offset) {
-        Step::Found(line) => {
-            let from = line.from;
-            let to = line.to;
-            &image[from..to]
-        }
-        Step::End => &image[..0],
-        Step::Refused(_) => &image[..0],
-    }
+    crate::body_by(image, offset, By::Links)
 }
 
-// The offset that a link leads to; a link below the load address leads to no line's end, and 0 is none.
-fn target_of(link: u16, load: u16) -> usize
-    ensures { λ r. ⌜ r ≡ 2 + link - load ⌝ }
+// The offset that the link at an offset leads to; a link below the load address leads to no line's end, and 0 is none.
+fn target_at(image: &[u8], offset: usize) -> usize
+    requires { ⌜ offset + 2 ≤ length (now image) ⌝ }
+    ensures { λ r. ⌜ r ≡ targetAt (now (image .entry)) offset ⌝ }
 {
-    let behind = 2 + link as usize;
-    let load = load as usize;
+    let behind = 2 + low_first_at(image, offset) as usize;
+    let load = low_first_at(image, 0) as usize;
     if behind < load { 0 } else { behind - load }
 }

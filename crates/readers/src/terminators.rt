@@ -6,6 +6,7 @@ ghost use Rattle.readers.specs.Answers.{stepAnswer, checkedAnswer};
 ghost use Rattle.readers.specs.Bodies.{bodyAt};
 ghost use Rattle.readers.specs.Lines.{overview};
 ghost use Rattle.readers.specs.Terminators.{beforeZero, terminatedLine, terminatorStep};
+use crate::By;
 use crate::Checked;
 use crate::LONGEST;
 use crate::Line;
@@ -18,23 +19,7 @@ use refusals::Refusal;
 pub fn check(image: &[u8]) -> Checked
     ensures { λ r. ⌜ checkedAnswer r ≡ overview terminatorStep (now (image .entry)) ⌝ }
 {
-    let mut offset: usize = 2;
-    let mut lines: usize = 0;
-    loop {
-        match step(image, offset) {
-            Step::Found(line) => {
-                offset = line.next;
-                lines += 1;
-            }
-            Step::End => {
-                let load = low_first_at(image, 0);
-                return Checked::Image { load, lines };
-            }
-            Step::Refused(refusal) => {
-                return Checked::Refused(refusal);
-            }
-        }
-    }
+    crate::check_by(image, By::Terminators)
 }
 
 // The line at an offset, any offset.
@@ -67,15 +52,7 @@ pub fn step(image: &[u8], offset: usize) -> Step
 pub fn body(image: &[u8], offset: usize) -> &[u8]
     ensures { λ r. ⌜ now r ≡ bodyAt terminatorStep (now (image .entry)) offset ⌝ }
 {
-    match step(image, offset) {
-        Step::Found(line) => {
-            let from = line.from;
-            let to = line.to;
-            &image[from..to]
-        }
-        Step::End => &image[..0],
-        Step::Refused(_) => &image[..0],
-    }
+    crate::body_by(image, offset, By::Terminators)
 }
 
 // The line at an offset: its body runs to the first 00, and the next offset is behind that; or both are the image's end.

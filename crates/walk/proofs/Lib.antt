@@ -1,4 +1,4 @@
 pub mod Apart
+pub mod Behind
 pub mod Promised
 pub mod Results
-pub mod Visits

@@ -1,11 +1,10 @@
 -- Where a walk stands (document 01, "Reading and listing": "a listing walk keeps the image and its place together; it adds nothing to
 -- the steps").
 -- Assumes nothing.
-use Prim.Native.Nat.{ℕ, zero, suc}
-use mathlib.Core.List.{List, [], _∷_}
+use Prim.Native.Nat.{ℕ}
+use mathlib.Core.List.{List}
 use denote.Ref.{RefT}
 use Rattle.refusals.specs.Answer.{Answer, done, refused}
-use Rattle.readers.specs.declared.Line.{Line}
 use Rattle.readers.specs.Image.{Found, line, end}
 use Rattle.readers.specs.Lines.{Reader}
 use Rattle.walk.specs.declared.Walk.{Walk}
@@ -22,14 +21,3 @@ behindFound p (refused n) = p
 
 abbrev pub behind : Reader → List ℕ → ℕ → ℕ
 behind step s p = behindFound p (step s p)
-
--- the offset at which a walk stands that stood at p and was advanced so often
-unfoldable pub advanced : Reader → List ℕ → ℕ → ℕ → ℕ
-advanced step s zero p = p
-advanced step s (suc n) p = advanced step s n (behind step s p)
-
--- these lines one after the other, and from then on the same answer
-unfoldable pub visited : List Line → Answer Found → ℕ → Answer Found
-visited [] a n = a
-visited (l ∷ ls) a zero = done (line l)
-visited (l ∷ ls) a (suc n) = visited ls a n
