@@ -2,9 +2,9 @@
 -- Assumes nothing.
 use Prim.Native.Nat.{ℕ}
 use mathlib.Core.List.{List}
-use Rattle.refusals.specs.Numbers.{Numbered, textTooLong, badByte, missingLineNumber, lineNumberOutOfRange, addressOverflow, noRoom, imageTooLong, tooShort, unexpectedEof, missingEnd, linkBackward, linkOutside, linkNoEnd, unknownDialect}
+use Rattle.refusals.specs.Numbers.{Numbered, textTooLong, badByte, missingLineNumber, lineNumberOutOfRange, addressOverflow, noRoom, imageTooLong, tooShort, unexpectedEof, missingEnd, linkBackward, linkOutside, linkNoEnd, unknownDialect, badDisk, badName, nameTaken, noSuchFile, directoryFull, diskFull}
 use Rattle.refusals.specs.declared.Refusal.{Refusal}
-use Rattle.refusals.specs.declared.Refusal.the-variants.{TextTooLong, BadByte, MissingLineNumber, LineNumberOutOfRange, AddressOverflow, NoRoom, ImageTooLong, TooShort, UnexpectedEof, MissingEnd, LinkBackward, LinkOutside, LinkNoEnd, UnknownDialect}
+use Rattle.refusals.specs.declared.Refusal.the-variants.{TextTooLong, BadByte, MissingLineNumber, LineNumberOutOfRange, AddressOverflow, NoRoom, ImageTooLong, TooShort, UnexpectedEof, MissingEnd, LinkBackward, LinkOutside, LinkNoEnd, UnknownDialect, BadDisk, BadName, NameTaken, NoSuchFile, DirectoryFull, DiskFull}
 
 pub data Answer (A : Type 0) : Type 0 where
   done : A → Answer A
@@ -26,6 +26,12 @@ numbered (LinkBackward offset) = linkBackward offset
 numbered (LinkOutside offset) = linkOutside offset
 numbered (LinkNoEnd offset) = linkNoEnd offset
 numbered UnknownDialect = unknownDialect
+numbered BadDisk = badDisk
+numbered BadName = badName
+numbered NameTaken = nameTaken
+numbered NoSuchFile = noSuchFile
+numbered DirectoryFull = directoryFull
+numbered DiskFull = diskFull
 
 -- the same refusal, or the result taken further
 abbrev pub mapDone : {A B : Type 0} → (A → B) → Answer A → Answer B

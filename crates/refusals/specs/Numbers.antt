@@ -52,3 +52,23 @@ linkNoEnd offset = record { number = 13; carries = offset ∷ [] }
 
 abbrev pub unknownDialect : Numbered
 unknownDialect = record { number = 14; carries = [] }
+
+-- Document 02, No. 9: programs onto disk images. The six carry nothing.
+
+abbrev pub badDisk : Numbered
+badDisk = record { number = 20; carries = [] }
+
+abbrev pub badName : Numbered
+badName = record { number = 21; carries = [] }
+
+abbrev pub nameTaken : Numbered
+nameTaken = record { number = 22; carries = [] }
+
+abbrev pub noSuchFile : Numbered
+noSuchFile = record { number = 23; carries = [] }
+
+abbrev pub directoryFull : Numbered
+directoryFull = record { number = 24; carries = [] }
+
+abbrev pub diskFull : Numbered
+diskFull = record { number = 25; carries = [] }

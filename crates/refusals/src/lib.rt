@@ -20,6 +20,13 @@ pub enum Refusal {
     LinkOutside { offset: usize },
     LinkNoEnd { offset: usize },
     UnknownDialect,
+    // Of a disk, in this and the next five.
+    BadDisk,
+    BadName,
+    NameTaken,
+    NoSuchFile,
+    DirectoryFull,
+    DiskFull,
 }
 
 // An answer as numbers, for callers in other languages: 0 or a refusal's number, how many values it carries, and the values, 0 where
@@ -84,5 +91,11 @@ pub fn refusal_code(refusal: Refusal) -> Code
         Refusal::LinkOutside { offset } => with_one(12, offset),
         Refusal::LinkNoEnd { offset } => with_one(13, offset),
         Refusal::UnknownDialect => bare(14),
+        Refusal::BadDisk => bare(20),
+        Refusal::BadName => bare(21),
+        Refusal::NameTaken => bare(22),
+        Refusal::NoSuchFile => bare(23),
+        Refusal::DirectoryFull => bare(24),
+        Refusal::DiskFull => bare(25),
     }
 }

@@ -139,6 +139,24 @@ returns-13 c = by-case (c .with-one9 .ensures) (c .before .before .refusal10 .gi
 returns-14 : tie.Need-returns-14
 returns-14 c = by-case (c .bare4 .ensures) (c .before .enum-told4 .given .1)
 
+returns-15 : tie.Need-returns-15
+returns-15 c = by-case (c .bare5 .ensures) (c .before .enum-told5 .given .1)
+
+returns-16 : tie.Need-returns-16
+returns-16 c = by-case (c .bare6 .ensures) (c .before .enum-told6 .given .1)
+
+returns-17 : tie.Need-returns-17
+returns-17 c = by-case (c .bare7 .ensures) (c .before .enum-told7 .given .1)
+
+returns-18 : tie.Need-returns-18
+returns-18 c = by-case (c .bare8 .ensures) (c .before .enum-told8 .given .1)
+
+returns-19 : tie.Need-returns-19
+returns-19 c = by-case (c .bare9 .ensures) (c .before .enum-told9 .given .1)
+
+returns-20 : tie.Need-returns-20
+returns-20 c = by-case (c .bare10 .ensures) (c .before .enum-told10 .given .1)
+
 pub refusal-code-spec : {M : Type 1} → statement M
 refusal-code-spec =
     tie.close
@@ -171,6 +189,18 @@ refusal-code-spec =
     with-one-requires-9
     enum-told-4
     bare-requires-4
+    (λ c. search needs)
+    (λ c κs. search needs)
+    (λ c. search needs)
+    (λ c κs. search needs)
+    (λ c. search needs)
+    (λ c κs. search needs)
+    (λ c. search needs)
+    (λ c κs. search needs)
+    (λ c. search needs)
+    (λ c κs. search needs)
+    (λ c. search needs)
+    (λ c κs. search needs)
     returns
     returns-2
     returns-3
@@ -184,4 +214,10 @@ refusal-code-spec =
     returns-11
     returns-12
     returns-13
-    returns-14)
+    returns-14
+    returns-15
+    returns-16
+    returns-17
+    returns-18
+    returns-19
+    returns-20)
