@@ -1,0 +1,9 @@
+pub mod Calls
+pub mod Chains
+pub mod Check
+pub mod Entries
+pub mod Free
+pub mod Links
+pub mod Lists
+pub mod Map
+pub mod Places
