@@ -91,7 +91,7 @@ linkBytes (m ∷ ns) bytes left = sectorBytes (trackOf m) (sectorOf m) bytes
 
 -- an image laid out over sectors, 254 bytes in each
 unfoldable pub laid : List ℕ → List ℕ → List ℕ → List ℕ
-unfolding trackOf
+unfolding trackOf sectorOf
 laid disk [] image = disk
 laid disk (n ∷ ns) image = laid (sets disk (256 * n) (linkBytes ns (take 254 image) image)) ns (drop 254 image)
 
@@ -128,7 +128,7 @@ withFile disk name image sectors =
 
 -- "20; 21; 22; 24 at 144 listed entries; 25 if fewer sectors are free off track 18 than .."
 unfoldable pub saved : List ℕ → List ℕ → List ℕ → Answer (List ℕ)
-unfolding sound laid markedAll directory filter any freeSectors entriesThat trackOf marked
+unfolding sound laid markedAll directory filter any freeSectors entriesThat trackOf sectorOf marked
 saved disk name image =
     onSound disk name
     (cond (any (isNamed disk name) (listed disk)) (refused nameTaken)

@@ -32,7 +32,7 @@ bitAt disk t s = bitOf (getD disk (mapAt t + 1 + s / 8) 0) (s % 8)
 
 -- a sector off track 18 that the map calls free
 unfoldable pub isFree : List ℕ → ℕ → Bool
-unfolding trackOf bitOf
+unfolding trackOf sectorOf bitOf
 isFree disk n = offTrack18 n && eqb (bitAt disk (trackOf n) (sectorOf n)) 1
 
 -- a disk whose count for track t is "the number of 1 bits among its 24"
@@ -43,7 +43,7 @@ counted disk t =
 
 -- a disk with a sector marked free, or used, and its track counted anew
 unfoldable pub marked : List ℕ → ℕ → Bool → List ℕ
-unfolding trackOf withBit ones
+unfolding trackOf sectorOf withBit ones
 marked disk n free =
     counted
     (set disk (mapAt (trackOf n) + 1 + sectorOf n / 8)

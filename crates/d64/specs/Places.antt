@@ -1,7 +1,7 @@
 -- The sectors of a disk (issue 29, "The disk": "tracks 1 to 35 with 21, 19, 18, 17 sectors each (1 to 17, 18 to 24, 25 to 30, 31 to 35),
 -- 256 bytes each, in order of track and sector"). A sector is its number in this order, from 0 to 682; "lower" means a lower number.
 -- Assumes nothing.
-use Prim.Native.Nat.{ℕ, _+_, _-_, _*_, _/_}
+use Prim.Native.Nat.{ℕ, _+_, _-_, _*_, _/_, _%_}
 use mathlib.Core.Bool.{Bool, cond, _&&_, _||_}
 use lib.Dec.{leb, ltb}
 
@@ -33,8 +33,8 @@ trackOf n =
     (cond (ltb n 598) (25 + (n - 490) / 18)
     (31 + (n - 598) / 17)))
 
-abbrev pub sectorOf : ℕ → ℕ
-sectorOf n = n - sectorsBefore (trackOf n)
+unfoldable pub sectorOf : ℕ → ℕ
+sectorOf n = cond (ltb n 357) (n % 21) (cond (ltb n 490) ((n - 357) % 19) (cond (ltb n 598) ((n - 490) % 18) ((n - 598) % 17)))
 
 -- track 18 is the sectors 357 to 375
 abbrev pub offTrack18 : ℕ → Bool

@@ -1,0 +1,23 @@
+-- `sectors::ones` meets its contract.
+-- Assumes nothing.
+use Rattle.d64.specs.Map.{ones}
+use borrow.Author.Needs.{needs}
+use Rattle.sectors.proofs.ones.Statement.{statement}
+use Rattle.sectors.proofs.ones.Tie as tie
+
+returns : tie.Need-returns
+unfolding ones
+returns c = search needs
+
+pub ones-spec : {M : Type 1} → statement M
+ones-spec =
+    tie.close
+    (tie.spec
+    (λ c. search needs)
+    (λ c. search needs)
+    (λ c. search needs)
+    (λ c. search needs)
+    (λ c. search needs)
+    (λ c. search needs)
+    (λ c. search needs)
+    returns)
