@@ -28,11 +28,15 @@ entriesOf sectors = map (entryAt sectors) (run 0 (8 * length sectors))
 abbrev pub isListed : List ℕ → ℕ → Bool
 isListed disk p = not (eqb (getD disk p 0) 0)
 
+-- whether an entry is listed, or is not
+abbrev pub isThat : Bool → List ℕ → ℕ → Bool
+isThat true disk p = isListed disk p
+isThat false disk p = not (isListed disk p)
+
 -- the entries that are listed, or those that are not, in the chain's order
 unfoldable pub entriesThat : Bool → List ℕ → List ℕ → List ℕ
 unfolding filter run
-entriesThat true disk sectors = filter (isListed disk) (entriesOf sectors)
-entriesThat false disk sectors = filter (λ p. not (isListed disk p)) (entriesOf sectors)
+entriesThat which disk sectors = filter (isThat which disk) (entriesOf sectors)
 
 abbrev pub listed : List ℕ → List ℕ
 listed disk = entriesThat true disk (directory disk .sectors)

@@ -1,0 +1,4 @@
+pub mod Marking
+pub mod Mapping
+pub mod Runs
+pub mod Tracing
