@@ -14,7 +14,7 @@ use Rattle.d64.specs.Lists.{isIn, noneTwice}
 use Rattle.d64.specs.Map.{bitAt}
 use Rattle.d64.specs.Free.{bitAgrees, mapAgrees}
 use Rattle.sectors.proofs.Geometry.{zone-1, zone-2, zone-3, zone-4}
-use Rattle.chains.specs.Promises.{Marks, Marked}
+use Rattle.chains.specs.ChainHelpers.{Marks, Marked}
 
 -- a track's sectors end with the disk at the latest
 pub on-room : (t : ℕ) → 1 ≤ t → t ≤ 35 → sectorsBefore t + sectorsOn t ≤ 683

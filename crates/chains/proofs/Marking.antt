@@ -10,10 +10,10 @@ use lib.Seq.{drop-cons, drop-length, getD-set-same, getD-set-other}
 use native.Mathlib.Numerals.{add-one}
 use native.Mathlib.Omega.{arith}
 use borrow.Author.Tests.{eqb-true, eqb-false}
-use Rattle.d64.specs.Lists.{any, isIn, noneTwice}
+use Rattle.d64.specs.Lists.{some, isIn, noneTwice}
 use Rattle.d64.specs.Free.{markedAll}
 use Rattle.d64.specs.Map.{marked}
-use Rattle.chains.specs.Promises.{Sectors, Marks, Marked}
+use Rattle.chains.specs.ChainHelpers.{Sectors, Marks, Marked}
 
 blank-at : (k n : ℕ) → getD (replicate k false) n false ≡ false
 blank-at zero n = refl
@@ -21,7 +21,7 @@ blank-at (suc k) zero = refl
 blank-at (suc k) (suc n) = blank-at k n
 
 pub blank : Marks (replicate 683 false) []
-unfolding any
+unfolding some
 blank = record { sized = length-replicate 683 false; means = blank-at 683 }
 
 pub record Marking (list : List ℕ) (marks : List Bool) (i : ℕ) : Type 0 where
@@ -69,7 +69,7 @@ module _ {list : List ℕ} {marks : List Bool} {i : ℕ} (m : Marking list marks
     by-case k false e = getD-set-other marks (getD list (i - 1) 0) k true false (eqb-false k (getD list (i - 1) 0) e) ∙ m .means .means k
 
     pub mark-turn : getD marks (getD list (i - 1) 0) false ≡ false → Marking list (set marks (getD list (i - 1) 0) true) (i - 1)
-    unfolding noneTwice any
+    unfolding noneTwice some
     mark-turn e =
         let t : isIn (drop i list) (getD list (i - 1) 0) ≡ false = sym (m .means .means (getD list (i - 1) 0)) ∙ e in
         record {

@@ -13,10 +13,10 @@ use mir.Val.{Fits}
 use mir.Syntax.{w64}
 use borrow.Author.Tests.{lt-ltb, le-ltb, le-leb, lt-leb, leb-true, ltb-true, not-true, not-false}
 use Rattle.d64.specs.Links.{linkAt}
-use Rattle.d64.specs.Chains.{Chain, chain, broken, mayHold, mayEnd, onward}
+use Rattle.d64.specs.Chains.{Chain, chain, brokenChain, mayHold, mayEnd, chainOnward}
 use Rattle.d64.specs.declared.Link.{Link}
 use Rattle.d64.specs.declared.Link.the-variants.{Last, To, Astray}
-use Rattle.chains.specs.Promises.{Traces}
+use Rattle.chains.specs.ChainHelpers.{Traces}
 use Rattle.chains.specs.declared.Traced.{Traced}
 
 and-left : (a b : Bool) → (a && b) ≡ true → a ≡ true
@@ -119,7 +119,7 @@ module _ {dir : Bool} {d : List ℕ} {c : Chain} {log₀ : List ℕ} {at : ℕ} 
 
     module _ {l : Link} (f : l ≡ linkAt d (256 * n)) where
       -- what is owed, by the sector's link
-      linked : {k : Link} → l ≡ k → Owes c log₀ at (onward dir n (chain dir (length log₀ - (to + 1)) d) k) log to
+      linked : {k : Link} → l ≡ k → Owes c log₀ at (chainOnward dir n (chain dir (length log₀ - (to + 1)) d) k) log to
       unfolding chain
       linked {k} i =
           let m : linkAt d (256 * n) ≡ k = sym f ∙ i in

@@ -14,7 +14,7 @@ ghost use lib.ListN.{length, getD};
 ghost use Rattle.d64.specs.Lists.{isIn, noneTwice};
 ghost use Rattle.d64.specs.Chains.{chain, mayHold, mayEnd};
 ghost use Rattle.d64.specs.Free.{bitAgrees, mapAgrees, freeSectors, markedAll};
-ghost use Rattle.chains.specs.Promises.{Sectors, Traces, Marks, Marked, Lists};
+ghost use Rattle.chains.specs.ChainHelpers.{Sectors, Traces, Marks, Marked, Lists};
 
 // A chain that was followed: the place behind its last sector in the log, and whether it ends as it should.
 pub struct Traced {

@@ -1,4 +1,4 @@
--- What the five calls do to a disk, and answer (issue 29, "Settled readings").
+-- What the five calls do to a disk, and answer (docs/RULES.md, "Disks").
 -- Assumes nothing.
 use Prim.Native.Nat.{ℕ, zero, suc, _+_, _-_, _*_, _/_, _%_, max}
 use mathlib.Core.Bool.{Bool, true, false, cond, not, _&&_, _||_}
@@ -10,15 +10,15 @@ use Rattle.refusals.specs.Numbers.{Numbered, badDisk, badName, nameTaken, noSuc
 use Rattle.refusals.specs.Answer.{Answer, done, refused, numbered}
 use Rattle.d64.specs.Places.{trackOf, sectorOf}
 use Rattle.d64.specs.Map.{marked}
-use Rattle.d64.specs.Lists.{run, filter, any, isIn}
+use Rattle.d64.specs.Lists.{numbersFrom, those, some, isIn}
 use Rattle.d64.specs.Chains.{Chain}
 use Rattle.d64.specs.Free.{freeSectors, markedAll}
 use Rattle.d64.specs.Entries.{directory, listed, entriesThat, isNamed, chainOf}
 use Rattle.d64.specs.Check.{sound}
 use Rattle.d64.specs.declared.Changed.{Changed}
 use Rattle.d64.specs.declared.Changed.the-variants.{Done, Refused}
-use Rattle.d64.specs.declared.Checked.{Checked}
-use Rattle.d64.specs.declared.Checked.the-variants.{Holds, Refused as RefusedDisk}
+use Rattle.d64.specs.declared.DiskCheck.{DiskCheck}
+use Rattle.d64.specs.declared.DiskCheck.the-variants.{Holds, Refused as RefusedDisk}
 
 -- ---- refusals
 
@@ -31,8 +31,8 @@ abbrev pub onSound : {A : Type 0} → List ℕ → List ℕ → Answer A → Ans
 onSound disk name a = cond (sound disk) (cond (isName name) a (refused badName)) (refused badDisk)
 
 -- the listed entries of a name: one, or none, where the disk is sound
-abbrev pub named : List ℕ → List ℕ → List ℕ
-named disk name = filter (isNamed disk name) (listed disk)
+abbrev pub entriesNamed : List ℕ → List ℕ → List ℕ
+entriesNamed disk name = those (isNamed disk name) (listed disk)
 
 -- what f answers of the entry of a name, or 23
 abbrev pub ofFile : {A : Type 0} → List ℕ → (ℕ → Answer A) → Answer A
@@ -46,9 +46,9 @@ pub record Holding : Type 0 where
   pub files : ℕ
   pub free : ℕ
 
-unfoldable pub checked : List ℕ → Answer Holding
+unfoldable pub diskHolding : List ℕ → Answer Holding
 unfolding sound freeSectors
-checked disk =
+diskHolding disk =
     cond (sound disk) (done (record { files = length (listed disk); free = length (freeSectors disk) })) (refused badDisk)
 
 -- ---- read
@@ -57,22 +57,22 @@ checked disk =
 abbrev pub payload : List ℕ → ℕ → List ℕ
 payload disk n = take (cond (eqb (getD disk (256 * n) 0) 0) (getD disk (256 * n + 1) 0 - 1) 254) (drop (256 * n + 2) disk)
 
-unfoldable pub bytesOf : List ℕ → List ℕ → List ℕ
-bytesOf disk [] = []
-bytesOf disk (n ∷ ns) = payload disk n ++ bytesOf disk ns
+unfoldable pub chainBytes : List ℕ → List ℕ → List ℕ
+chainBytes disk [] = []
+chainBytes disk (n ∷ ns) = payload disk n ++ chainBytes disk ns
 
 -- the bytes of a file; into a lent buffer they go by `intoBuffer`, with 6
 unfoldable pub fileBytes : List ℕ → List ℕ → Answer (List ℕ)
-unfolding sound bytesOf filter
-fileBytes disk name = onSound disk name (ofFile (named disk name) (λ p. done (bytesOf disk (chainOf 683 disk p .sectors))))
+unfolding sound chainBytes those
+fileBytes disk name = onSound disk name (ofFile (entriesNamed disk name) (λ p. done (chainBytes disk (chainOf 683 disk p .sectors))))
 
 -- ---- scratch
 
 -- "the entry's type becomes 00 and nothing else of it; its sectors are marked free and their tracks counted anew"
 unfoldable pub scratched : List ℕ → List ℕ → Answer (List ℕ)
-unfolding sound markedAll filter
+unfolding sound markedAll those
 scratched disk name =
-    onSound disk name (ofFile (named disk name) (λ p. done (markedAll (set disk p 0) (chainOf 683 disk p .sectors) true)))
+    onSound disk name (ofFile (entriesNamed disk name) (λ p. done (markedAll (set disk p 0) (chainOf 683 disk p .sectors) true)))
 
 -- ---- save
 
@@ -107,7 +107,7 @@ entryBytes name sectors =
 
 -- the sectors 18/1 to 18/18 outside a directory's chain
 abbrev pub outside : List ℕ → List ℕ
-outside sectors = filter (λ n. not (isIn sectors n)) (run 358 18)
+outside sectors = those (λ n. not (isIn sectors n)) (numbersFrom 358 18)
 
 -- "written whole (00 FF and 00s), linked from the chain's last sector and marked used"
 abbrev pub grown : List ℕ → ℕ → ℕ → List ℕ
@@ -128,10 +128,10 @@ withFile disk name image sectors =
 
 -- "20; 21; 22; 24 at 144 listed entries; 25 if fewer sectors are free off track 18 than .."
 unfoldable pub saved : List ℕ → List ℕ → List ℕ → Answer (List ℕ)
-unfolding sound laid markedAll directory filter any freeSectors entriesThat trackOf sectorOf marked
+unfolding sound laid markedAll directory those some freeSectors entriesThat trackOf sectorOf marked
 saved disk name image =
     onSound disk name
-    (cond (any (isNamed disk name) (listed disk)) (refused nameTaken)
+    (cond (some (isNamed disk name) (listed disk)) (refused nameTaken)
     (cond (leb 144 (length (listed disk))) (refused directoryFull)
     (cond (ltb (length (freeSectors disk)) (sectorsFor image)) (refused diskFull)
     (withFile disk name image (taken disk image)))))
@@ -139,22 +139,22 @@ saved disk name image =
 -- ---- format
 
 -- a list so many times
-unfoldable pub times : ℕ → List ℕ → List ℕ
-times zero bytes = []
-times (suc k) bytes = bytes ++ times k bytes
+unfoldable pub repeated : ℕ → List ℕ → List ℕ
+repeated zero bytes = []
+repeated (suc k) bytes = bytes ++ repeated k bytes
 
 -- "18/0 begins 12 01 41 00, then the map, all free but 18/0 and 18/1 (..); 90 to AA of 18/0 all A0 but A5, A6 "2A""
-unfoldable pub header : List ℕ
-unfolding times
-header =
-    0x12 ∷ 0x01 ∷ 0x41 ∷ 0x00 ∷ times 17 (0x15 ∷ 0xFF ∷ 0xFF ∷ 0x1F ∷ []) ++ 0x11 ∷ 0xFC ∷ 0xFF ∷ 0x07 ∷ times 6 (0x13 ∷ 0xFF ∷ 0xFF ∷ 0x07 ∷ [])
-    ++ times 6 (0x12 ∷ 0xFF ∷ 0xFF ∷ 0x03 ∷ []) ++ times 5 (0x11 ∷ 0xFF ∷ 0xFF ∷ 0x01 ∷ [])
+unfoldable pub freshHeader : List ℕ
+unfolding repeated
+freshHeader =
+    0x12 ∷ 0x01 ∷ 0x41 ∷ 0x00 ∷ repeated 17 (0x15 ∷ 0xFF ∷ 0xFF ∷ 0x1F ∷ []) ++ 0x11 ∷ 0xFC ∷ 0xFF ∷ 0x07 ∷ repeated 6 (0x13 ∷ 0xFF ∷ 0xFF ∷ 0x07 ∷ [])
+    ++ repeated 6 (0x12 ∷ 0xFF ∷ 0xFF ∷ 0x03 ∷ []) ++ repeated 5 (0x11 ∷ 0xFF ∷ 0xFF ∷ 0x01 ∷ [])
     ++ replicate 21 0xA0 ++ 0x32 ∷ 0x41 ∷ replicate 4 0xA0
 
 -- "Every byte 00 but: .. 18/1 begins 00 FF"
 unfoldable pub fresh : List ℕ
-unfolding header
-fresh = sets (sets (replicate 174848 0) 91392 header) 91648 (0x00 ∷ 0xFF ∷ [])
+unfolding freshHeader
+fresh = sets (sets (replicate 174848 0) 91392 freshHeader) 91648 (0x00 ∷ 0xFF ∷ [])
 
 -- "tests the length only"
 abbrev pub formatted : List ℕ → Answer (List ℕ)
@@ -180,6 +180,6 @@ changedAnswer (Refused r) = refused (numbered r)
 abbrev pub leaving : Changed → List ℕ → After
 leaving r disk = record { answer = changedAnswer r; disk = disk }
 
-abbrev pub checkedAnswer : Checked → Answer Holding
-checkedAnswer (Holds files free) = done (record { files = files; free = free })
-checkedAnswer (RefusedDisk r) = refused (numbered r)
+abbrev pub diskAnswer : DiskCheck → Answer Holding
+diskAnswer (Holds files free) = done (record { files = files; free = free })
+diskAnswer (RefusedDisk r) = refused (numbered r)

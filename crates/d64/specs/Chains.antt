@@ -1,4 +1,4 @@
--- Chains of sectors (issue 29, "The check"). The directory's chain "stays on 18/1 to 18/18 until a link with track 00, whatever its second
+-- Chains of sectors (docs/RULES.md, "Disks", "The check"). The directory's chain "stays on 18/1 to 18/18 until a link with track 00, whatever its second
 -- byte"; a file's "stays on existing sectors off track 18 until a link with track 00 whose second byte is not 00".
 -- Assumes nothing.
 use Prim.Native.Nat.{ℕ, zero, suc, _*_}
@@ -25,16 +25,16 @@ abbrev pub mayEnd : Bool → ℕ → Bool
 mayEnd true b = true
 mayEnd false b = not (eqb b 0)
 
-abbrev pub broken : Chain
-broken = record { sectors = []; ends = false }
+abbrev pub brokenChain : Chain
+brokenChain = record { sectors = []; ends = false }
 
 -- the sector n and what f meets from the one that its link leads to
-abbrev pub onward : Bool → ℕ → (ℕ → Chain) → Link → Chain
-onward dir n f (Last b) = record { sectors = n ∷ []; ends = mayEnd dir b }
-onward dir n f (To m) = record { sectors = n ∷ f m .sectors; ends = f m .ends }
-onward dir n f Astray = record { sectors = n ∷ []; ends = false }
+abbrev pub chainOnward : Bool → ℕ → (ℕ → Chain) → Link → Chain
+chainOnward dir n f (Last b) = record { sectors = n ∷ []; ends = mayEnd dir b }
+chainOnward dir n f (To m) = record { sectors = n ∷ f m .sectors; ends = f m .ends }
+chainOnward dir n f Astray = record { sectors = n ∷ []; ends = false }
 
 -- the chain from n on, of at most so many sectors: one that goes on behind them does not end as it should
 unfoldable pub chain : Bool → ℕ → List ℕ → ℕ → Chain
-chain dir zero disk n = broken
-chain dir (suc k) disk n = cond (mayHold dir n) (onward dir n (chain dir k disk) (linkAt disk (256 * n))) broken
+chain dir zero disk n = brokenChain
+chain dir (suc k) disk n = cond (mayHold dir n) (chainOnward dir n (chain dir k disk) (linkAt disk (256 * n))) brokenChain

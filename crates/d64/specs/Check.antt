@@ -1,4 +1,4 @@
--- The check (issue 29, "The check (20 unless all hold)").
+-- The check (docs/RULES.md, "Disks", "The check": "20 unless all hold").
 -- Assumes nothing.
 use Prim.Native.Nat.{ℕ}
 use mathlib.Core.Bool.{Bool, _&&_}

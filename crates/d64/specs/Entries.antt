@@ -1,4 +1,4 @@
--- The directory (issue 29, "Directory": "a chain from 18/1; eight entries of 30 bytes in a sector at 2, 34, .. 226: type, first track, first
+-- The directory (docs/RULES.md, "Disks", "The disk": "a chain from 18/1; eight entries of 30 bytes in a sector at 2, 34, .. 226: type, first track, first
 -- sector, name of 16 .. Listed: type not 00, wherever it stands in the chain. An entry's name: its 16 bytes up to the first A0"). An entry
 -- is known by the offset of its type.
 -- Assumes nothing.
@@ -10,8 +10,8 @@ use lib.ListN.{length, getD, take, drop}
 use Rattle.d64.specs.Links.{linkAt}
 use Rattle.d64.specs.declared.Link.{Link}
 use Rattle.d64.specs.declared.Link.the-variants.{Last, To, Astray}
-use Rattle.d64.specs.Lists.{run, filter, any}
-use Rattle.d64.specs.Chains.{Chain, chain, broken}
+use Rattle.d64.specs.Lists.{numbersFrom, those, some}
+use Rattle.d64.specs.Chains.{Chain, chain, brokenChain}
 
 -- the directory's chain, from 18/1, which is sector 358
 unfoldable pub directory : List ℕ → Chain
@@ -23,7 +23,7 @@ abbrev pub entryAt : List ℕ → ℕ → ℕ
 entryAt sectors e = 256 * getD sectors (e / 8) 0 + 2 + 32 * (e % 8)
 
 abbrev pub entriesOf : List ℕ → List ℕ
-entriesOf sectors = map (entryAt sectors) (run 0 (8 * length sectors))
+entriesOf sectors = map (entryAt sectors) (numbersFrom 0 (8 * length sectors))
 
 abbrev pub isListed : List ℕ → ℕ → Bool
 isListed disk p = not (eqb (getD disk p 0) 0)
@@ -35,8 +35,8 @@ isThat false disk p = not (isListed disk p)
 
 -- the entries that are listed, or those that are not, in the chain's order
 unfoldable pub entriesThat : Bool → List ℕ → List ℕ → List ℕ
-unfolding filter run
-entriesThat which disk sectors = filter (isThat which disk) (entriesOf sectors)
+unfolding those numbersFrom
+entriesThat which disk sectors = those (isThat which disk) (entriesOf sectors)
 
 abbrev pub listed : List ℕ → List ℕ
 listed disk = entriesThat true disk (directory disk .sectors)
@@ -51,38 +51,38 @@ unfolding beforeA0
 nameAt disk p = beforeA0 (take 16 (drop (p + 3) disk))
 
 -- "Names are bytes, compared as they are"
-unfoldable pub same : List ℕ → List ℕ → Bool
-same [] [] = true
-same [] (b ∷ bs) = false
-same (a ∷ rest) [] = false
-same (a ∷ rest) (b ∷ bs) = eqb a b && same rest bs
+unfoldable pub sameName : List ℕ → List ℕ → Bool
+sameName [] [] = true
+sameName [] (b ∷ bs) = false
+sameName (a ∷ rest) [] = false
+sameName (a ∷ rest) (b ∷ bs) = eqb a b && sameName rest bs
 
 abbrev pub isNamed : List ℕ → List ℕ → ℕ → Bool
-isNamed disk name p = same (nameAt disk p) name
+isNamed disk name p = sameName (nameAt disk p) name
 
 -- of entries: each is of type 82, and none behind it has its name
 unfoldable pub entriesGood : List ℕ → List ℕ → Bool
-unfolding any
+unfolding some
 entriesGood disk [] = true
-entriesGood disk (p ∷ ps) = eqb (getD disk p 0) 0x82 && not (any (isNamed disk (nameAt disk p)) ps) && entriesGood disk ps
+entriesGood disk (p ∷ ps) = eqb (getD disk p 0) 0x82 && not (some (isNamed disk (nameAt disk p)) ps) && entriesGood disk ps
 
 -- ---- the chains of files
 
 abbrev pub chainBy : List ℕ → ℕ → Link → Chain
-chainBy disk k (Last b) = broken
+chainBy disk k (Last b) = brokenChain
 chainBy disk k (To n) = chain false k disk n
-chainBy disk k Astray = broken
+chainBy disk k Astray = brokenChain
 
 -- an entry's chain, of at most so many sectors
 abbrev pub chainOf : ℕ → List ℕ → ℕ → Chain
 chainOf k disk p = chainBy disk k (linkAt disk (p + 1))
 
 -- one chain and what f, told how many sectors it takes, meets behind it
-abbrev pub behind : Chain → (ℕ → Chain) → Chain
-behind c f = cond (c .ends) (record { sectors = c .sectors ++ f (length (c .sectors)) .sectors; ends = f (length (c .sectors)) .ends }) c
+abbrev pub chainsBehind : Chain → (ℕ → Chain) → Chain
+chainsBehind c f = cond (c .ends) (record { sectors = c .sectors ++ f (length (c .sectors)) .sectors; ends = f (length (c .sectors)) .ends }) c
 
 -- the chains of entries one after the other, of at most so many sectors in all: a disk has 683, so more would meet one twice
 unfoldable pub chains : ℕ → List ℕ → List ℕ → Chain
 unfolding chain
 chains k disk [] = record { sectors = []; ends = true }
-chains k disk (p ∷ ps) = behind (chainOf k disk p) (λ n. chains (k - n) disk ps)
+chains k disk (p ∷ ps) = chainsBehind (chainOf k disk p) (λ n. chains (k - n) disk ps)

@@ -1,4 +1,4 @@
--- The map beside the chains (issue 29, "The check": "for every track but 18 the 24 bits are 1 exactly for its sectors in no chain, bits beyond
+-- The map beside the chains (docs/RULES.md, "Disks", "The check": "for every track but 18 the 24 bits are 1 exactly for its sectors in no chain, bits beyond
 -- its sectors 0"), and the sectors that it calls free.
 -- Assumes nothing.
 use Prim.Native.Nat.{ℕ, _+_, _/_, _%_}
@@ -7,7 +7,7 @@ use mathlib.Core.List.{List, [], _∷_}
 use lib.Dec.{ltb, eqb}
 use Rattle.d64.specs.Places.{sectorsOn, sectorAt}
 use Rattle.d64.specs.Map.{bitAt, isFree, marked}
-use Rattle.d64.specs.Lists.{run, filter, all, isIn}
+use Rattle.d64.specs.Lists.{numbersFrom, those, every, isIn}
 
 -- the bit of the sector s of track t, where a test says which sectors are in a chain
 abbrev pub bitAgrees : List ℕ → (ℕ → Bool) → ℕ → ℕ → Bool
@@ -15,13 +15,13 @@ bitAgrees disk met t s = eqb t 18 || eqb (bitAt disk t s) (cond (ltb s (sectorsO
 
 -- each of the 24 bits of tracks 1 to 35
 unfoldable pub mapAgrees : List ℕ → (ℕ → Bool) → Bool
-unfolding all run
-mapAgrees disk met = all (λ i. bitAgrees disk met (1 + i / 24) (i % 24)) (run 0 840)
+unfolding every numbersFrom
+mapAgrees disk met = every (λ i. bitAgrees disk met (1 + i / 24) (i % 24)) (numbersFrom 0 840)
 
 -- the free sectors off track 18, the lowest first
 unfoldable pub freeSectors : List ℕ → List ℕ
-unfolding filter run
-freeSectors disk = filter (isFree disk) (run 0 683)
+unfolding those numbersFrom
+freeSectors disk = those (isFree disk) (numbersFrom 0 683)
 
 -- the sectors of a list marked free, or used
 unfoldable pub markedAll : List ℕ → List ℕ → Bool → List ℕ

@@ -1,4 +1,4 @@
--- Links (issue 29: "track and sector of the next, or 00 and a second byte in a chain's last").
+-- Links (docs/RULES.md, "Disks", "The disk": "track and sector of the next, or 00 and a second byte in a chain's last").
 -- Assumes nothing.
 use Prim.Native.Nat.{ℕ, _+_}
 use mathlib.Core.Bool.{cond}

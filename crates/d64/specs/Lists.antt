@@ -6,28 +6,28 @@ use mathlib.Core.List.{List, [], _∷_}
 use lib.Dec.{eqb}
 
 -- so many numbers, from one on
-unfoldable pub run : ℕ → ℕ → List ℕ
-run from zero = []
-run from (suc k) = from ∷ run (from + 1) k
+unfoldable pub numbersFrom : ℕ → ℕ → List ℕ
+numbersFrom from zero = []
+numbersFrom from (suc k) = from ∷ numbersFrom (from + 1) k
 
-unfoldable pub filter : (ℕ → Bool) → List ℕ → List ℕ
-filter test [] = []
-filter test (n ∷ ns) = cond (test n) (n ∷ filter test ns) (filter test ns)
+unfoldable pub those : (ℕ → Bool) → List ℕ → List ℕ
+those test [] = []
+those test (n ∷ ns) = cond (test n) (n ∷ those test ns) (those test ns)
 
-unfoldable pub all : (ℕ → Bool) → List ℕ → Bool
-all test [] = true
-all test (n ∷ ns) = test n && all test ns
+unfoldable pub every : (ℕ → Bool) → List ℕ → Bool
+every test [] = true
+every test (n ∷ ns) = test n && every test ns
 
-unfoldable pub any : (ℕ → Bool) → List ℕ → Bool
-any test [] = false
-any test (n ∷ ns) = test n || any test ns
+unfoldable pub some : (ℕ → Bool) → List ℕ → Bool
+some test [] = false
+some test (n ∷ ns) = test n || some test ns
 
 -- whether a number stands in a list
 abbrev pub isIn : List ℕ → ℕ → Bool
-isIn ns n = any (eqb n) ns
+isIn ns n = some (eqb n) ns
 
 -- no number stands in the list twice
 unfoldable pub noneTwice : List ℕ → Bool
-unfolding any
+unfolding some
 noneTwice [] = true
 noneTwice (n ∷ ns) = not (isIn ns n) && noneTwice ns

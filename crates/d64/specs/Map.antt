@@ -1,4 +1,4 @@
--- The map of free sectors (issue 29: "in 18/0, four bytes for track t at 4t: the count of free sectors, then 24 bits, sector s being bit
+-- The map of free sectors (docs/RULES.md, "Disks", "The disk": "in 18/0, four bytes for track t at 4t: the count of free sectors, then 24 bits, sector s being bit
 -- s % 8 of byte 1 + s / 8; 1 is free").
 -- Assumes nothing.
 use Prim.Native.Nat.{ℕ, _+_, _-_, _*_, _/_, _%_, _^_}
@@ -36,8 +36,8 @@ unfolding trackOf sectorOf bitOf
 isFree disk n = offTrack18 n && eqb (bitAt disk (trackOf n) (sectorOf n)) 1
 
 -- a disk whose count for track t is "the number of 1 bits among its 24"
-abbrev pub counted : List ℕ → ℕ → List ℕ
-counted disk t =
+abbrev pub recounted : List ℕ → ℕ → List ℕ
+recounted disk t =
     set disk (mapAt t)
     (ones (getD disk (mapAt t + 1) 0) + ones (getD disk (mapAt t + 2) 0) + ones (getD disk (mapAt t + 3) 0))
 
@@ -45,7 +45,7 @@ counted disk t =
 unfoldable pub marked : List ℕ → ℕ → Bool → List ℕ
 unfolding trackOf sectorOf withBit ones
 marked disk n free =
-    counted
+    recounted
     (set disk (mapAt (trackOf n) + 1 + sectorOf n / 8)
     (withBit (getD disk (mapAt (trackOf n) + 1 + sectorOf n / 8) 0) (sectorOf n % 8) free))
     (trackOf n)

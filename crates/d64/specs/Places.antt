@@ -1,4 +1,4 @@
--- The sectors of a disk (issue 29, "The disk": "tracks 1 to 35 with 21, 19, 18, 17 sectors each (1 to 17, 18 to 24, 25 to 30, 31 to 35),
+-- The sectors of a disk (docs/RULES.md, "Disks", "The disk": "tracks 1 to 35 with 21, 19, 18, 17 sectors each (1 to 17, 18 to 24, 25 to 30, 31 to 35),
 -- 256 bytes each, in order of track and sector"). A sector is its number in this order, from 0 to 682; "lower" means a lower number.
 -- Assumes nothing.
 use Prim.Native.Nat.{ℕ, _+_, _-_, _*_, _/_, _%_}

@@ -16,7 +16,7 @@ pub enum Changed {
 }
 
 // What a sound disk holds: how many listed files, and how many free sectors off track 18.
-pub enum Checked {
+pub enum DiskCheck {
     Holds { files: usize, free: usize },
     Refused(Refusal),
 }

@@ -1,4 +1,4 @@
--- What the contracts of this crate say of lists in the caller's hands.
+-- What the contracts of the helpers in this crate say of lists in the caller's hands.
 -- Assumes nothing.
 use Prim.Native.Nat.{ℕ, _+_, _≤_, _<_}
 use mathlib.Core.Path.{_≡_}
