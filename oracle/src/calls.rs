@@ -1,5 +1,6 @@
 //! The calls that a request can stand for, and how each is laid out in a payload.
 
+use crate::fields::Fields;
 use crate::frames::Request;
 use crate::tokens::Dialect;
 
@@ -17,9 +18,21 @@ pub const CHECK_BY_LINKS: u8 = 0x08;
 pub const STEP_BY_LINKS: u8 = 0x09;
 pub const LISTING: u8 = 0x0A;
 pub const LISTING_ROOM: u8 = 0x0B;
+pub const FORMAT_DISK: u8 = 0x20;
+pub const SAVE_FILE: u8 = 0x21;
+pub const READ_FILE: u8 = 0x22;
+pub const SCRATCH_FILE: u8 = 0x23;
+pub const CHECK_DISK: u8 = 0x24;
 
-/// The ops that the original, or our model of the link reader, can answer.
-pub const KNOWN_OPS: std::ops::RangeInclusive<u8> = CRUNCH..=LISTING_ROOM;
+/// Whether the original, or a model of our own, can answer an op.
+pub fn is_known(op: u8) -> bool {
+    matches!(op, CRUNCH..=LISTING_ROOM | FORMAT_DISK..=CHECK_DISK)
+}
+
+/// Whether an op's payload ends with a disk, and its answer too.
+pub fn is_of_disks(op: u8) -> bool {
+    matches!(op, FORMAT_DISK..=CHECK_DISK)
+}
 
 #[derive(Debug, Clone, Copy, PartialEq, Eq)]
 pub enum Reader {
@@ -66,6 +79,26 @@ pub enum Call<'a> {
     ListingRoom {
         image: &'a [u8],
     },
+    FormatDisk {
+        disk: &'a [u8],
+    },
+    SaveFile {
+        name: &'a [u8],
+        image: &'a [u8],
+        disk: &'a [u8],
+    },
+    ReadFile {
+        room: usize,
+        name: &'a [u8],
+        disk: &'a [u8],
+    },
+    ScratchFile {
+        name: &'a [u8],
+        disk: &'a [u8],
+    },
+    CheckDisk {
+        disk: &'a [u8],
+    },
 }
 
 impl<'a> Call<'a> {
@@ -105,6 +138,26 @@ impl<'a> Call<'a> {
             LISTING_ROOM => Call::ListingRoom {
                 image: fields.rest(),
             },
+            FORMAT_DISK => Call::FormatDisk {
+                disk: fields.rest(),
+            },
+            SAVE_FILE => Call::SaveFile {
+                name: fields.name()?,
+                image: fields.image()?,
+                disk: fields.rest(),
+            },
+            READ_FILE => Call::ReadFile {
+                room: fields.room()?,
+                name: fields.name()?,
+                disk: fields.rest(),
+            },
+            SCRATCH_FILE => Call::ScratchFile {
+                name: fields.name()?,
+                disk: fields.rest(),
+            },
+            CHECK_DISK => Call::CheckDisk {
+                disk: fields.rest(),
+            },
             _ => return None,
         })
     }
@@ -118,7 +171,7 @@ impl<'a> Call<'a> {
                 text,
             } => (
                 CRUNCH,
-                [place(load, dialect), room_field(room)].concat(),
+                [place(load, dialect), length_field(room)].concat(),
                 text,
             ),
             Call::CrunchRoom {
@@ -133,8 +186,20 @@ impl<'a> Call<'a> {
             Call::TsbWord { word } => (TSB_WORD, vec![], word),
             Call::Check { by, image } => (check_op(by), vec![], image),
             Call::Step { by, offset, image } => (step_op(by), offset.to_le_bytes().to_vec(), image),
-            Call::Listing { room, image } => (LISTING, room_field(room), image),
+            Call::Listing { room, image } => (LISTING, length_field(room), image),
             Call::ListingRoom { image } => (LISTING_ROOM, vec![], image),
+            Call::FormatDisk { disk } => (FORMAT_DISK, vec![], disk),
+            Call::SaveFile { name, image, disk } => {
+                let fixed = [name_field(name), length_field(image.len()), image.to_vec()];
+                (SAVE_FILE, fixed.concat(), disk)
+            }
+            Call::ReadFile { room, name, disk } => (
+                READ_FILE,
+                [length_field(room), name_field(name)].concat(),
+                disk,
+            ),
+            Call::ScratchFile { name, disk } => (SCRATCH_FILE, name_field(name), disk),
+            Call::CheckDisk { disk } => (CHECK_DISK, vec![], disk),
         };
         Request {
             op,
@@ -143,7 +208,8 @@ impl<'a> Call<'a> {
     }
 }
 
-/// How many bytes of an op's payload stand before its text, word or image.
+/// How many bytes of an op's payload stand before its text, word, image or disk,
+/// not counting a name and an image that stand before a disk.
 pub fn fixed_part(op: u8) -> usize {
     match op {
         CRUNCH => 2 + 1 + 4,
@@ -151,6 +217,9 @@ pub fn fixed_part(op: u8) -> usize {
         RESOLVED_DIALECT => 1,
         STEP_BY_TERMINATORS | STEP_BY_LINKS => 8,
         LISTING => 4,
+        SAVE_FILE => 2 + 4,
+        READ_FILE => 4 + 2,
+        SCRATCH_FILE => 2,
         _ => 0,
     }
 }
@@ -183,55 +252,14 @@ fn place(load: u16, dialect: Dialect) -> Vec<u8> {
     vec![low, high, dialect_byte(dialect)]
 }
 
-fn room_field(room: usize) -> Vec<u8> {
-    let room = u32::try_from(room).expect("a room fits its field");
-    room.to_le_bytes().to_vec()
+/// A room, or the length of an image that is not the last field.
+fn length_field(length: usize) -> Vec<u8> {
+    let length = u32::try_from(length).expect("a length fits its field");
+    length.to_le_bytes().to_vec()
 }
 
-/// The part of a payload that is not decoded yet.
-struct Fields<'a>(&'a [u8]);
-
-impl<'a> Fields<'a> {
-    fn take<const N: usize>(&mut self) -> Option<[u8; N]> {
-        let (taken, rest) = self.0.split_first_chunk()?;
-        self.0 = rest;
-        Some(*taken)
-    }
-
-    fn address(&mut self) -> Option<u16> {
-        self.take().map(u16::from_le_bytes)
-    }
-
-    fn dialect(&mut self) -> Option<Dialect> {
-        match self.take()? {
-            [0] => Some(Dialect::Auto),
-            [1] => Some(Dialect::BasicV2),
-            [2] => Some(Dialect::Tsb),
-            _ => None,
-        }
-    }
-
-    fn room(&mut self) -> Option<usize> {
-        let room = u32::from_le_bytes(self.take()?) as usize;
-        (room <= ROOM_LIMIT).then_some(room)
-    }
-
-    fn rest(&self) -> &'a [u8] {
-        self.0
-    }
-
-    fn check(&self, by: Reader) -> Call<'a> {
-        Call::Check {
-            by,
-            image: self.rest(),
-        }
-    }
-
-    fn step(&mut self, by: Reader) -> Option<Call<'a>> {
-        Some(Call::Step {
-            by,
-            offset: self.take().map(u64::from_le_bytes)?,
-            image: self.rest(),
-        })
-    }
+/// A name behind its length.
+fn name_field(name: &[u8]) -> Vec<u8> {
+    let length = u16::try_from(name.len()).expect("a name's length fits its field");
+    [&length.to_le_bytes(), name].concat()
 }

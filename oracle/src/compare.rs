@@ -6,7 +6,7 @@ use std::process::ChildStdin;
 use std::sync::mpsc::{self, Receiver, Sender};
 use std::thread;
 
-use crate::calls::KNOWN_OPS;
+use crate::calls;
 use crate::endings;
 use crate::frames::{self, Request};
 use crate::generate::Cases;
@@ -110,11 +110,12 @@ impl Case {
     }
 
     fn difference(&self, answer: &[u8]) -> String {
+        let op = self.request.op;
         let common = self.expected.iter().zip(answer).take_while(|(a, b)| a == b);
         format!(
-            "program:  {}\n  the answers differ from byte {} on",
-            show::answer(self.request.op, answer),
-            common.count()
+            "program:  {}\n  the answers differ from {} on",
+            show::answer(op, answer),
+            show::place(op, &self.expected, common.count())
         )
     }
 }
@@ -127,7 +128,7 @@ struct Counts {
 
 impl Counts {
     fn add(&mut self, op: u8, is_equal: bool) {
-        let name = if KNOWN_OPS.contains(&op) {
+        let name = if calls::is_known(op) {
             format!("op {op:02X}")
         } else {
             "unknown ops".to_string()

@@ -2,12 +2,14 @@
 
 use std::io::{self, ErrorKind, Read, Write};
 
+use crate::calls::ROOM_LIMIT;
+
 /// The longest payload that a request may have.
 pub const PAYLOAD_LIMIT: usize = 1_048_577 + 16;
 
-/// No answer is longer: a step's answer holds at most a whole image behind its
-/// fields, and a lent room is at most half of one.
-const ANSWER_LIMIT: usize = 1_048_576 + 64;
+/// No answer is longer than that of a read: a byte, a length, the largest room, and
+/// all of a payload that is no room and no name's length.
+const ANSWER_LIMIT: usize = 1 + 8 + ROOM_LIMIT + (PAYLOAD_LIMIT - 4 - 2);
 
 #[derive(Debug, Clone, PartialEq, Eq)]
 pub struct Request {

@@ -4,6 +4,7 @@ use std::io::{self, Read, Write};
 use std::thread;
 
 use crate::calls::{Call, dialect_byte};
+use crate::disk::{self, CheckedDisk};
 use crate::frames::{self, Incoming, Request};
 use crate::library::{self, Checked, Step};
 use crate::refusal::Refusal;
@@ -82,6 +83,11 @@ fn answer_call(call: &Call) -> Vec<u8> {
         Call::ListingRoom { image } => {
             plain(library::listing(image).map(|listing| length(listing.as_bytes())))
         }
+        Call::FormatDisk { disk } => changed(disk, disk::format(disk)),
+        Call::SaveFile { name, image, disk } => changed(disk, disk::save(disk, name, image)),
+        Call::ReadFile { room, name, disk } => [&lent(disk::read(disk, name), room), disk].concat(),
+        Call::ScratchFile { name, disk } => changed(disk, disk::scratch(disk, name)),
+        Call::CheckDisk { disk } => [&plain(disk::check(disk).map(checked_disk)), disk].concat(),
     }
 }
 
@@ -89,6 +95,15 @@ fn plain(outcome: Result<Vec<u8>, Refusal>) -> Vec<u8> {
     match outcome {
         Ok(results) => [&[DONE], &results[..]].concat(),
         Err(refusal) => refusal.to_bytes(),
+    }
+}
+
+/// The answer of a call that changes a disk: the disk stands last, after a refusal
+/// as it was.
+fn changed(disk: &[u8], outcome: Result<Vec<u8>, Refusal>) -> Vec<u8> {
+    match outcome {
+        Ok(left) => [&[DONE], &left[..]].concat(),
+        Err(refusal) => [&refusal.to_bytes(), disk].concat(),
     }
 }
 
@@ -114,6 +129,10 @@ fn length(bytes: &[u8]) -> Vec<u8> {
 
 fn checked(found: Checked) -> Vec<u8> {
     fields(&[found.load_address.into(), found.line_count])
+}
+
+fn checked_disk(found: CheckedDisk) -> Vec<u8> {
+    fields(&[found.files, found.free_sectors])
 }
 
 fn stepped(found: Option<Step>) -> Vec<u8> {

@@ -11,8 +11,10 @@ include!(concat!(env!("OUT_DIR"), "/original.rs"));
 
 mod calls;
 mod compare;
+mod disk;
 mod domain;
 mod endings;
+mod fields;
 mod frames;
 mod generate;
 mod judge;
@@ -85,7 +87,7 @@ fn op_list(words: &str) -> Result<Vec<u8>, String> {
         .split(|mark: char| mark == ',' || mark.is_whitespace())
         .filter(|word| !word.is_empty())
         .map(|word| match u8::from_str_radix(word, 16) {
-            Ok(op) if calls::KNOWN_OPS.contains(&op) => Ok(op),
+            Ok(op) if calls::is_known(op) => Ok(op),
             _ => Err(format!("{word}: no op that the judge knows")),
         })
         .collect::<Result<Vec<u8>, String>>()?;

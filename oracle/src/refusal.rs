@@ -1,4 +1,5 @@
-//! The refusals, numbered and named as in document 01's table.
+//! The refusals, numbered and named as in document 01's table and, from 15 on, in
+//! the requests of document 02.
 
 use crate::prg::ParseError;
 use crate::source::TokenizeError;
@@ -20,25 +21,43 @@ pub enum Refusal {
     LinkOutside { link: u64 },
     LinkNoEnd { link: u64 },
     UnknownDialect,
+    BadDisk,
+    BadName,
+    NameTaken,
+    NoSuchFile,
+    DirectoryFull,
+    DiskFull,
 }
 
-/// Name and carried values of each refusal; number n stands at place n - 1.
-pub const TABLE: [(&str, &[&str]); 14] = [
-    ("TextTooLong", &["length"]),
-    ("BadByte", &["offset"]),
-    ("MissingLineNumber", &["text line"]),
-    ("LineNumberOutOfRange", &["text line", "value"]),
-    ("AddressOverflow", &[]),
-    ("NoRoom", &["needed"]),
-    ("ImageTooLong", &["length"]),
-    ("TooShort", &[]),
-    ("UnexpectedEof", &[]),
-    ("MissingEnd", &["link at"]),
-    ("LinkBackward", &["link at"]),
-    ("LinkOutside", &["link at"]),
-    ("LinkNoEnd", &["link at"]),
-    ("UnknownDialect", &[]),
+/// Number, name and carried values of each refusal that the judge can give.
+const TABLE: [(u8, &str, &[&str]); 20] = [
+    (1, "TextTooLong", &["length"]),
+    (2, "BadByte", &["offset"]),
+    (3, "MissingLineNumber", &["text line"]),
+    (4, "LineNumberOutOfRange", &["text line", "value"]),
+    (5, "AddressOverflow", &[]),
+    (6, "NoRoom", &["needed"]),
+    (7, "ImageTooLong", &["length"]),
+    (8, "TooShort", &[]),
+    (9, "UnexpectedEof", &[]),
+    (10, "MissingEnd", &["link at"]),
+    (11, "LinkBackward", &["link at"]),
+    (12, "LinkOutside", &["link at"]),
+    (13, "LinkNoEnd", &["link at"]),
+    (14, "UnknownDialect", &[]),
+    (20, "BadDisk", &[]),
+    (21, "BadName", &[]),
+    (22, "NameTaken", &[]),
+    (23, "NoSuchFile", &[]),
+    (24, "DirectoryFull", &[]),
+    (25, "DiskFull", &[]),
 ];
+
+/// The name of the refusal with this number, and what it carries.
+pub fn named(number: u8) -> Option<(&'static str, &'static [&'static str])> {
+    let row = TABLE.iter().find(|row| row.0 == number)?;
+    Some((row.1, row.2))
+}
 
 impl Refusal {
     /// The refusal as an answer begins with it: its number, then its values.
@@ -58,6 +77,12 @@ impl Refusal {
             Refusal::LinkOutside { link } => numbered(12, &[link]),
             Refusal::LinkNoEnd { link } => numbered(13, &[link]),
             Refusal::UnknownDialect => numbered(14, &[]),
+            Refusal::BadDisk => numbered(20, &[]),
+            Refusal::BadName => numbered(21, &[]),
+            Refusal::NameTaken => numbered(22, &[]),
+            Refusal::NoSuchFile => numbered(23, &[]),
+            Refusal::DirectoryFull => numbered(24, &[]),
+            Refusal::DiskFull => numbered(25, &[]),
         }
     }
 }

@@ -1,6 +1,7 @@
 //! Requests and answers in a form to read.
 
 use crate::calls::{self, Call, Reader, dialect_byte};
+use crate::disk::{self, DISK_LENGTH, SECTOR_LENGTH, Sector};
 use crate::frames::Request;
 use crate::judge::{DONE, ROOM_FILL};
 use crate::refusal;
@@ -45,6 +46,22 @@ fn of_call(call: &Call) -> String {
         }
         Call::Listing { room, image } => format!("listing, room {room}: {}", hex(image)),
         Call::ListingRoom { image } => format!("room for the listing: {}", hex(image)),
+        Call::FormatDisk { disk } => format!("format a {}", disk_of(disk)),
+        Call::SaveFile { name, image, disk } => format!(
+            "save {} bytes under {} on a {}",
+            image.len(),
+            quoted(name),
+            disk_of(disk)
+        ),
+        Call::ReadFile { room, name, disk } => format!(
+            "read {}, room {room}, from a {}",
+            quoted(name),
+            disk_of(disk)
+        ),
+        Call::ScratchFile { name, disk } => {
+            format!("scratch {} on a {}", quoted(name), disk_of(disk))
+        }
+        Call::CheckDisk { disk } => format!("check a {}", disk_of(disk)),
     }
 }
 
@@ -53,7 +70,7 @@ pub fn answer(op: u8, body: &[u8]) -> String {
     match *body {
         [DONE, ref results @ ..] => of_results(op, results),
         [0xFF] => "FF, malformed".to_string(),
-        [number @ 1..=14, ref rest @ ..] => of_refusal(number, rest),
+        [number, ref rest @ ..] if refusal::named(number).is_some() => of_refusal(op, number, rest),
         _ => format!("no answer: {}", hex(body)),
     }
 }
@@ -68,6 +85,9 @@ fn of_results(op: u8, results: &[u8]) -> String {
             named(&["load address", "lines"], results)
         }
         calls::STEP_BY_TERMINATORS | calls::STEP_BY_LINKS => of_step(results),
+        calls::FORMAT_DISK | calls::SAVE_FILE | calls::SCRATCH_FILE => Some(disk_of(results)),
+        calls::READ_FILE => before_disk(&["length"], results),
+        calls::CHECK_DISK => before_disk(&["files", "free sectors"], results),
         _ => None,
     };
     match shown {
@@ -76,11 +96,15 @@ fn of_results(op: u8, results: &[u8]) -> String {
     }
 }
 
-fn of_refusal(number: u8, rest: &[u8]) -> String {
-    let (name, labels) = refusal::TABLE[usize::from(number) - 1];
+fn of_refusal(op: u8, number: u8, rest: &[u8]) -> String {
+    let (name, labels) = refusal::named(number).expect("the number was looked up before");
     let (values, rest) = rest.split_at(rest.len().min(8 * labels.len()));
+    let behind = match calls::is_of_disks(op) {
+        true => format!(", {}", room_and_disk(rest)),
+        false => room(rest),
+    };
     match named(labels, values) {
-        Some(values) => format!("refusal {number} {name}({values}){}", room(rest)),
+        Some(values) => format!("refusal {number} {name}({values}){behind}"),
         None => format!("refusal {number} {name}, cut short: {}", hex(values)),
     }
 }
@@ -132,6 +156,60 @@ fn of_step(results: &[u8]) -> Option<String> {
             Some(format!("{fields}, body {}", hex(body)))
         }
         _ => None,
+    }
+}
+
+/// Fields, and behind them a disk, before which a room may stand.
+fn before_disk(labels: &[&str], results: &[u8]) -> Option<String> {
+    let (fields, behind) = results.split_at_checked(8 * labels.len())?;
+    Some(format!(
+        "{}, {}",
+        named(labels, fields)?,
+        room_and_disk(behind)
+    ))
+}
+
+/// A room and a disk, told apart only where the disk can be a whole one.
+fn room_and_disk(bytes: &[u8]) -> String {
+    match bytes.len().checked_sub(DISK_LENGTH) {
+        None | Some(0) => disk_of(bytes),
+        Some(room) => format!("{}, {}", hex(&bytes[..room]), disk_of(&bytes[room..])),
+    }
+}
+
+/// A disk by its length, what the check says of it, and a digest of its bytes.
+fn disk_of(bytes: &[u8]) -> String {
+    let state = match disk::check(bytes) {
+        Ok(found) => format!("{} files, {} free", found.files, found.free_sectors),
+        Err(_) => "refused by the check".to_string(),
+    };
+    let digest = digest(bytes);
+    format!(
+        "disk of {} bytes, {state}, digest {digest:016X}",
+        bytes.len()
+    )
+}
+
+/// The digest FNV-1a, of 64 bits.
+fn digest(bytes: &[u8]) -> u64 {
+    bytes.iter().fold(0xCBF2_9CE4_8422_2325, |digest, &byte| {
+        (digest ^ u64::from(byte)).wrapping_mul(0x0000_0100_0000_01B3)
+    })
+}
+
+/// A byte of an answer by its place, and by its sector if it is one of a disk.
+pub fn place(op: u8, answer: &[u8], at: usize) -> String {
+    let disk = answer.len().checked_sub(DISK_LENGTH);
+    match disk.and_then(|start| at.checked_sub(start)) {
+        Some(on_disk) if calls::is_of_disks(op) && on_disk < DISK_LENGTH => {
+            let sector = disk::all_sectors().nth(on_disk / SECTOR_LENGTH);
+            let Sector(track, place) = sector.expect("the byte is one of the disk's");
+            format!(
+                "byte {at}, {:02X} of {track}/{place},",
+                on_disk % SECTOR_LENGTH
+            )
+        }
+        _ => format!("byte {at}"),
     }
 }
 

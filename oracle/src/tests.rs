@@ -1,4 +1,7 @@
-//! The cases that document 01 names, held against the judge.
+//! The cases that document 01 names, held against the judge; those of document 02
+//! have files of their own.
+
+mod disk;
 
 use std::io::Cursor;
 

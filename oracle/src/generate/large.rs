@@ -3,6 +3,7 @@
 //! There are a few for each op. They are made one at a time, since each can take
 //! a megabyte.
 
+use super::disk_calls;
 use super::images::well_formed;
 use super::requests::{self, C64_LOAD, TextCase};
 use crate::calls::{self, Call, ROOM_LIMIT};
@@ -33,6 +34,7 @@ const REPEATS: [(u16, u64); 12] = [
 pub fn case(op: u8, number: usize) -> Option<Request> {
     match op {
         calls::CRUNCH..=calls::RESOLVED_DIALECT => Some(of_text(op, &text(op, number)?)),
+        calls::FORMAT_DISK..=calls::CHECK_DISK => disk_calls::case(op, number),
         calls::DIALECT_BY_NAME | calls::TSB_WORD => Some(requests::of_word(op, &word(op, number)?)),
         _ => Some(of_image(op, number, &image(op, number)?)),
     }

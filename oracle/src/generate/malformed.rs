@@ -25,6 +25,7 @@ pub fn listed(op: u8) -> Vec<Request> {
     if let Some(place) = room_place(op) {
         payloads.extend(ROOMS_TOO_LARGE.map(|room| with_field(fixed, place, &room.to_le_bytes())));
     }
+    payloads.extend(beyond_payload(op));
     let mut requests: Vec<Request> = payloads
         .into_iter()
         .map(|payload| Request { op, payload })
@@ -61,9 +62,27 @@ fn dialect_place(op: u8) -> Option<usize> {
 fn room_place(op: u8) -> Option<usize> {
     match op {
         calls::CRUNCH => Some(3),
-        calls::LISTING => Some(0),
+        calls::LISTING | calls::READ_FILE => Some(0),
         _ => None,
     }
+}
+
+/// Payloads in which a name, an image or an image's length would reach beyond the end.
+fn beyond_payload(op: u8) -> Vec<Vec<u8>> {
+    let payloads: &[&[u8]] = match op {
+        calls::SAVE_FILE => &[
+            b"\x05\0NAME\0\0\0",
+            b"\xFF\xFFNAME\0\0\0\0",
+            b"\x04\0NAME\0\0\0",
+            b"\x04\0NAME\x01\0\0\0",
+            b"\x04\0NAME\x05\0\0\0BYTE",
+            b"\x04\0NAME\xFF\xFF\xFF\xFFBYTES",
+        ],
+        calls::READ_FILE => &[b"\0\0\0\0\x05\0NAME", b"\0\0\0\0\0\x01NAME"],
+        calls::SCRATCH_FILE => &[b"\x05\0NAME", b"\x00\x80NAME"],
+        _ => &[],
+    };
+    payloads.iter().map(|payload| payload.to_vec()).collect()
 }
 
 fn with_field(length: usize, place: usize, field: &[u8]) -> Vec<u8> {

@@ -3,9 +3,13 @@
 //! Each op has a sequence of its own: first the examples of document 01 and the
 //! malformed requests, then cases enumerated from the tables, then a few large
 //! ones, then random ones without end. The ops take turns. The enumerated cases
-//! come in an order drawn from the seed, so a short run is a cross-section.
+//! come in an order drawn from the seed, so a short run is a cross-section. For the
+//! calls on disks all that is enumerated is large.
 
 mod damage;
+mod disk_calls;
+pub mod disk_damage;
+pub mod disks;
 mod escapes;
 mod examples;
 mod guesses;
@@ -111,6 +115,7 @@ fn listed_first(op: u8, random: &mut Random) -> Vec<Request> {
         }
         calls::DIALECT_BY_NAME => requests::of_words(op, &names::first_dialects()),
         calls::TSB_WORD => requests::of_words(op, &names::first_words()),
+        calls::FORMAT_DISK..=calls::CHECK_DISK => disk_calls::listed(op, random),
         _ => requests::of_images(op, &examples::images(), random),
     }
 }
@@ -120,6 +125,7 @@ fn enumerated(op: u8, random: &mut Random) -> Vec<Request> {
         calls::CRUNCH..=calls::RESOLVED_DIALECT => requests::of_texts(op, &texts::listed(), random),
         calls::DIALECT_BY_NAME => requests::of_words(op, &names::listed_dialects()),
         calls::TSB_WORD => requests::of_words(op, &names::listed_words(random)),
+        calls::FORMAT_DISK..=calls::CHECK_DISK => Vec::new(),
         _ => requests::of_images(op, &images::listed(), random),
     }
 }
@@ -132,6 +138,7 @@ fn any(op: u8, random: &mut Random) -> Request {
         }
         calls::DIALECT_BY_NAME => requests::of_word(op, &names::any_dialect(random)),
         calls::TSB_WORD => requests::of_word(op, &names::any_word(random)),
+        calls::FORMAT_DISK..=calls::CHECK_DISK => disk_calls::any(op, random),
         _ => {
             let image = images::any(random);
             requests::of_image(op, &image, random)

@@ -134,7 +134,7 @@ fn step<'a>(by: Reader, image: &'a [u8], random: &mut Random) -> Call<'a> {
 }
 
 /// A room around what the call needs; any small one if it gives no result.
-fn room(needed: Option<usize>, random: &mut Random) -> usize {
+pub fn room(needed: Option<usize>, random: &mut Random) -> usize {
     let Some(needed) = needed else {
         return random.below(12);
     };

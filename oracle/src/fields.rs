@@ -1,0 +1,70 @@
+//! The fields of a payload, taken one after another.
+
+use crate::calls::{Call, ROOM_LIMIT, Reader};
+use crate::tokens::Dialect;
+
+/// The part of a payload that is not decoded yet.
+pub struct Fields<'a>(pub &'a [u8]);
+
+impl<'a> Fields<'a> {
+    fn take<const N: usize>(&mut self) -> Option<[u8; N]> {
+        let (taken, rest) = self.0.split_first_chunk()?;
+        self.0 = rest;
+        Some(*taken)
+    }
+
+    pub fn address(&mut self) -> Option<u16> {
+        self.take().map(u16::from_le_bytes)
+    }
+
+    pub fn dialect(&mut self) -> Option<Dialect> {
+        match self.take()? {
+            [0] => Some(Dialect::Auto),
+            [1] => Some(Dialect::BasicV2),
+            [2] => Some(Dialect::Tsb),
+            _ => None,
+        }
+    }
+
+    pub fn room(&mut self) -> Option<usize> {
+        let room = u32::from_le_bytes(self.take()?) as usize;
+        (room <= ROOM_LIMIT).then_some(room)
+    }
+
+    /// A file's name, behind its length.
+    pub fn name(&mut self) -> Option<&'a [u8]> {
+        let length = u16::from_le_bytes(self.take()?);
+        self.part(length.into())
+    }
+
+    /// An image that is not the last field, behind its length.
+    pub fn image(&mut self) -> Option<&'a [u8]> {
+        let length = u32::from_le_bytes(self.take()?);
+        self.part(length as usize)
+    }
+
+    fn part(&mut self, length: usize) -> Option<&'a [u8]> {
+        let (part, rest) = self.0.split_at_checked(length)?;
+        self.0 = rest;
+        Some(part)
+    }
+
+    pub fn rest(&self) -> &'a [u8] {
+        self.0
+    }
+
+    pub fn check(&self, by: Reader) -> Call<'a> {
+        Call::Check {
+            by,
+            image: self.rest(),
+        }
+    }
+
+    pub fn step(&mut self, by: Reader) -> Option<Call<'a>> {
+        Some(Call::Step {
+            by,
+            offset: self.take().map(u64::from_le_bytes)?,
+            image: self.rest(),
+        })
+    }
+}
