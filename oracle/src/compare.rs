@@ -1,17 +1,18 @@
 //! Holds a program against the original: the same requests, answer by answer.
 
 use std::collections::BTreeMap;
-use std::io::{self, BufReader, BufWriter, Read};
+use std::io::{self, BufWriter};
 use std::process::ChildStdin;
 use std::sync::mpsc::{self, Receiver, Sender};
 use std::thread;
+use std::time::Duration;
 
 use crate::calls;
 use crate::endings;
 use crate::frames::{self, Request};
 use crate::generate::Cases;
 use crate::judge;
-use crate::program::Program;
+use crate::program::{self, Answers, Program};
 use crate::show;
 
 /// So many differences are shown in full; the others are only counted.
@@ -33,15 +34,22 @@ pub fn run(cases: Cases, program: &Program) -> io::Result<bool> {
 fn compare_cases(cases: Cases, program: &Program, counts: &mut Counts) -> io::Result<bool> {
     let mut child = program.start()?;
     let input = child.stdin.take().expect("standard input is piped");
-    let output = child.stdout.take().expect("standard output is piped");
+    let answers = program.answers(&mut child);
     let (sender, requests) = mpsc::channel();
     let writer = thread::spawn(move || write_requests(cases, input, sender));
-    let outcome = compare_answers(requests, BufReader::new(output), counts);
-    writer.join().expect("writing does not panic");
-    let status = child.wait()?;
+    let outcome = compare_answers(requests, &answers, counts);
     if let Err(reason) = &outcome {
         println!("{reason}");
     }
+    let time = match outcome {
+        Ok(()) => program.patience,
+        Err(_) => Duration::from_secs(1),
+    };
+    let Some(status) = program::ended_within(&mut child, time)? else {
+        println!("the program did not end, and was stopped");
+        return Ok(false);
+    };
+    writer.join().expect("writing does not panic");
     if !status.success() {
         println!("the program ended with {status}");
     }
@@ -62,11 +70,11 @@ fn write_requests(cases: Cases, input: ChildStdin, requests: Sender<Request>) {
     }
 }
 
-/// Compares every answer; the reason if the program's output is too short or
-/// too long.
+/// Compares every answer; the reason if the program's output is too short or too
+/// long, or is waited for too long.
 fn compare_answers(
     requests: Receiver<Request>,
-    mut output: impl Read,
+    answers: &Answers,
     counts: &mut Counts,
 ) -> Result<(), String> {
     for (place, request) in requests.iter().enumerate() {
@@ -75,19 +83,13 @@ fn compare_answers(
             expected: judge::answer(&request),
             request,
         };
-        let answer = frames::read_answer(&mut output)
-            .map_err(|error| case.told(&error.to_string()))?
-            .ok_or_else(|| case.told("the program ended without an answer"))?;
+        let answer = answers.next().map_err(|reason| case.told(&reason))?;
         if answer != case.expected && counts.differences() < SHOWN_DIFFERENCES {
             println!("{}", case.told(&case.difference(&answer)));
         }
         counts.add(case.request.op, answer == case.expected);
     }
-    match output.read(&mut [0]) {
-        Ok(0) => Ok(()),
-        Ok(_) => Err("the program wrote more than its answers".to_string()),
-        Err(error) => Err(error.to_string()),
-    }
+    answers.end()
 }
 
 /// A request with the original's answer.

@@ -17,13 +17,17 @@ pub fn compare(program: &Program) -> io::Result<(usize, usize)> {
         let mut expected = Vec::new();
         judge::serve(&mut Cursor::new(input), &mut expected)?;
         let written = program.output_for(input)?;
-        if written == expected {
+        if written.as_ref() == Some(&expected) {
             equal += 1;
-        } else {
-            println!("ending: {name}");
-            println!("  original: {}", show::hex(&expected));
-            println!("  program:  {}", show::hex(&written));
+            continue;
         }
+        println!("ending: {name}");
+        println!("  original: {}", show::hex(&expected));
+        let Some(written) = written else {
+            println!("  the program did not end; no other ending was tried");
+            break;
+        };
+        println!("  program:  {}", show::hex(&written));
     }
     Ok((equal, inputs.len()))
 }

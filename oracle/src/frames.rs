@@ -52,19 +52,31 @@ pub fn write_answer(output: &mut impl Write, body: &[u8]) -> io::Result<()> {
     write_counted(output, body)
 }
 
-/// The next answer's body; nothing if the output ended before the answer did.
+/// The next answer's body; nothing if the output ends instead. It may not end within
+/// an answer.
 pub fn read_answer(input: &mut impl Read) -> io::Result<Option<Vec<u8>>> {
     let mut length = [0; 4];
-    if !fill(input, &mut length)? {
+    if input.read(&mut length[..1])? == 0 {
         return Ok(None);
     }
+    input.read_exact(&mut length[1..]).map_err(cut_short)?;
     let length = u32::from_le_bytes(length) as usize;
     if length > ANSWER_LIMIT {
         let reason = format!("an answer of {length} bytes is announced: no answer is that long");
         return Err(io::Error::new(ErrorKind::InvalidData, reason));
     }
     let mut body = vec![0; length];
-    Ok(fill(input, &mut body)?.then_some(body))
+    input.read_exact(&mut body).map_err(cut_short)?;
+    Ok(Some(body))
+}
+
+fn cut_short(error: io::Error) -> io::Error {
+    match error.kind() {
+        ErrorKind::UnexpectedEof => {
+            io::Error::new(error.kind(), "the output ends within an answer")
+        }
+        _ => error,
+    }
 }
 
 fn write_counted(output: &mut impl Write, bytes: &[u8]) -> io::Result<()> {

@@ -29,7 +29,7 @@ mod tables;
 mod tests;
 
 use generate::Cases;
-use program::Program;
+use program::{PATIENCE, Program};
 
 const USAGE: &str = "usage:
   oracle answer                                      answers requests from standard input
@@ -66,10 +66,18 @@ fn run(arguments: &[&str]) -> Result<bool, String> {
             Ok(true)
         }
         ["compare", count, seed, ops, path, arguments @ ..] => {
-            let program = Program { path, arguments };
+            let program = program(path, arguments);
             compare::run(cases(count, seed, ops)?, &program).map_err(text)
         }
         _ => Err(USAGE.to_string()),
+    }
+}
+
+fn program<'a>(path: &'a str, arguments: &'a [&'a str]) -> Program<'a> {
+    Program {
+        path,
+        arguments,
+        patience: PATIENCE,
     }
 }
 

@@ -4,12 +4,15 @@
 mod disk;
 
 use std::io::Cursor;
+use std::time::{Duration, Instant};
 
 use crate::calls::Reader::{self, Links, Terminators};
+use crate::compare;
 use crate::domain;
 use crate::generate::Cases;
 use crate::judge;
 use crate::library::{self, Step};
+use crate::program::Program;
 use crate::refusal::Refusal;
 use crate::tokens::Dialect;
 
@@ -125,4 +128,17 @@ fn a_case_depends_on_its_op_its_index_and_the_seed_alone() {
     let alone: Vec<_> = Cases::new(3_000, 7, &[0x04]).collect();
     let in_turn: Vec<_> = Cases::new(6_000, 7, &[0x04, 0x05]).step_by(2).collect();
     assert_eq!(alone, in_turn);
+}
+
+#[test]
+fn a_program_that_hangs_is_given_up() {
+    let start = Instant::now();
+    let program = Program {
+        path: "sleep",
+        arguments: &["60"],
+        patience: Duration::from_millis(100),
+    };
+    assert_eq!(program.output_for(b"").unwrap(), None);
+    assert!(!compare::run(Cases::new(5, 1, &[0x04]), &program).unwrap());
+    assert!(start.elapsed() < Duration::from_secs(30));
 }
