@@ -1,0 +1,25 @@
+-- `entries::name_at` meets its contract.
+-- Assumes nothing.
+use Rattle.entries.proofs.Naming.{name-part, name-room}
+use borrow.Author.Needs.{needs}
+use Rattle.entries.proofs.name_at.Statement.{statement}
+use Rattle.entries.proofs.name_at.Tie as tie
+
+returns : tie.Need-returns
+returns c = search name-part
+
+pub name-at-spec : {M : Type 1} → statement M
+name-at-spec =
+    tie.close
+    (tie.spec
+    (λ c. search needs)
+    (λ c. search needs)
+    (λ c. search needs)
+    (λ c. search needs)
+    (λ c. search needs)
+    (λ c κs. search needs)
+    (λ c. search needs)
+    (λ c. search needs)
+    (λ c. search needs)
+    (λ c. search needs)
+    returns)
