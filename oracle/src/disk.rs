@@ -181,13 +181,23 @@ pub fn check(disk: &[u8]) -> Result<CheckedDisk, Refusal> {
     })
 }
 
-/// The names and the bytes of all listed files, in the directory's order.
-pub fn files(disk: &[u8]) -> Result<Vec<(Vec<u8>, Vec<u8>)>, Refusal> {
+/// A listed file as a reader of the disk sees it.
+pub struct ListedFile {
+    pub name: Vec<u8>,
+    /// Where its entry stands among the eight of a sector, from 0.
+    pub place: usize,
+    pub bytes: Vec<u8>,
+}
+
+/// All listed files, in the directory's order.
+pub fn files(disk: &[u8]) -> Result<Vec<ListedFile>, Refusal> {
     let (disk, found) = checked(disk)?;
-    let named = found.files.into_iter();
-    Ok(named
-        .map(|file| (file.name, disk.file_bytes(&file.chain)))
-        .collect())
+    let listed = |file: File| ListedFile {
+        name: file.name,
+        place: file.entry.at / 32,
+        bytes: disk.file_bytes(&file.chain),
+    };
+    Ok(found.files.into_iter().map(listed).collect())
 }
 
 fn check_name(name: &[u8]) -> Result<(), Refusal> {

@@ -3,6 +3,7 @@
 
 use std::fmt::Display;
 use std::io::{self, BufWriter, Write};
+use std::path::Path;
 use std::process::ExitCode;
 use std::str::FromStr;
 
@@ -20,6 +21,7 @@ mod generate;
 mod judge;
 mod library;
 mod links;
+mod peers;
 mod program;
 mod random;
 mod refusal;
@@ -29,12 +31,15 @@ mod tables;
 mod tests;
 
 use generate::Cases;
+use peers::Library;
 use program::{PATIENCE, Program};
 
 const USAGE: &str = "usage:
   oracle answer                                      answers requests from standard input
   oracle generate COUNT SEED OPS                     writes requests for ops, such as 04,05
-  oracle compare COUNT SEED OPS PROGRAM [ARGUMENT..] compares a program with the original";
+  oracle compare COUNT SEED OPS PROGRAM [ARGUMENT..] compares a program with the original
+  oracle disks COUNT SEED FOLDER [PROGRAM ARGUMENT..] makes disks by random calls
+  oracle take DISKS FOLDER INDEX [PROGRAM ARGUMENT..] reads such files from another tool's disks";
 
 fn main() -> ExitCode {
     let arguments: Vec<String> = std::env::args().skip(1).collect();
@@ -69,6 +74,16 @@ fn run(arguments: &[&str]) -> Result<bool, String> {
             let program = program(path, arguments);
             compare::run(cases(count, seed, ops)?, &program).map_err(text)
         }
+        ["disks", count, seed, folder, program @ ..] => {
+            let mut library = library(program)?;
+            let folder = Path::new(folder);
+            peers::make(number(count)?, number(seed)?, folder, &mut library)?;
+            Ok(true)
+        }
+        ["take", disks, folder, index, program @ ..] => {
+            let mut library = library(program)?;
+            peers::take(Path::new(disks), Path::new(folder), index, &mut library)
+        }
         _ => Err(USAGE.to_string()),
     }
 }
@@ -78,6 +93,14 @@ fn program<'a>(path: &'a str, arguments: &'a [&'a str]) -> Program<'a> {
         path,
         arguments,
         patience: PATIENCE,
+    }
+}
+
+/// The program behind the calls on disks, or the model if none is named.
+fn library(words: &[&str]) -> Result<Library, String> {
+    match words {
+        [] => Ok(Library::Model),
+        [path, arguments @ ..] => Library::start(&program(path, arguments)).map_err(text),
     }
 }
 

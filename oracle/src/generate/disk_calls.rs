@@ -136,7 +136,7 @@ pub fn any(op: u8, random: &mut Random) -> Request {
         _ => disks::foreign(random),
     };
     let listed = disk::files(&disk).unwrap_or_default();
-    let names: Vec<Vec<u8>> = listed.into_iter().map(|(name, _)| name).collect();
+    let names: Vec<Vec<u8>> = listed.into_iter().map(|file| file.name).collect();
     if random.one_in(3) {
         for _ in 0..random.between(1, 2) {
             disk_damage::any(&mut disk, random);

@@ -190,7 +190,7 @@ fn any_listed_name(random: &mut Random) -> Vec<u8> {
 }
 
 /// A name that a file can have, often one that comes up again.
-fn good_name(random: &mut Random) -> Vec<u8> {
+pub fn good_name(random: &mut Random) -> Vec<u8> {
     if random.one_in(2) {
         return random.pick(&NAMES).to_vec();
     }

@@ -139,9 +139,10 @@ fn the_lowest_sectors_and_entries_are_taken_again() {
     assert_eq!(sector(&disk, 1, 1)[..2], [1, 3]);
     assert_eq!(sector(&disk, 1, 3)[..2], [1, 5]);
     assert_eq!(sector(&disk, 1, 5)[..2], [0, 93]);
-    let names: Vec<_> = disk::files(&disk).unwrap();
-    let names: Vec<_> = names.iter().map(|(name, _)| &name[..]).collect();
-    assert_eq!(names, [&b"F0"[..], b"NEW", b"F2", b"F4"]);
+    let listed = disk::files(&disk).unwrap().into_iter();
+    let listed: Vec<_> = listed.map(|file| (file.name, file.place)).collect();
+    let expected = [(&b"F0"[..], 0), (b"NEW", 1), (b"F2", 2), (b"F4", 4)];
+    assert_eq!(listed, expected.map(|(name, place)| (name.to_vec(), place)));
 }
 
 #[test]
@@ -282,11 +283,12 @@ fn random_calls_keep_the_sum_and_the_files() {
         let listed = disk::files(&disk).unwrap();
         let sectors: usize = listed
             .iter()
-            .map(|(_, image)| image.len().div_ceil(254).max(1))
+            .map(|file| file.bytes.len().div_ceil(254).max(1))
             .sum();
         let free = disk::check(&disk).unwrap().free_sectors as usize;
         assert_eq!(free + sectors + 19, 683);
-        assert_eq!(saved, listed.into_iter().collect());
+        let listed = listed.into_iter().map(|file| (file.name, file.bytes));
+        assert_eq!(saved, listed.collect());
     }
 }
 
