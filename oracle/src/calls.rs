@@ -18,6 +18,10 @@ pub const CHECK_BY_LINKS: u8 = 0x08;
 pub const STEP_BY_LINKS: u8 = 0x09;
 pub const LISTING: u8 = 0x0A;
 pub const LISTING_ROOM: u8 = 0x0B;
+pub const LINE_BY_NUMBER: u8 = 0x12;
+pub const ADDRESSED_STEP_BY_TERMINATORS: u8 = 0x18;
+pub const ADDRESSED_STEP_BY_LINKS: u8 = 0x19;
+pub const MEASURED_LINE: u8 = 0x1A;
 pub const FORMAT_DISK: u8 = 0x20;
 pub const SAVE_FILE: u8 = 0x21;
 pub const READ_FILE: u8 = 0x22;
@@ -26,7 +30,14 @@ pub const CHECK_DISK: u8 = 0x24;
 
 /// Whether the original, or a model of our own, can answer an op.
 pub fn is_known(op: u8) -> bool {
-    matches!(op, CRUNCH..=LISTING_ROOM | FORMAT_DISK..=CHECK_DISK)
+    matches!(op, CRUNCH..=LISTING_ROOM | LINE_BY_NUMBER)
+        || matches!(op, ADDRESSED_STEP_BY_TERMINATORS..=MEASURED_LINE)
+        || is_of_disks(op)
+}
+
+/// Whether an op's payload ends with a text.
+pub fn is_of_texts(op: u8) -> bool {
+    matches!(op, CRUNCH..=RESOLVED_DIALECT | MEASURED_LINE)
 }
 
 /// Whether an op's payload ends with a disk, and its answer too.
@@ -78,6 +89,23 @@ pub enum Call<'a> {
     },
     ListingRoom {
         image: &'a [u8],
+    },
+    LineByNumber {
+        number: u16,
+        limit: u64,
+        image: &'a [u8],
+    },
+    AddressedStep {
+        by: Reader,
+        offset: u64,
+        image: &'a [u8],
+    },
+    /// Options are no part of it: no request that gives one has landed.
+    MeasuredLine {
+        load: u16,
+        dialect: Dialect,
+        place: u64,
+        text: &'a [u8],
     },
     FormatDisk {
         disk: &'a [u8],
@@ -138,6 +166,23 @@ impl<'a> Call<'a> {
             LISTING_ROOM => Call::ListingRoom {
                 image: fields.rest(),
             },
+            LINE_BY_NUMBER => Call::LineByNumber {
+                number: fields.address()?,
+                limit: fields.number()?,
+                image: fields.rest(),
+            },
+            ADDRESSED_STEP_BY_TERMINATORS => fields.addressed_step(Reader::Terminators)?,
+            ADDRESSED_STEP_BY_LINKS => fields.addressed_step(Reader::Links)?,
+            MEASURED_LINE => {
+                let (load, dialect) = (fields.address()?, fields.dialect()?);
+                fields.options()?;
+                Call::MeasuredLine {
+                    load,
+                    dialect,
+                    place: fields.number()?,
+                    text: fields.rest(),
+                }
+            }
             FORMAT_DISK => Call::FormatDisk {
                 disk: fields.rest(),
             },
@@ -188,6 +233,27 @@ impl<'a> Call<'a> {
             Call::Step { by, offset, image } => (step_op(by), offset.to_le_bytes().to_vec(), image),
             Call::Listing { room, image } => (LISTING, length_field(room), image),
             Call::ListingRoom { image } => (LISTING_ROOM, vec![], image),
+            Call::LineByNumber {
+                number,
+                limit,
+                image,
+            } => {
+                let fixed = [&number.to_le_bytes()[..], &limit.to_le_bytes()].concat();
+                (LINE_BY_NUMBER, fixed, image)
+            }
+            Call::AddressedStep { by, offset, image } => {
+                (addressed_op(by), offset.to_le_bytes().to_vec(), image)
+            }
+            Call::MeasuredLine {
+                load,
+                dialect,
+                place: at,
+                text,
+            } => {
+                let options = vec![0];
+                let fixed = [place(load, dialect), options, at.to_le_bytes().to_vec()];
+                (MEASURED_LINE, fixed.concat(), text)
+            }
             Call::FormatDisk { disk } => (FORMAT_DISK, vec![], disk),
             Call::SaveFile { name, image, disk } => {
                 let fixed = [name_field(name), length_field(image.len()), image.to_vec()];
@@ -217,6 +283,9 @@ pub fn fixed_part(op: u8) -> usize {
         RESOLVED_DIALECT => 1,
         STEP_BY_TERMINATORS | STEP_BY_LINKS => 8,
         LISTING => 4,
+        LINE_BY_NUMBER => 2 + 8,
+        ADDRESSED_STEP_BY_TERMINATORS | ADDRESSED_STEP_BY_LINKS => 8,
+        MEASURED_LINE => 2 + 1 + 1 + 8,
         SAVE_FILE => 2 + 4,
         READ_FILE => 4 + 2,
         SCRATCH_FILE => 2,
@@ -244,6 +313,13 @@ fn step_op(by: Reader) -> u8 {
     match by {
         Reader::Terminators => STEP_BY_TERMINATORS,
         Reader::Links => STEP_BY_LINKS,
+    }
+}
+
+fn addressed_op(by: Reader) -> u8 {
+    match by {
+        Reader::Terminators => ADDRESSED_STEP_BY_TERMINATORS,
+        Reader::Links => ADDRESSED_STEP_BY_LINKS,
     }
 }
 

@@ -13,8 +13,14 @@ impl<'a> Fields<'a> {
         Some(*taken)
     }
 
+    /// An address, or a line's number.
     pub fn address(&mut self) -> Option<u16> {
         self.take().map(u16::from_le_bytes)
+    }
+
+    /// An offset, a limit or a place.
+    pub fn number(&mut self) -> Option<u64> {
+        self.take().map(u64::from_le_bytes)
     }
 
     pub fn dialect(&mut self) -> Option<Dialect> {
@@ -24,6 +30,11 @@ impl<'a> Fields<'a> {
             [2] => Some(Dialect::Tsb),
             _ => None,
         }
+    }
+
+    /// The byte of options: no bit of it has landed.
+    pub fn options(&mut self) -> Option<()> {
+        (self.take()? == [0]).then_some(())
     }
 
     pub fn room(&mut self) -> Option<usize> {
@@ -63,7 +74,15 @@ impl<'a> Fields<'a> {
     pub fn step(&mut self, by: Reader) -> Option<Call<'a>> {
         Some(Call::Step {
             by,
-            offset: self.take().map(u64::from_le_bytes)?,
+            offset: self.number()?,
+            image: self.rest(),
+        })
+    }
+
+    pub fn addressed_step(&mut self, by: Reader) -> Option<Call<'a>> {
+        Some(Call::AddressedStep {
+            by,
+            offset: self.number()?,
             image: self.rest(),
         })
     }

@@ -3,10 +3,13 @@
 use std::io::{self, Read, Write};
 use std::thread;
 
+use crate::addressed;
 use crate::calls::{Call, dialect_byte};
 use crate::disk::{self, CheckedDisk};
+use crate::found::{self, Found};
 use crate::frames::{self, Incoming, Request};
 use crate::library::{self, Checked, Step};
+use crate::measured::{self, MeasuredLine};
 use crate::refusal::Refusal;
 use crate::show;
 
@@ -83,6 +86,20 @@ fn answer_call(call: &Call) -> Vec<u8> {
         Call::ListingRoom { image } => {
             plain(library::listing(image).map(|listing| length(listing.as_bytes())))
         }
+        Call::LineByNumber {
+            number,
+            limit,
+            image,
+        } => plain(found::line_by_number(number, limit, image).map(found_line)),
+        Call::AddressedStep { by, offset, image } => {
+            plain(addressed::step(by, offset, image).map(addressed_line))
+        }
+        Call::MeasuredLine {
+            load,
+            dialect,
+            place,
+            text,
+        } => plain(measured::line(load, dialect, place, text).map(measured_line)),
         Call::FormatDisk { disk } => changed(disk, disk::format(disk)),
         Call::SaveFile { name, image, disk } => changed(disk, disk::save(disk, name, image)),
         Call::ReadFile { room, name, disk } => [&lent(disk::read(disk, name), room), disk].concat(),
@@ -136,16 +153,45 @@ fn checked_disk(found: CheckedDisk) -> Vec<u8> {
 }
 
 fn stepped(found: Option<Step>) -> Vec<u8> {
-    let Some(line) = found else {
-        return vec![0];
-    };
+    match found {
+        Some(line) => [&[1], &of_line(line)[..]].concat(),
+        None => vec![0],
+    }
+}
+
+fn of_line(line: Step) -> Vec<u8> {
     let numbers = [
         line.link.into(),
         line.number.into(),
         line.next,
         line.body.len() as u64,
     ];
-    [vec![1], fields(&numbers), line.body].concat()
+    [fields(&numbers), line.body].concat()
+}
+
+fn found_line(found: Found) -> Vec<u8> {
+    [fields(&[found.visited]), stepped(found.line)].concat()
+}
+
+fn addressed_line(found: Option<(u64, Step)>) -> Vec<u8> {
+    match found {
+        Some((address, line)) => [vec![1], fields(&[address]), of_line(line)].concat(),
+        None => vec![0],
+    }
+}
+
+fn measured_line(found: Option<MeasuredLine>) -> Vec<u8> {
+    let Some(line) = found else {
+        return vec![0];
+    };
+    let numbers = [
+        line.address,
+        line.link,
+        line.number,
+        line.body_length,
+        line.text_line,
+    ];
+    [vec![1], fields(&numbers)].concat()
 }
 
 fn fields(numbers: &[u64]) -> Vec<u8> {

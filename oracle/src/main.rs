@@ -10,17 +10,20 @@ use std::str::FromStr;
 // The modules petscii, prg, source and tokens of the original, unchanged.
 include!(concat!(env!("OUT_DIR"), "/original.rs"));
 
+mod addressed;
 mod calls;
 mod compare;
 mod disk;
 mod domain;
 mod endings;
 mod fields;
+mod found;
 mod frames;
 mod generate;
 mod judge;
 mod library;
 mod links;
+mod measured;
 mod peers;
 mod program;
 mod random;

@@ -21,6 +21,7 @@ pub enum Refusal {
     LinkOutside { link: u64 },
     LinkNoEnd { link: u64 },
     UnknownDialect,
+    LimitReached,
     BadDisk,
     BadName,
     NameTaken,
@@ -30,7 +31,7 @@ pub enum Refusal {
 }
 
 /// Number, name and carried values of each refusal that the judge can give.
-const TABLE: [(u8, &str, &[&str]); 20] = [
+const TABLE: [(u8, &str, &[&str]); 21] = [
     (1, "TextTooLong", &["length"]),
     (2, "BadByte", &["offset"]),
     (3, "MissingLineNumber", &["text line"]),
@@ -45,6 +46,7 @@ const TABLE: [(u8, &str, &[&str]); 20] = [
     (12, "LinkOutside", &["link at"]),
     (13, "LinkNoEnd", &["link at"]),
     (14, "UnknownDialect", &[]),
+    (19, "LimitReached", &[]),
     (20, "BadDisk", &[]),
     (21, "BadName", &[]),
     (22, "NameTaken", &[]),
@@ -77,6 +79,7 @@ impl Refusal {
             Refusal::LinkOutside { link } => numbered(12, &[link]),
             Refusal::LinkNoEnd { link } => numbered(13, &[link]),
             Refusal::UnknownDialect => numbered(14, &[]),
+            Refusal::LimitReached => numbered(19, &[]),
             Refusal::BadDisk => numbered(20, &[]),
             Refusal::BadName => numbered(21, &[]),
             Refusal::NameTaken => numbered(22, &[]),

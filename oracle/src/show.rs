@@ -46,6 +46,25 @@ fn of_call(call: &Call) -> String {
         }
         Call::Listing { room, image } => format!("listing, room {room}: {}", hex(image)),
         Call::ListingRoom { image } => format!("room for the listing: {}", hex(image)),
+        Call::LineByNumber {
+            number,
+            limit,
+            image,
+        } => format!("line {number} within {limit} headers: {}", hex(image)),
+        Call::AddressedStep { by, offset, image } => format!(
+            "step by {} with the address, at {offset}: {}",
+            reader(by),
+            hex(image)
+        ),
+        Call::MeasuredLine {
+            load,
+            dialect,
+            place,
+            text,
+        } => format!(
+            "measured line {place} at {load:04X} under {dialect:?}: {}",
+            quoted(text)
+        ),
         Call::FormatDisk { disk } => format!("format a {}", disk_of(disk)),
         Call::SaveFile { name, image, disk } => format!(
             "save {} bytes under {} on a {}",
@@ -85,6 +104,11 @@ fn of_results(op: u8, results: &[u8]) -> String {
             named(&["load address", "lines"], results)
         }
         calls::STEP_BY_TERMINATORS | calls::STEP_BY_LINKS => of_step(results),
+        calls::LINE_BY_NUMBER => of_search(results),
+        calls::ADDRESSED_STEP_BY_TERMINATORS | calls::ADDRESSED_STEP_BY_LINKS => {
+            of_line(&[&["address"], &LINE_LABELS[..]].concat(), results)
+        }
+        calls::MEASURED_LINE => of_line(&MEASURED_LABELS, results),
         calls::FORMAT_DISK | calls::SAVE_FILE | calls::SCRATCH_FILE => Some(disk_of(results)),
         calls::READ_FILE => before_disk(&["length"], results),
         calls::CHECK_DISK => before_disk(&["files", "free sectors"], results),
@@ -147,13 +171,30 @@ fn of_test(results: &[u8]) -> Option<String> {
     }
 }
 
+/// The fields of a line in an answer.
+const LINE_LABELS: [&str; 4] = ["link", "number", "next", "body length"];
+const MEASURED_LABELS: [&str; 5] = ["address", "link", "number", "body length", "text line"];
+
 fn of_step(results: &[u8]) -> Option<String> {
+    of_line(&LINE_LABELS, results)
+}
+
+fn of_search(results: &[u8]) -> Option<String> {
+    let (visited, line) = results.split_at_checked(8)?;
+    Some(format!(
+        "{}, {}",
+        named(&["visited"], visited)?,
+        of_step(line)?
+    ))
+}
+
+/// A line by these fields, and its body behind them.
+fn of_line(labels: &[&str], results: &[u8]) -> Option<String> {
     match *results {
-        [0] => Some("the end".to_string()),
+        [0] => Some("no line".to_string()),
         [1, ref line @ ..] => {
-            let (fields, body) = line.split_at_checked(32)?;
-            let fields = named(&["link", "number", "next", "body length"], fields)?;
-            Some(format!("{fields}, body {}", hex(body)))
+            let (fields, body) = line.split_at_checked(8 * labels.len())?;
+            Some(format!("{}, body {}", named(labels, fields)?, hex(body)))
         }
         _ => None,
     }

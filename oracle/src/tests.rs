@@ -2,6 +2,7 @@
 //! have files of their own.
 
 mod disk;
+mod lines;
 
 use std::io::Cursor;
 use std::time::{Duration, Instant};

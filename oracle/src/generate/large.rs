@@ -33,7 +33,7 @@ const REPEATS: [(u16, u64); 12] = [
 /// The large case of the number, from 0 on; nothing behind the last.
 pub fn case(op: u8, number: usize) -> Option<Request> {
     match op {
-        calls::CRUNCH..=calls::RESOLVED_DIALECT => Some(of_text(op, &text(op, number)?)),
+        _ if calls::is_of_texts(op) => Some(of_text(op, &text(op, number)?)),
         calls::FORMAT_DISK..=calls::CHECK_DISK => disk_calls::case(op, number),
         calls::DIALECT_BY_NAME | calls::TSB_WORD => Some(requests::of_word(op, &word(op, number)?)),
         _ => Some(of_image(op, number, &image(op, number)?)),

@@ -13,6 +13,9 @@ const UNKNOWN_OPS: [u8; 8] = [0x00, 0x0C, 0x0D, 0x0E, 0x0F, 0xF0, 0xFE, 0xFF];
 /// Bytes that name no dialect; 3 is left out, since BASIC 3.5 will take it.
 const UNKNOWN_DIALECTS: [u8; 5] = [4, 5, 0x7F, 0x80, 0xFF];
 
+/// Options of which no request gives all bits; 1, 2 and 3 are left out.
+const UNKNOWN_OPTIONS: [u8; 4] = [4, 7, 0x80, 0xFF];
+
 const ROOMS_TOO_LARGE: [u32; 4] = [ROOM_LIMIT as u32 + 1, 1 << 20, 1 << 31, u32::MAX];
 
 /// Every kind of malformed request that an op can have, and the unknown ops.
@@ -21,6 +24,9 @@ pub fn listed(op: u8) -> Vec<Request> {
     let mut payloads: Vec<Vec<u8>> = (0..fixed).map(|length| vec![0; length]).collect();
     if let Some(place) = dialect_place(op) {
         payloads.extend(UNKNOWN_DIALECTS.map(|byte| with_field(fixed, place, &[byte])));
+    }
+    if op == calls::MEASURED_LINE {
+        payloads.extend(UNKNOWN_OPTIONS.map(|byte| with_field(fixed, 3, &[byte])));
     }
     if let Some(place) = room_place(op) {
         payloads.extend(ROOMS_TOO_LARGE.map(|room| with_field(fixed, place, &room.to_le_bytes())));
@@ -52,7 +58,7 @@ pub fn any(op: u8, random: &mut Random) -> Request {
 /// Where an op's payload has its dialect, if it has one.
 fn dialect_place(op: u8) -> Option<usize> {
     match op {
-        calls::CRUNCH | calls::CRUNCH_ROOM => Some(2),
+        calls::CRUNCH | calls::CRUNCH_ROOM | calls::MEASURED_LINE => Some(2),
         calls::RESOLVED_DIALECT => Some(0),
         _ => None,
     }

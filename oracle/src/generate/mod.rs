@@ -15,6 +15,7 @@ mod examples;
 mod guesses;
 mod images;
 mod large;
+mod lines;
 mod malformed;
 mod names;
 mod programs;
@@ -107,38 +108,38 @@ impl Sequence {
     }
 }
 
-/// The examples of document 01, and the words that are wanted word for word.
+/// The examples of the documents, and the words that are wanted word for word.
 fn listed_first(op: u8, random: &mut Random) -> Vec<Request> {
     match op {
-        calls::CRUNCH..=calls::RESOLVED_DIALECT => {
-            requests::of_texts(op, &examples::texts(), random)
-        }
         calls::DIALECT_BY_NAME => requests::of_words(op, &names::first_dialects()),
         calls::TSB_WORD => requests::of_words(op, &names::first_words()),
+        calls::LINE_BY_NUMBER => lines::listed(op),
+        calls::ADDRESSED_STEP_BY_TERMINATORS..=calls::MEASURED_LINE => lines::listed(op),
         calls::FORMAT_DISK..=calls::CHECK_DISK => disk_calls::listed(op, random),
+        _ if calls::is_of_texts(op) => requests::of_texts(op, &examples::texts(), random),
         _ => requests::of_images(op, &examples::images(), random),
     }
 }
 
 fn enumerated(op: u8, random: &mut Random) -> Vec<Request> {
     match op {
-        calls::CRUNCH..=calls::RESOLVED_DIALECT => requests::of_texts(op, &texts::listed(), random),
         calls::DIALECT_BY_NAME => requests::of_words(op, &names::listed_dialects()),
         calls::TSB_WORD => requests::of_words(op, &names::listed_words(random)),
         calls::FORMAT_DISK..=calls::CHECK_DISK => Vec::new(),
+        _ if calls::is_of_texts(op) => requests::of_texts(op, &texts::listed(), random),
         _ => requests::of_images(op, &images::listed(), random),
     }
 }
 
 fn any(op: u8, random: &mut Random) -> Request {
     match op {
-        calls::CRUNCH..=calls::RESOLVED_DIALECT => {
-            let case = texts::any(random);
-            requests::of_text(op, &case, random)
-        }
         calls::DIALECT_BY_NAME => requests::of_word(op, &names::any_dialect(random)),
         calls::TSB_WORD => requests::of_word(op, &names::any_word(random)),
         calls::FORMAT_DISK..=calls::CHECK_DISK => disk_calls::any(op, random),
+        _ if calls::is_of_texts(op) => {
+            let case = texts::any(random);
+            requests::of_text(op, &case, random)
+        }
         _ => {
             let image = images::any(random);
             requests::of_image(op, &image, random)

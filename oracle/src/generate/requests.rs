@@ -9,6 +9,16 @@ use crate::tokens::Dialect;
 /// Where a BASIC program of the Commodore 64 stands.
 pub const C64_LOAD: u16 = 0x0801;
 
+/// Offsets, limits and places beyond everything.
+const HUGE: [u64; 6] = [
+    u64::MAX,
+    u64::MAX - 3,
+    1 << 63,
+    1 << 32,
+    (1 << 32) + 2,
+    1 << 31,
+];
+
 /// A text, and how it is to be crunched.
 pub struct TextCase {
     pub load: u16,
@@ -59,6 +69,12 @@ pub fn of_text(op: u8, case: &TextCase, random: &mut Random) -> Request {
             text,
         },
         calls::RESOLVED_DIALECT => Call::ResolvedDialect { dialect, text },
+        calls::MEASURED_LINE => Call::MeasuredLine {
+            load,
+            dialect,
+            place: line_place(text, random),
+            text,
+        },
         _ => unreachable!("op {op:02X} takes no text"),
     };
     call.encode()
@@ -88,6 +104,9 @@ pub fn of_image(op: u8, image: &[u8], random: &mut Random) -> Request {
         calls::CHECK_BY_LINKS => check(Reader::Links, image),
         calls::STEP_BY_TERMINATORS => step(Reader::Terminators, image, random),
         calls::STEP_BY_LINKS => step(Reader::Links, image, random),
+        calls::ADDRESSED_STEP_BY_TERMINATORS => addressed_step(Reader::Terminators, image, random),
+        calls::ADDRESSED_STEP_BY_LINKS => addressed_step(Reader::Links, image, random),
+        calls::LINE_BY_NUMBER => search(image, random),
         calls::LISTING => {
             let listing = library::listing(image);
             Call::Listing {
@@ -103,25 +122,27 @@ pub fn of_image(op: u8, image: &[u8], random: &mut Random) -> Request {
 
 /// Requests for listed images; steps are asked at the first line and elsewhere.
 pub fn of_images(op: u8, images: &[Vec<u8>], random: &mut Random) -> Vec<Request> {
+    let mut requests = Vec::new();
+    for image in images {
+        requests.extend(at_first_line(op, image));
+        requests.push(of_image(op, image, random));
+    }
+    requests
+}
+
+/// The step at the first line, if the op asks for steps.
+fn at_first_line(op: u8, image: &[u8]) -> Option<Request> {
     let by = match op {
-        calls::STEP_BY_TERMINATORS => Reader::Terminators,
-        calls::STEP_BY_LINKS => Reader::Links,
-        _ => {
-            let request = |image: &Vec<u8>| of_image(op, image, random);
-            return images.iter().map(request).collect();
-        }
+        calls::STEP_BY_TERMINATORS | calls::ADDRESSED_STEP_BY_TERMINATORS => Reader::Terminators,
+        calls::STEP_BY_LINKS | calls::ADDRESSED_STEP_BY_LINKS => Reader::Links,
+        _ => return None,
     };
-    images
-        .iter()
-        .flat_map(|image| {
-            let first = Call::Step {
-                by,
-                offset: 2,
-                image,
-            };
-            [first.encode(), step(by, image, random).encode()]
-        })
-        .collect()
+    let offset = 2;
+    let call = match op {
+        calls::STEP_BY_TERMINATORS | calls::STEP_BY_LINKS => Call::Step { by, offset, image },
+        _ => Call::AddressedStep { by, offset, image },
+    };
+    Some(call.encode())
 }
 
 fn check(by: Reader, image: &[u8]) -> Call<'_> {
@@ -131,6 +152,40 @@ fn check(by: Reader, image: &[u8]) -> Call<'_> {
 fn step<'a>(by: Reader, image: &'a [u8], random: &mut Random) -> Call<'a> {
     let offset = offset(by, image, random);
     Call::Step { by, offset, image }
+}
+
+fn addressed_step<'a>(by: Reader, image: &'a [u8], random: &mut Random) -> Call<'a> {
+    let offset = offset(by, image, random);
+    Call::AddressedStep { by, offset, image }
+}
+
+/// A search for a line that is there, mostly, with a limit around its place.
+fn search<'a>(image: &'a [u8], random: &mut Random) -> Call<'a> {
+    let at = line_offset(Reader::Links, image, random);
+    let number = match library::step(Reader::Links, at, image) {
+        Ok(Some(line)) if !random.one_in(4) => line.number,
+        _ => random.pick(&[0, 10, 20, 0xFFFF]),
+    };
+    let limit = match random.below(4) {
+        0 => random.pick(&HUGE),
+        _ => random.below(8) as u64,
+    };
+    Call::LineByNumber {
+        number,
+        limit,
+        image,
+    }
+}
+
+/// A place among a text's lines, or a little or far beyond them.
+fn line_place(text: &[u8], random: &mut Random) -> u64 {
+    let ends = text.iter().filter(|byte| b"\n\r".contains(byte)).count();
+    match random.below(12) {
+        0 => 0,
+        1 => random.pick(&HUGE),
+        2 => (ends + 1 + random.below(3)) as u64,
+        _ => random.between(1, ends + 1) as u64,
+    }
 }
 
 /// A room around what the call needs; any small one if it gives no result.
@@ -150,14 +205,6 @@ pub fn room(needed: Option<usize>, random: &mut Random) -> usize {
 
 /// An offset to step from: a line's, one near an end of the image, any, a huge one.
 fn offset(by: Reader, image: &[u8], random: &mut Random) -> u64 {
-    const HUGE: [u64; 6] = [
-        u64::MAX,
-        u64::MAX - 3,
-        1 << 63,
-        1 << 32,
-        (1 << 32) + 2,
-        1 << 31,
-    ];
     let length = image.len() as u64;
     match random.below(8) {
         0..4 => line_offset(by, image, random),
