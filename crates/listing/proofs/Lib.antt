@@ -2,5 +2,4 @@ pub mod Digits
 pub mod Lining
 pub mod Longest
 pub mod Progress
-pub mod Short
 pub mod Whole

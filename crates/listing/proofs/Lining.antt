@@ -1,60 +1,75 @@
 -- The listing of a line, part by part.
 -- Assumes nothing.
-use Prim.Native.Nat.{ℕ, _+_, _*_, _≤_}
-use mathlib.Core.Path.{_≡_, refl, sym, ap, _∙_}
-use mathlib.Core.List.{List, [], _∷_, _++_}
+use Prim.Native.Nat.{ℕ, _+_, _*_, _≤_, _<_}
+use mathlib.Core.Path.{_≡_, sym}
+use mathlib.Core.List.{List, [], _∷_, _++_, append-assoc}
 use native.Mathlib.Omega.{arith}
 use lib.ListN.{length, length-append}
+use mir.Syntax.{w16, w64}
+use mir.Val.{Fits}
 use Rattle.lent.specs.Stores.{Room, Put}
 use Rattle.lent.proofs.Storing.{room-first, room-second, put-both}
-use Rattle.listing.specs.Body.{places, decimal, bodyListing, lineListing}
-use Rattle.listing.proofs.Digits.{places-most, decimal-long}
+use Rattle.units.specs.declared.Rules.{Rules}
+use Rattle.listing.specs.Body.{bodyListing, lineListing}
+use Rattle.listing.specs.Decimal.{decimal}
+use Rattle.listing.specs.LineHelpers.{headListing, restListing, LineLength}
+use Rattle.listing.proofs.Digits.{places-most}
 use Rattle.listing.proofs.Progress.{body-short}
 
-pub line-long : (number : ℕ) (body : List ℕ) → length (lineListing number body) ≡ places number + length (bodyListing body) + 2
+-- ---- how long
+
+line-long : (rules : Rules) (number : ℕ) (body : List ℕ) → length (lineListing rules number body) ≡ length (decimal number) + length (bodyListing rules body) + 2
 unfolding lineListing
-line-long number body =
-    omega (arith, length-append (decimal number) (0x20 ∷ (bodyListing body ++ (0x0A ∷ []))), length-append (bodyListing body) (0x0A ∷ []), decimal-long number)
+line-long rules number body =
+    omega (arith, length-append (decimal number) (0x20 ∷ (bodyListing rules body ++ (0x0A ∷ []))), length-append (bodyListing rules body) (0x0A ∷ []))
 
-pub line-short : (number : ℕ) (body : List ℕ) → length (lineListing number body) ≤ 7 + 8 * length body
-line-short number body = omega (arith, line-long number body, places-most number, body-short body)
+pub line-short : (rules : Rules) (number : ℕ) (body : List ℕ) → number < 65536 → length (lineListing rules number body) ≤ 7 + 8 * length body
+line-short rules number body small = omega (arith, line-long rules number body, places-most number small, body-short rules body)
 
--- what follows the body, and what follows the number
-abbrev end : List ℕ
-end = 0x0A ∷ []
+module _ (rules : Rules) (number : ℕ) (body : List ℕ) {k m : ℕ} (small : Fits w16 number) (places : k ≡ length (decimal number)) (rest : m ≡ length (bodyListing rules body)) where
+  pub line-length : LineLength rules number body (k + m + 2)
+  line-length =
+      record {
+        is = omega (arith, line-long rules number body);
+        short = omega (arith, line-long rules number body, line-short rules number body (omega (arith, small .fits)));
+      }
 
-abbrev rest : List ℕ → List ℕ
-rest body = (0x20 ∷ []) ++ (bodyListing body ++ end)
+  pub line-fits : length body ≤ 1048576 → Fits w64 (k + m + 2)
+  line-fits few = record { fits = omega (arith, line-length .short) }
 
-module _ (number : ℕ) (body : List ℕ) where
-  parts : lineListing number body ≡ decimal number ++ rest body
-  unfolding lineListing
-  parts = refl
+  pub line-fits-so-far : length body ≤ 1048576 → Fits w64 (k + m)
+  line-fits-so-far few = record { fits = omega (arith, line-length .short) }
 
-  module _ {buffer : List ℕ} {at : ℕ} (r : Room buffer at (lineListing number body)) where
-    whole : Room buffer at (decimal number ++ rest body)
-    whole = rw parts at r
+-- ---- stored in two parts
 
-    pub room-number : Room buffer at (decimal number)
-    room-number = room-first (decimal number) (rest body) whole
+pub line-parts : (rules : Rules) (number : ℕ) (body : List ℕ) → lineListing rules number body ≡ headListing number ++ restListing rules body
+unfolding lineListing headListing restListing
+line-parts rules number body = sym (append-assoc (decimal number) (0x20 ∷ []) (bodyListing rules body ++ (0x0A ∷ [])))
 
-    module _ {space : ℕ} {after₁ : List ℕ} (p₁ : Put buffer at (decimal number) space after₁) where
-      after-number : Room after₁ space (rest body)
-      after-number = room-second (decimal number) (rest body) whole p₁
+module _ (number : ℕ) {buffer : List ℕ} {at : ℕ} where
+  pub head-number : Room buffer at (headListing number) → Room buffer at (decimal number)
+  unfolding headListing
+  head-number r = room-first (decimal number) (0x20 ∷ []) r
 
-      pub room-space : Room after₁ space (0x20 ∷ [])
-      room-space = room-first (0x20 ∷ []) (bodyListing body ++ end) after-number
+  pub head-space : {space : ℕ} {half : List ℕ} → Room buffer at (headListing number) → Put buffer at (decimal number) space half → Room half space (0x20 ∷ [])
+  unfolding headListing
+  head-space r p = room-second (decimal number) (0x20 ∷ []) r p
 
-      module _ {from : ℕ} {after₂ : List ℕ} (p₂ : Put after₁ space (0x20 ∷ []) from after₂) where
-        after-space : Room after₂ from (bodyListing body ++ end)
-        after-space = room-second (0x20 ∷ []) (bodyListing body ++ end) after-number p₂
+  pub head-put : {space : ℕ} {half : List ℕ} {behind : ℕ} {after : List ℕ} → Put buffer at (decimal number) space half → Put half space (0x20 ∷ []) behind after
+      → Put buffer at (headListing number) behind after
+  unfolding headListing
+  head-put p q = put-both (decimal number) (0x20 ∷ []) p q
 
-        pub room-body : Room after₂ from (bodyListing body)
-        room-body = room-first (bodyListing body) end after-space
+module _ (rules : Rules) (body : List ℕ) {buffer : List ℕ} {at : ℕ} where
+  pub rest-body : Room buffer at (restListing rules body) → Room buffer at (bodyListing rules body)
+  unfolding restListing
+  rest-body r = room-first (bodyListing rules body) (0x0A ∷ []) r
 
-        module _ {to : ℕ} {after₃ : List ℕ} (p₃ : Put after₂ from (bodyListing body) to after₃) where
-          pub room-end : Room after₃ to (0x0A ∷ [])
-          room-end = room-second (bodyListing body) end after-space p₃
+  pub rest-end : {to : ℕ} {half : List ℕ} → Room buffer at (restListing rules body) → Put buffer at (bodyListing rules body) to half → Room half to (0x0A ∷ [])
+  unfolding restListing
+  rest-end r p = room-second (bodyListing rules body) (0x0A ∷ []) r p
 
-          pub put-all : {behind : ℕ} {after₄ : List ℕ} → Put after₃ to (0x0A ∷ []) behind after₄ → Put buffer at (lineListing number body) behind after₄
-          put-all p₄ = rw parts (put-both (decimal number) (rest body) p₁ (put-both (0x20 ∷ []) (bodyListing body ++ end) p₂ (put-both (bodyListing body) end p₃ p₄)))
+  pub rest-put : {to : ℕ} {half : List ℕ} {behind : ℕ} {after : List ℕ} → Put buffer at (bodyListing rules body) to half → Put half to (0x0A ∷ []) behind after
+      → Put buffer at (restListing rules body) behind after
+  unfolding restListing
+  rest-put p q = put-both (bodyListing rules body) (0x0A ∷ []) p q

@@ -1,54 +1,59 @@
--- A listing is at most eight times as long as its image. So in 65,536 bytes every image of 8,192 has room, and the program `list` never
--- answers 6.
+-- A listing is at most eight times as long as its image of bytes. So in 65,536 bytes every image of 8,192 has room, and the program `list`
+-- never answers 6.
 -- Assumes nothing.
-use Prim.Native.Nat.{ℕ, _+_, _*_, _-_, _≤_}
+use Prim.Native.Nat.{ℕ, _+_, _*_, _-_, _≤_, _<_}
 use mathlib.Core.Path.{_≡_, refl, sym, ap, _∙_, subst}
 use mathlib.Core.List.{List, [], _∷_, _++_}
 use native.Mathlib.Omega.{arith}
-use lib.ListN.{length, length-append}
-use Rattle.refusals.specs.Numbers.{Numbered}
+use lib.ListN.{length, getD, length-append}
 use Rattle.refusals.specs.Answer.{Answer, done, refused, mapDone}
+use Rattle.readers.specs.declared.By.{By}
 use Rattle.readers.specs.declared.Line.{Line}
 use Rattle.readers.specs.Image.{Found, line, end}
-use Rattle.readers.proofs.Equations.{LiesAt, by-lines}
 use Rattle.readers.specs.NumberedBody.{NumberedBody}
 use Rattle.readers.specs.Bodies.{bodyOf, numberedBody, bodiesFrom}
-use Rattle.readers.specs.Terminators.{terminatorStep}
+use Rattle.readers.specs.Readers.{stepBy}
+use Rattle.readers.proofs.Equations.{LiesAt, by-lines}
 use Rattle.readers.proofs.Reading.{bodies-line, bodies-end, bodies-refused, body-length}
-use Rattle.readers.proofs.ByTerminators.{terminator-sound}
+use Rattle.readers.proofs.Steps.{by-sound}
+use Rattle.units.specs.declared.Rules.{Rules}
 use Rattle.listing.specs.Body.{lineListing}
-use Rattle.listing.specs.Listing.{linesListing, listing}
+use Rattle.listing.specs.Listing.{linesListing, listingBy}
 use Rattle.listing.proofs.Lining.{line-short}
 
-module _ (image : List ℕ) where
+module _ (by : By) (rules : Rules) (image : List ℕ) (bytes : (i : ℕ) → getD image i 0 < 256) where
+  abbrev from : ℕ → Answer (List NumberedBody)
+  from p = bodiesFrom (stepBy by) image p
+
   -- the lines from p on list as at most eight times what is left of the image
   abbrev Short : ℕ → Answer (List NumberedBody) → Type 0
-  Short p (done bs) = length (linesListing bs) ≤ 8 * (length image - p)
+  Short p (done bs) = length (linesListing rules bs) ≤ 8 * (length image - p)
   Short p (refused n) = Unit {0}
 
   one-more : (p : ℕ) (l : Line) → LiesAt image p l → (a : Answer (List NumberedBody)) → Short (l .next) a → Short p (mapDone (λ bs. numberedBody image l ∷ bs) a)
   unfolding linesListing
   one-more p l d (done bs) h =
-      let shown = lineListing (l .number) (bodyOf image l) in
+      let shown = lineListing rules (l .number) (bodyOf image l) in
+      let small : l .number < 65536 = omega (arith, d .number, bytes (p + 2), bytes (p + 2 + 1)) in
       omega
-      (arith, length-append shown (linesListing bs), line-short (l .number) (bodyOf image l), body-length d, d .starts, d .runs, d .ends, d .within)
+      (arith, length-append shown (linesListing rules bs), line-short rules (l .number) (bodyOf image l) small, body-length d, d .starts, d .runs, d .ends, d .within)
   one-more p l d (refused n) h = tt
 
-  short-at : (p : ℕ) → ((l : Line) → terminatorStep image p ≡ done (line l) → Short (l .next) (bodiesFrom terminatorStep image (l .next)))
-      → (f : Answer Found) → terminatorStep image p ≡ f → Short p (bodiesFrom terminatorStep image p)
+  short-at : (p : ℕ) → ((l : Line) → stepBy by image p ≡ done (line l) → Short (l .next) (from (l .next)))
+      → (f : Answer Found) → stepBy by image p ≡ f → Short p (from p)
   unfolding linesListing
   short-at p h (done (line l)) e =
-      subst (Short p) (sym (bodies-line terminator-sound image p e)) (one-more p l (terminator-sound .lies image p e) (bodiesFrom terminatorStep image (l .next)) (h l e))
-  short-at p h (done end) e = subst (Short p) (sym (bodies-end terminatorStep image p e)) (omega arith)
-  short-at p h (refused n) e = subst (Short p) (sym (bodies-refused terminatorStep image p e)) tt
+      subst (Short p) (sym (bodies-line (by-sound by) image p e)) (one-more p l (by-sound by .lies image p e) (from (l .next)) (h l e))
+  short-at p h (done end) e = subst (Short p) (sym (bodies-end (stepBy by) image p e)) (omega arith)
+  short-at p h (refused n) e = subst (Short p) (sym (bodies-refused (stepBy by) image p e)) tt
 
-  short-from : (p : ℕ) → Short p (bodiesFrom terminatorStep image p)
-  short-from = by-lines terminator-sound image (λ p. Short p (bodiesFrom terminatorStep image p)) (λ p h. short-at p h (terminatorStep image p) refl)
+  short-from : (p : ℕ) → Short p (from p)
+  short-from = by-lines (by-sound by) image (λ p. Short p (from p)) (λ p h. short-at p h (stepBy by image p) refl)
 
-  pub listing-short : {bytes : List ℕ} → listing image ≡ done bytes → length bytes ≤ 8 * length image
-  unfolding listing
-  listing-short {bytes} e = go (bodiesFrom terminatorStep image 2) e (short-from 2)
+  pub listing-short : {text : List ℕ} → listingBy by rules image ≡ done text → length text ≤ 8 * length image
+  unfolding listingBy
+  listing-short {text} e = go (from 2) e (short-from 2)
     where
-      go : (a : Answer (List NumberedBody)) → mapDone linesListing a ≡ done bytes → Short 2 a → length bytes ≤ 8 * length image
-      go (done bs) q h = let s : linesListing bs ≡ bytes = cc in omega (arith, ap length s)
+      go : (a : Answer (List NumberedBody)) → mapDone (linesListing rules) a ≡ done text → Short 2 a → length text ≤ 8 * length image
+      go (done bs) q h = let s : linesListing rules bs ≡ text = cc in omega (arith, ap length s)
       go (refused n) q h = let z : _≡_ {A = ℕ} 0 1 = cc in absurd (omega arith)

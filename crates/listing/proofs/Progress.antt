@@ -1,162 +1,121 @@
--- The loops over a body: what is listed so far, a turn, and the end; and what they count and store.
+-- The loops over a body: what is left to list at a place, what was counted, what was stored.
 -- Assumes nothing.
-use Prim.Native.Nat.{ℕ, zero, suc, _+_, _*_, _≤_, _<_}
+use Prim.Native.Nat.{ℕ, _+_, _*_, _≤_, _<_}
 use mathlib.Core.Path.{_≡_, refl, sym, ap, _∙_}
-use mathlib.Core.Bool.{Bool, false}
-use mathlib.Core.List.{List, [], _∷_, _++_, append-nil, append-assoc}
-use native.Mathlib.Numerals.{add-one}
+use mathlib.Core.List.{List, [], _∷_, _++_}
 use native.Mathlib.Omega.{arith}
-use lib.ListN.{length, getD, drop, length-append, length-drop, drop-of-length-le}
-use lib.Seq.{drop-cons, drop-drop}
+use lib.ListN.{length, getD, drop, length-append, length-drop}
+use mir.Syntax.{w64}
+use mir.Val.{Fits}
 use Rattle.lent.specs.Stores.{Room, Put}
-use Rattle.lent.proofs.Storing.{put-long, put-both, put-none}
-use Rattle.pieces.specs.Pieces.{Shown, shown, pieceText, listedAs}
-use Rattle.pieces.specs.declared.Listed.{Listed}
-use Rattle.listing.specs.Body.{shownWithin, bodyListing}
-use Rattle.listing.proofs.Short.{Fine, fine}
+use Rattle.units.specs.declared.Mode.{Mode}
+use Rattle.units.specs.declared.Mode.the-variants.{Plain}
+use Rattle.units.specs.declared.Rules.{Rules}
+use Rattle.units.specs.declared.Taken.{Taken}
+use Rattle.units.specs.Units.{unitAt, unitsFrom}
+use Rattle.units.proofs.Walking.{unit-takes, units-none, units-more, by-units, units-end, units-at, unit-some, unit-within}
+use Rattle.pieces.specs.Pieces.{unitText, spelt}
+use Rattle.pieces.proofs.Owed.{Owed, owed-start, owed-room, owed-turn, owed-end}
+use Rattle.pieces.proofs.Short.{unit-short}
+use Rattle.listing.specs.Body.{bodyListing}
 
--- i bytes of the body are listed, and quoting is q there
-pub record Sofar (body : List ℕ) (i : ℕ) (q : Bool) : Type 0 where
-  pub listed : List ℕ
-  pub left : ℕ
-  pub enough : length body ≤ i + left
-  pub within : i ≤ length body
-  pub short : length listed ≤ 8 * i
-  pub gives : listed ++ shownWithin left q (drop i body) ≡ bodyListing body
+-- what is left to list of a body, at a place and in a mode
+abbrev pub leftAt : Rules → Mode → List ℕ → ℕ → List ℕ
+leftAt rules mode body i = spelt (unitsFrom rules mode (drop i body))
 
-pub sofar-start : (body : List ℕ) → Sofar body 0 false
-unfolding bodyListing
-sofar-start body = record { listed = []; left = length body; enough = omega arith; within = omega arith; short = omega arith; gives = refl }
+-- at i the body is listed up to the end
+left-none : (rules : Rules) (mode : Mode) (body : List ℕ) (i : ℕ) → length body ≤ i → leftAt rules mode body i ≡ []
+unfolding spelt
+left-none rules mode body i h = ap spelt (units-end rules mode body i h)
 
--- what the step at i answered
-pub record Stepped (body : List ℕ) (i : ℕ) (q : Bool) (l : Listed) : Type 0 where
-  pub here : i < length body
-  pub is : listedAs l ≡ shown q (getD body i 0) (drop (i + 1) body)
+module _ (rules : Rules) (mode : Mode) (body : List ℕ) (i : ℕ) {t : Taken} (h : i < length body) (e : t ≡ unitAt rules mode (getD body i 0) (drop (i + 1) body)) where
+  left-more : leftAt rules mode body i ≡ unitText (t .unit) ++ leftAt rules (t .mode) body (i + t .used)
+  unfolding spelt
+  left-more = ap spelt (units-at rules mode body i h e)
 
-none : (k : ℕ) (q : Bool) → shownWithin k q [] ≡ []
-unfolding shownWithin
-none zero q = refl
-none (suc k) q = refl
-
-module _ {body : List ℕ} {i : ℕ} {q : Bool} {l : Listed} (s : Stepped body i q l) where
-  steps : Fine (length (drop (i + 1) body)) (listedAs l)
-  steps = rw (s .is) (fine q (getD body i 0) (drop (i + 1) body))
-
-  pub stepped-on : (1 ≤ l .used) × (i + l .used ≤ length body)
-  stepped-on = omega (arith, steps .some, steps .within, length-drop (i + 1) body, s .here)
-
-  pub stepped-short : length (pieceText (l .piece)) ≤ 8 * l .used
-  stepped-short = steps .short
-
-  cons : (k : ℕ) → shownWithin (suc k) q (drop i body) ≡ pieceText (l .piece) ++ shownWithin k (l .quoted) (drop (i + l .used) body)
-  unfolding shownWithin
-  cons k =
-      let c : drop i body ≡ getD body i 0 ∷ drop (i + 1) body = rw add-one (drop-cons body i 0 (s .here)) in
-      rw (← drop-drop (l .used) i body, c, ← s .is)
-
-  module _ (f : Sofar body i q) where
-    next : (k : ℕ) → length body ≤ i + k → f .listed ++ shownWithin k q (drop i body) ≡ bodyListing body → Sofar body (i + l .used) (l .quoted)
-    next zero h g = absurd (omega (arith, s .here))
-    next (suc k) h g =
-        let p = pieceText (l .piece) in
-        record {
-          listed = f .listed ++ p;
-          left = k;
-          enough = omega (arith, stepped-on);
-          within = stepped-on .1;
-          short = omega (arith, length-append (f .listed) p, f .short, stepped-short);
-          gives = append-assoc (f .listed) p (shownWithin k (l .quoted) (drop (i + l .used) body)) ∙ ap (λ (t : List ℕ). f .listed ++ t) (sym (cons k)) ∙ g;
-        }
-
-    pub sofar-turn : Sofar body (i + l .used) (l .quoted)
-    sofar-turn = next (f .left) (f .enough) (f .gives)
-
-    next-listed : (k : ℕ) (h : length body ≤ i + k) (g : f .listed ++ shownWithin k q (drop i body) ≡ bodyListing body) → next k h g .listed ≡ f .listed ++ pieceText (l .piece)
-    unfolding next
-    next-listed zero h g = absurd (omega (arith, s .here))
-    next-listed (suc k) h g = refl
-
-    pub turn-listed : sofar-turn .listed ≡ f .listed ++ pieceText (l .piece)
-    unfolding sofar-turn
-    turn-listed = next-listed (f .left) (f .enough) (f .gives)
-
-pub sofar-end : {body : List ℕ} {i : ℕ} {q : Bool} (f : Sofar body i q) → length body ≤ i → f .listed ≡ bodyListing body
-sofar-end {body} {i} {q} f h =
-    sym (append-nil (f .listed)) ∙ ap (λ (t : List ℕ). f .listed ++ t) (sym (none (f .left) q) ∙ ap (shownWithin (f .left) q) (sym (drop-of-length-le body h))) ∙ f .gives
+  unit-fits : length body ≤ 1048576 → Fits w64 (i + t .used)
+  unit-fits few = record { fits = omega (arith, unit-within rules mode body i h e) }
 
 -- ---- counting
 
-pub record Counted (body : List ℕ) (i : ℕ) (q : Bool) (n : ℕ) : Type 0 where
-  pub sofar : Sofar body i q
-  pub counts : n ≡ length (sofar .listed)
+-- i bytes of the body are counted, and quoting is as the mode says there
+pub record BodyCounted (rules : Rules) (body : List ℕ) (i : ℕ) (mode : Mode) (n : ℕ) : Type 0 where
+  pub within : i ≤ length body
+  pub short : n ≤ 8 * i
+  pub gives : n + length (leftAt rules mode body i) ≡ length (bodyListing rules body)
 
-pub counted-start : (body : List ℕ) → Counted body 0 false 0
-unfolding sofar-start
-counted-start body = record { sofar = sofar-start body; counts = refl }
+pub counted-start : (rules : Rules) (body : List ℕ) → BodyCounted rules body 0 Plain 0
+unfolding bodyListing
+counted-start rules body = record { within = omega arith; short = omega arith; gives = omega arith }
 
-module _ {body : List ℕ} {i : ℕ} {q : Bool} {n : ℕ} (c : Counted body i q n) where
-  pub counted-most : n ≤ 8 * length body
-  counted-most = omega (arith, c .counts, c .sofar .short, c .sofar .within)
+module _ {rules : Rules} {body : List ℕ} {i : ℕ} {mode : Mode} {n : ℕ} (k : BodyCounted rules body i mode n) where
+  module _ {t : Taken} (h : i < length body) (e : t ≡ unitAt rules mode (getD body i 0) (drop (i + 1) body)) where
+    pub counted-place : length body ≤ 1048576 → Fits w64 (i + t .used)
+    counted-place few = unit-fits rules mode body i h e few
 
-  pub counted-turn : {l : Listed} {m : ℕ} → Stepped body i q l → m ≡ length (pieceText (l .piece)) → Counted body (i + l .used) (l .quoted) (n + m)
-  counted-turn {l} s e =
-      record {
-        sofar = sofar-turn s (c .sofar);
-        counts = omega (arith, ap length (turn-listed s (c .sofar)), length-append (c .sofar .listed) (pieceText (l .piece)), c .counts, e);
-      }
+    module _ {m : ℕ} (is : m ≡ length (unitText (t .unit))) where
+      pub counted-turn : BodyCounted rules body (i + t .used) (t .mode) (n + m)
+      counted-turn =
+          let text = unitText (t .unit) in
+          record {
+            within = unit-within rules mode body i h e;
+            short = omega (arith, unit-some rules mode body i h e, unit-short (t .unit), k .short);
+            gives =
+                omega
+                (arith, k .gives, ap length (left-more rules mode body i h e), length-append text (leftAt rules (t .mode) body (i + t .used)));
+          }
 
-  pub counted-end : length body ≤ i → n ≡ length (bodyListing body)
-  counted-end h = c .counts ∙ ap length (sofar-end (c .sofar) h)
+      pub counted-fits : length body ≤ 1048576 → Fits w64 (n + m)
+      counted-fits few = record { fits = omega (arith, counted-turn .short, counted-turn .within) }
+
+  pub counted-end : length body ≤ i → n ≡ length (bodyListing rules body)
+  counted-end h = omega (arith, k .gives, ap length (left-none rules mode body i h))
 
 -- ---- storing
 
-pub record Written (body buffer : List ℕ) (at : ℕ) (out : List ℕ) (i : ℕ) (q : Bool) (to : ℕ) : Type 0 where
-  pub room : Room buffer at (bodyListing body)
-  pub sofar : Sofar body i q
-  pub put : Put buffer at (sofar .listed) to out
+pub record BodyWritten (rules : Rules) (body buffer : List ℕ) (at : ℕ) (out : List ℕ) (i : ℕ) (mode : Mode) (to : ℕ) : Type 0 where
+  pub owed : Owed buffer at (bodyListing rules body) out to (leftAt rules mode body i)
 
-pub written-start : {body buffer : List ℕ} {at : ℕ} → Room buffer at (bodyListing body) → Written body buffer at buffer 0 false at
-unfolding sofar-start
-written-start {body} {buffer} {at} r = record { room = r; sofar = sofar-start body; put = put-none buffer at }
+pub written-start : {rules : Rules} {body buffer : List ℕ} {at : ℕ} → Room buffer at (bodyListing rules body) → BodyWritten rules body buffer at buffer 0 Plain at
+unfolding bodyListing
+written-start r = record { owed = owed-start r }
 
-module _ {body buffer : List ℕ} {at : ℕ} {out : List ℕ} {i : ℕ} {q : Bool} {to : ℕ} (w : Written body buffer at out i q to) where
-  module _ {l : Listed} (s : Stepped body i q l) where
-    pub written-room : Room out to (pieceText (l .piece))
-    written-room =
-        let f = w .sofar in
-        let t = sofar-turn s f in
-        record {
-          room =
-              omega
-              (arith, ap length (t .gives), length-append (t .listed) (shownWithin (t .left) (l .quoted) (drop (i + l .used) body)), ap length (turn-listed s f), length-append (f .listed) (pieceText (l .piece)), w .room .room, w .put .ends, put-long (w .put));
-        }
+module _ {rules : Rules} {body buffer : List ℕ} {at : ℕ} {out : List ℕ} {i : ℕ} {mode : Mode} {to : ℕ} (k : BodyWritten rules body buffer at out i mode to) where
+  module _ {t : Taken} (h : i < length body) (e : t ≡ unitAt rules mode (getD body i 0) (drop (i + 1) body)) where
+    pub written-room : Room out to (unitText (t .unit))
+    written-room = owed-room (k .owed) (unitText (t .unit)) (leftAt rules (t .mode) body (i + t .used)) (left-more rules mode body i h e)
 
-    pub written-turn : {to′ : ℕ} {out′ : List ℕ} → Put out to (pieceText (l .piece)) to′ out′ → Written body buffer at out′ (i + l .used) (l .quoted) to′
+    pub written-place : length body ≤ 1048576 → Fits w64 (i + t .used)
+    written-place few = unit-fits rules mode body i h e few
+
+    pub written-turn : {to′ : ℕ} {out′ : List ℕ} → Put out to (unitText (t .unit)) to′ out′ → BodyWritten rules body buffer at out′ (i + t .used) (t .mode) to′
     written-turn p =
-        record {
-          room = w .room;
-          sofar = sofar-turn s (w .sofar);
-          put = rw (turn-listed s (w .sofar)) (put-both (w .sofar .listed) (pieceText (l .piece)) (w .put) p);
-        }
+        record { owed = owed-turn (k .owed) (unitText (t .unit)) (leftAt rules (t .mode) body (i + t .used)) (left-more rules mode body i h e) p }
 
-  pub written-end : length body ≤ i → Put buffer at (bodyListing body) to out
-  written-end h = rw (sofar-end (w .sofar) h) at (w .put)
+  pub written-end : length body ≤ i → Put buffer at (bodyListing rules body) to out
+  written-end h = owed-end (k .owed) (left-none rules mode body i h)
 
   pub written-long : length out ≡ length buffer
-  written-long = put-long (w .put)
+  written-long = k .owed .long
 
 -- ---- how long a body's listing can be
 
-within-short : (k : ℕ) (q : Bool) (s : List ℕ) → length (shownWithin k q s) ≤ 8 * length s
-unfolding shownWithin
-within-short zero q s = omega arith
-within-short (suc k) q [] = omega arith
-within-short (suc k) q (b ∷ rest) =
-    let p = shown q b rest in
-    let f = fine q b rest in
-    omega
-    (arith, length-append (p .text) (shownWithin k (p .quoted) (drop (p .used) (b ∷ rest))), within-short k (p .quoted) (drop (p .used) (b ∷ rest)), length-drop (p .used) (b ∷ rest), f .some, f .within, f .short)
+module _ (rules : Rules) where
+  Short : Mode → List ℕ → Type 0
+  Short mode s = length (spelt (unitsFrom rules mode s)) ≤ 8 * length s
 
-pub body-short : (body : List ℕ) → length (bodyListing body) ≤ 8 * length body
-unfolding bodyListing
-body-short body = within-short (length body) false body
+  short-none : (mode : Mode) → Short mode []
+  unfolding Short spelt
+  short-none mode = omega (arith, ap (λ us. length (spelt us)) (units-none rules mode))
+
+  short-more : (mode : Mode) (b : ℕ) (rest : List ℕ) → Short (unitAt rules mode b rest .mode) (drop (unitAt rules mode b rest .used) (b ∷ rest)) → Short mode (b ∷ rest)
+  unfolding Short spelt
+  short-more mode b rest h =
+      let t = unitAt rules mode b rest in
+      let left = spelt (unitsFrom rules (t .mode) (drop (t .used) (b ∷ rest))) in
+      omega
+      (arith, ap (λ us. length (spelt us)) (units-more rules mode b rest), length-append (unitText (t .unit)) left, unit-short (t .unit), length-drop (t .used) (b ∷ rest), unit-takes rules mode b rest)
+
+  pub body-short : (body : List ℕ) → length (bodyListing rules body) ≤ 8 * length body
+  unfolding bodyListing Short
+  body-short body = by-units rules Short short-none short-more Plain body

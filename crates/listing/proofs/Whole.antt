@@ -1,165 +1,202 @@
--- The loops over the lines of an image: what is listed so far, a turn, and the ends; and what they count and store.
+-- The loops over the lines of an image: what is left to list at an offset, what was counted, what was stored.
 -- Assumes nothing.
 use Prim.Native.Nat.{ℕ, _+_, _*_, _-_, _≤_, _<_}
 use mathlib.Core.Path.{_≡_, refl, sym, ap, _∙_, subst}
-use mathlib.Core.List.{List, [], _∷_, _++_, append-nil, append-assoc}
+use mathlib.Core.List.{List, [], _∷_, _++_}
 use native.Mathlib.Omega.{arith}
 use lib.ListN.{length, length-append}
-use Rattle.refusals.specs.Numbers.{Numbered}
-use Rattle.refusals.specs.Answer.{Answer, done, refused, mapDone}
-use Rattle.lent.specs.Lent.{Lent, intoBuffer, roomFor}
-use Rattle.lent.specs.Stores.{Room, Put}
-use Rattle.lent.proofs.Storing.{room-first, room-second, put-long, put-both, put-none}
-use Rattle.lent.specs.Stores.{HasRoom}
-use Rattle.lent.proofs.Outcomes.{into-done}
+use mir.Syntax.{w64}
+use mir.Val.{Fits}
+use Rattle.refusals.specs.Answer.{Answer, done, refused, mapDone, numbered}
+use Rattle.refusals.specs.declared.Refusal.{Refusal}
+use Rattle.refusals.specs.Numbers.{noRoom}
+use Rattle.lent.specs.Lent.{Lent, intoBuffer, roomFor, outcomeAnswer}
+use Rattle.lent.specs.declared.Outcome.{Outcome}
+use Rattle.lent.specs.declared.Outcome.the-variants.{Done, Refused as RefusedOutcome}
+use Rattle.lent.specs.Stores.{Room, Put, HasRoom}
+use Rattle.lent.proofs.Storing.{room-first, room-second, put-both}
+use Rattle.lent.proofs.Outcomes.{told-outcome, has-room, into-refused, into-none, into-done}
+use Rattle.readers.specs.declared.By.{By}
+use Rattle.readers.specs.declared.By.the-variants.{Terminators}
 use Rattle.readers.specs.declared.Line.{Line}
-use Rattle.readers.specs.Image.{line, end}
-use Rattle.readers.proofs.Equations.{LiesAt, Sound}
+use Rattle.readers.specs.declared.Step.{Step}
+use Rattle.readers.specs.declared.Step.the-variants.{Found, End, Refused}
+use Rattle.readers.specs.Answers.{stepAnswer}
 use Rattle.readers.specs.NumberedBody.{NumberedBody}
 use Rattle.readers.specs.Bodies.{bodyOf, numberedBody, bodiesFrom}
-use Rattle.readers.specs.Terminators.{terminatorStep}
+use Rattle.readers.specs.Readers.{stepBy}
+use Rattle.readers.proofs.Finding.{told}
 use Rattle.readers.proofs.Reading.{bodies-line, bodies-end, bodies-refused, body-length}
-use Rattle.readers.proofs.ByTerminators.{terminator-sound}
+use Rattle.readers.proofs.Steps.{by-sound, found-lies}
+use Rattle.units.specs.declared.Rules.{Rules}
+use Rattle.pieces.proofs.Owed.{Owed, owed-start, owed-room, owed-turn, owed-end}
 use Rattle.listing.specs.Body.{lineListing}
-use Rattle.listing.specs.Listing.{linesListing, listing}
-use Rattle.listing.proofs.Lining.{line-short}
+use Rattle.listing.specs.LineHelpers.{headListing, restListing, LineLength}
+use Rattle.listing.specs.Listing.{linesListing, listingBy, originalRules, listing}
+use Rattle.listing.proofs.Lining.{line-parts}
 
--- what was listed, and then so many lines more
-abbrev followed : List ℕ → List NumberedBody → List ℕ
-followed listed bs = listed ++ linesListing bs
-
--- the lines before p are listed
-pub record Passed (image : List ℕ) (p : ℕ) : Type 0 where
-  pub listed : List ℕ
-  pub short : length listed ≤ 8 * p
-  pub gives : mapDone (followed listed) (bodiesFrom terminatorStep image p) ≡ listing image
-
-pub passed-start : (image : List ℕ) → Passed image 2
-unfolding listing
-passed-start image = record { listed = []; short = omega arith; gives = refl }
+-- what is left to list of an image, from an offset on
+abbrev leftFrom : By → Rules → List ℕ → ℕ → Answer (List ℕ)
+leftFrom by rules image p = mapDone (linesListing rules) (bodiesFrom (stepBy by) image p)
 
 -- the listing of a line that was found
-abbrev pub lineShown : List ℕ → Line → List ℕ
-lineShown image l = lineListing (l .number) (bodyOf image l)
+abbrev lineShown : Rules → List ℕ → Line → List ℕ
+lineShown rules image l = lineListing rules (l .number) (bodyOf image l)
 
-one-more : (x : List ℕ) (l : NumberedBody) (a : Answer (List NumberedBody))
-    → mapDone (followed (x ++ lineListing (l .number) (l .body))) a ≡ mapDone (followed x) (mapDone (λ bs. l ∷ bs) a)
-unfolding linesListing
-one-more x l (done bs) = ap done (append-assoc x (lineListing (l .number) (l .body)) (linesListing bs))
-one-more x l (refused n) = refl
-
--- a line was found at p
-pub record FoundAt (image : List ℕ) (p : ℕ) (l : Line) : Type 0 where
-  pub is : terminatorStep image p ≡ done (line l)
-
-module _ {image : List ℕ} {p : ℕ} {l : Line} (f : FoundAt image p l) where
-  lies : LiesAt image p l
-  lies = terminator-sound .lies image p (f .is)
-
-  pub found-part : (l .from ≤ l .to) × (l .to ≤ length image)
-  found-part = omega (arith, lies .runs, lies .ends, lies .within)
-
-  pub found-on : p < l .next × (l .next ≤ length image) × (length image ≤ 1048576)
-  found-on = omega (arith, lies .starts, lies .runs, lies .ends, lies .within, terminator-sound .not-too-long image p (f .is))
-
-  pub found-body : length (bodyOf image l) ≤ 1048576
-  found-body = omega (arith, body-length lies, lies .ends, lies .within, terminator-sound .not-too-long image p (f .is))
-
-  shown-short : length (lineShown image l) + 8 * p ≤ 8 * l .next
-  shown-short = omega (arith, line-short (l .number) (bodyOf image l), body-length lies, lies .starts, lies .runs, lies .ends)
-
-  module _ (k : Passed image p) where
-    pub passed-turn : Passed image (l .next)
-    passed-turn =
-        record {
-          listed = k .listed ++ lineShown image l;
-          short = omega (arith, length-append (k .listed) (lineShown image l), k .short, shown-short);
-          gives =
-              one-more (k .listed) (numberedBody image l) (bodiesFrom terminatorStep image (l .next))
-              ∙ ap (mapDone (followed (k .listed))) (sym (bodies-line terminator-sound image p (f .is)))
-              ∙ k .gives;
-        }
-
-    pub turn-listed : passed-turn .listed ≡ k .listed ++ lineShown image l
-    unfolding passed-turn
-    turn-listed = refl
-
-module _ {image : List ℕ} {p : ℕ} (k : Passed image p) where
-  pub passed-end : terminatorStep image p ≡ done end → done (k .listed) ≡ listing image
+module _ (by : By) (rules : Rules) (image : List ℕ) (p : ℕ) {r : Step} where
+  left-end : r ≡ End → stepAnswer r ≡ stepBy by image p → leftFrom by rules image p ≡ done []
   unfolding linesListing
-  passed-end e =
-      ap done (sym (append-nil (k .listed))) ∙ sym (ap (mapDone (followed (k .listed))) (bodies-end terminatorStep image p e)) ∙ k .gives
+  left-end is e = ap (mapDone (linesListing rules)) (bodies-end (stepBy by) image p (told is e))
 
-  pub passed-refused : {n : Numbered} → terminatorStep image p ≡ refused n → refused n ≡ listing image
-  passed-refused e = sym (ap (mapDone (followed (k .listed))) (bodies-refused terminatorStep image p e)) ∙ k .gives
+  left-refused : {n : Refusal} → r ≡ Refused n → stepAnswer r ≡ stepBy by image p → leftFrom by rules image p ≡ refused (numbered n)
+  left-refused is e = ap (mapDone (linesListing rules)) (bodies-refused (stepBy by) image p (told is e))
+
+  module _ {l : Line} (is : r ≡ Found l) (e : stepAnswer r ≡ stepBy by image p) where
+    left-line : leftFrom by rules image p ≡ mapDone (λ rest. lineShown rules image l ++ rest) (leftFrom by rules image (l .next))
+    unfolding linesListing
+    left-line = ap (mapDone (linesListing rules)) (bodies-line (by-sound by) image p (told is e)) ∙ go (bodiesFrom (stepBy by) image (l .next))
+      where
+        go : (a : Answer (List NumberedBody)) → mapDone (linesListing rules) (mapDone (λ bs. numberedBody image l ∷ bs) a)
+            ≡ mapDone (λ rest. lineShown rules image l ++ rest) (mapDone (linesListing rules) a)
+        go (done bs) = refl
+        go (refused n) = refl
+
+-- a body that was found is no longer than an image
+pub found-short : (by : By) (s : List ℕ) (p : ℕ) {r : Step} {l : Line} → r ≡ Found l → stepAnswer r ≡ stepBy by s p → length (bodyOf s l) ≤ 1048576
+found-short by s p {r} {l} is e =
+    let d = found-lies by s p is e in omega (arith, body-length d, d .ends, d .within, by-sound by .not-too-long s p (told is e))
 
 -- ---- counting
 
-pub record Counted (image : List ℕ) (p n : ℕ) : Type 0 where
-  pub passed : Passed image p
-  pub counts : n ≡ length (passed .listed)
+-- n bytes are listed before p, and with what is left they make the listing
+pub record LinesCounted (by : By) (rules : Rules) (image : List ℕ) (p n : ℕ) : Type 0 where
+  pub short : n ≤ 8 * p
+  pub gives : mapDone (λ rest. n + length rest) (leftFrom by rules image p) ≡ roomFor (listingBy by rules image)
 
-pub counted-start : (image : List ℕ) → Counted image 2 0
-unfolding passed-start
-counted-start image = record { passed = passed-start image; counts = refl }
+pub counted-start : (by : By) (rules : Rules) (image : List ℕ) → LinesCounted by rules image 2 0
+unfolding listingBy
+counted-start by rules image = record { short = omega arith; gives = go (leftFrom by rules image 2) }
+  where
+    go : (a : Answer (List ℕ)) → mapDone (λ rest. 0 + length rest) a ≡ roomFor a
+    go (done rest) = ap done (omega arith)
+    go (refused n) = refl
 
-module _ {image : List ℕ} {p n : ℕ} (c : Counted image p n) where
-  module _ {l : Line} (f : FoundAt image p l) {m : ℕ} (e : m ≡ length (lineShown image l)) where
-    pub counted-turn : Counted image (l .next) (n + m)
+module _ {by : By} {rules : Rules} {image : List ℕ} {p n : ℕ} (k : LinesCounted by rules image p n) {r : Step} where
+  module _ {l : Line} {m : ℕ} (is : r ≡ Found l) (e : stepAnswer r ≡ stepBy by image p) (long : LineLength rules (l .number) (bodyOf image l) m) where
+    pub counted-turn : LinesCounted by rules image (l .next) (n + m)
     counted-turn =
+        let d = found-lies by image p is e in
         record {
-          passed = passed-turn f (c .passed);
-          counts = omega (arith, ap length (turn-listed f (c .passed)), length-append (c .passed .listed) (lineShown image l), c .counts, e);
+          short = omega (arith, k .short, long .short, body-length d, d .starts, d .runs, d .ends);
+          gives = go (leftFrom by rules image (l .next)) ∙ sym (ap (mapDone (λ rest. n + length rest)) (left-line by rules image p is e)) ∙ k .gives;
         }
+      where
+        go : (a : Answer (List ℕ)) → mapDone (λ rest. n + m + length rest) a
+            ≡ mapDone (λ rest. n + length rest) (mapDone (λ rest. lineShown rules image l ++ rest) a)
+        go (done rest) = ap done (omega (arith, long .is, length-append (lineShown rules image l) rest))
+        go (refused q) = refl
 
-    pub counted-fits : n + m ≤ 8388608
-    counted-fits = omega (arith, counted-turn .counts, counted-turn .passed .short, found-on f)
+    pub counted-fits : Fits w64 (n + m)
+    counted-fits =
+        let d = found-lies by image p is e in
+        record { fits = omega (arith, counted-turn .short, d .within, by-sound by .not-too-long image p (told is e)) }
 
-  pub counted-end : terminatorStep image p ≡ done end → done n ≡ roomFor (listing image)
-  counted-end e = ap done (c .counts) ∙ ap roomFor (passed-end (c .passed) e)
+  pub counted-end : r ≡ End → stepAnswer r ≡ stepBy by image p → done n ≡ roomFor (listingBy by rules image)
+  counted-end is e = ap done (omega arith) ∙ sym (ap (mapDone (λ rest. n + length rest)) (left-end by rules image p is e)) ∙ k .gives
 
-  pub counted-refused : {r : Numbered} → terminatorStep image p ≡ refused r → refused r ≡ roomFor (listing image)
-  counted-refused e = ap roomFor (passed-refused (c .passed) e)
+  pub counted-refused : {q : Refusal} → r ≡ Refused q → stepAnswer r ≡ stepBy by image p → refused (numbered q) ≡ roomFor (listingBy by rules image)
+  counted-refused is e = sym (ap (mapDone (λ rest. n + length rest)) (left-refused by rules image p is e)) ∙ k .gives
 
 -- ---- storing
 
-pub record Written (image buffer : List ℕ) (p : ℕ) (out : List ℕ) (at : ℕ) : Type 0 where
-  pub room : HasRoom buffer (listing image)
-  pub passed : Passed image p
-  pub put : Put buffer 0 (passed .listed) at out
+pub record LinesWritten (by : By) (rules : Rules) (image buffer : List ℕ) (p : ℕ) (out : List ℕ) (at : ℕ) : Type 0 where
+  pub whole : List ℕ
+  pub left : List ℕ
+  pub is-whole : listingBy by rules image ≡ done whole
+  pub is-left : leftFrom by rules image p ≡ done left
+  pub owed : Owed buffer 0 whole out at left
 
-pub written-start : {image buffer : List ℕ} → HasRoom buffer (listing image) → Written image buffer 2 buffer 0
-unfolding passed-start
-written-start {image} {buffer} r = record { room = r; passed = passed-start image; put = put-none buffer 0 }
+pub written-start : (by : By) (rules : Rules) (image buffer : List ℕ) → HasRoom buffer (listingBy by rules image) → LinesWritten by rules image buffer 2 buffer 0
+unfolding listingBy
+written-start by rules image buffer room = go (listingBy by rules image) refl room
+  where
+    go : (a : Answer (List ℕ)) → listingBy by rules image ≡ a → HasRoom buffer a → LinesWritten by rules image buffer 2 buffer 0
+    go (done bytes) e has = record { whole = bytes; left = bytes; is-whole = e; is-left = e; owed = owed-start has }
+    go (refused n) e has = absurd has
 
--- what is listed so far has room where the whole has
-room-so-far : (buffer x : List ℕ) (a : Answer (List NumberedBody)) {w : Answer (List ℕ)} → mapDone (followed x) a ≡ w → HasRoom buffer w → Room buffer 0 x
-room-so-far buffer x (done bs) e r = room-first x (linesListing bs) (subst (HasRoom buffer) (sym e) r)
-room-so-far buffer x (refused n) e r = absurd (subst (HasRoom buffer) (sym e) r)
+module _ {by : By} {rules : Rules} {image buffer : List ℕ} {p : ℕ} {out : List ℕ} {at : ℕ} (k : LinesWritten by rules image buffer p out at) {r : Step} where
+  module _ {l : Line} (is : r ≡ Found l) (e : stepAnswer r ≡ stepBy by image p) where
+    -- the line, and what is left behind it
+    record Parts : Type 0 where
+      rest : List ℕ
+      parts : k .left ≡ (headListing (l .number) ++ restListing rules (bodyOf image l)) ++ rest
+      is-rest : leftFrom by rules image (l .next) ≡ done rest
 
-module _ {image buffer : List ℕ} {p : ℕ} {out : List ℕ} {at : ℕ} (w : Written image buffer p out at) where
-  module _ {l : Line} (f : FoundAt image p l) where
-    pub written-room : Room out at (lineShown image l)
-    written-room =
-        let t = passed-turn f (w .passed) in
-        let r : Room buffer 0 (w .passed .listed ++ lineShown image l) =
-        subst (Room buffer 0) (turn-listed f (w .passed)) (room-so-far buffer (t .listed) (bodiesFrom terminatorStep image (l .next)) (t .gives) (w .room)) in
-        room-second (w .passed .listed) (lineShown image l) r (w .put)
+    split : Parts
+    split = go (leftFrom by rules image (l .next)) refl (sym (left-line by rules image p is e) ∙ k .is-left)
+      where
+        go : (a : Answer (List ℕ)) → leftFrom by rules image (l .next) ≡ a → mapDone (λ rest. lineShown rules image l ++ rest) a ≡ done (k .left) → Parts
+        go (done rest) q f =
+            let g : k .left ≡ lineShown rules image l ++ rest = cc in
+            record { rest = rest; parts = g ∙ ap (λ (x : List ℕ). x ++ rest) (line-parts rules (l .number) (bodyOf image l)); is-rest = q }
+        go (refused n) q f = let z : _≡_ {A = ℕ} 0 1 = cc in absurd (omega arith)
 
-    pub written-turn : {at′ : ℕ} {out′ : List ℕ} → Put out at (lineShown image l) at′ out′ → Written image buffer (l .next) out′ at′
-    written-turn q =
-        record {
-          room = w .room;
-          passed = passed-turn f (w .passed);
-          put = rw (turn-listed f (w .passed)) (put-both (w .passed .listed) (lineShown image l) (w .put) q);
-        }
+    abbrev line-text : List ℕ
+    line-text = headListing (l .number) ++ restListing rules (bodyOf image l)
 
-  pub written-end : terminatorStep image p ≡ done end → _≡_ {A = Lent} (record { answer = done at; buffer = out }) (intoBuffer (listing image) buffer)
-  written-end e = into-done buffer (listing image) (passed-end (w .passed) e) (w .room) (w .put)
+    line-room : Room out at line-text
+    line-room = owed-room (k .owed) line-text (split .rest) (split .parts)
+
+    pub written-head : Room out at (headListing (l .number))
+    written-head = room-first (headListing (l .number)) (restListing rules (bodyOf image l)) line-room
+
+    module _ {mid : ℕ} {half : List ℕ} (q : Put out at (headListing (l .number)) mid half) where
+      pub written-rest : Room half mid (restListing rules (bodyOf image l))
+      written-rest = room-second (headListing (l .number)) (restListing rules (bodyOf image l)) line-room q
+
+      pub written-turn : {at′ : ℕ} {out′ : List ℕ} → Put half mid (restListing rules (bodyOf image l)) at′ out′ → LinesWritten by rules image buffer (l .next) out′ at′
+      written-turn t =
+          record {
+            whole = k .whole;
+            left = split .rest;
+            is-whole = k .is-whole;
+            is-left = split .is-rest;
+            owed = owed-turn (k .owed) line-text (split .rest) (split .parts) (put-both (headListing (l .number)) (restListing rules (bodyOf image l)) q t);
+          }
+
+  pub written-end : r ≡ End → stepAnswer r ≡ stepBy by image p → _≡_ {A = Lent} (record { answer = done at; buffer = out }) (intoBuffer (listingBy by rules image) buffer)
+  written-end is e =
+      let none : k .left ≡ [] = cc (left-end by rules image p is e, k .is-left) in
+      into-done buffer (listingBy by rules image) (sym (k .is-whole)) (subst (HasRoom buffer) (sym (k .is-whole)) (record { room = k .owed .fits })) (owed-end (k .owed) none)
 
   -- an image that has a listing is refused nowhere
-  pub written-refused : {n : Numbered} → terminatorStep image p ≡ refused n → ⊥
-  written-refused e = subst (HasRoom buffer) (sym (passed-refused (w .passed) e)) (w .room)
+  pub written-refused : {n : Refusal} → r ≡ Refused n → stepAnswer r ≡ stepBy by image p → ⊥
+  written-refused is e = let z : _≡_ {A = ℕ} 0 1 = cc (left-refused by rules image p is e, k .is-left) in omega arith
 
-  pub written-long : length out ≡ length buffer
-  written-long = put-long (w .put)
+pub written-long : {by : By} {rules : Rules} {image buffer : List ℕ} {p : ℕ} {out : List ℕ} {at : ℕ} → LinesWritten by rules image buffer p out at → length out ≡ length buffer
+written-long k = k .owed .long
+
+-- ---- what is measured decides
+
+module _ (by : By) (rules : Rules) (image buffer : List ℕ) {r : Outcome} (e : outcomeAnswer r ≡ roomFor (listingBy by rules image)) where
+  pub room-there : {n : ℕ} → r ≡ Done n → n ≤ length buffer → HasRoom buffer (listingBy by rules image)
+  room-there is h = has-room buffer (listingBy by rules image) (told-outcome is e) h
+
+  pub no-room : {n : ℕ} → r ≡ Done n → length buffer < n
+      → _≡_ {A = Lent} (record { answer = refused (noRoom n); buffer = buffer }) (intoBuffer (listingBy by rules image) buffer)
+  no-room is h = into-none buffer (listingBy by rules image) (told-outcome is e) h
+
+  pub no-listing : {n : Refusal} → r ≡ RefusedOutcome n
+      → _≡_ {A = Lent} (record { answer = refused (numbered n); buffer = buffer }) (intoBuffer (listingBy by rules image) buffer)
+  no-listing is = into-refused buffer (listingBy by rules image) (told-outcome is e)
+
+-- ---- the original's listing
+
+module _ (image : List ℕ) {rules : Rules} (is : rules ≡ originalRules) where
+  pub original-room : {a : Answer ℕ} → a ≡ roomFor (listingBy Terminators rules image) → a ≡ roomFor (listing image)
+  unfolding listing
+  original-room e = rw is at e
+
+  pub original-listing : (buffer : List ℕ) {a : Lent} → a ≡ intoBuffer (listingBy Terminators rules image) buffer → a ≡ intoBuffer (listing image) buffer
+  unfolding listing
+  original-listing buffer e = rw is at e

@@ -1,2 +1,4 @@
 pub mod Body
+pub mod Decimal
+pub mod LineHelpers
 pub mod Listing

@@ -1,19 +1,33 @@
 -- The listing of an image (document 01, "Reading and listing", "Numbers of refusal": "Listing checks 7, 8, 9, then 6"): the listings of
--- the lines that the reader by terminators finds, one behind the other.
+-- the lines that a reader finds, one behind the other.
 -- Assumes nothing.
 use Prim.Native.Nat.{ℕ}
+use mathlib.Core.Bool.{true, false}
 use mathlib.Core.List.{List, [], _∷_, _++_}
 use Rattle.refusals.specs.Answer.{Answer, mapDone}
+use Rattle.readers.specs.declared.By.{By}
+use Rattle.readers.specs.declared.By.the-variants.{Terminators}
 use Rattle.readers.specs.Bodies.{bodiesFrom, bodiesOf}
 use Rattle.readers.specs.NumberedBody.{NumberedBody}
-use Rattle.readers.specs.Terminators.{terminatorStep}
+use Rattle.readers.specs.Readers.{stepBy}
+use Rattle.units.specs.declared.Rules.{Rules}
 use Rattle.listing.specs.Body.{lineListing}
 
-unfoldable pub linesListing : List NumberedBody → List ℕ
+unfoldable pub linesListing : Rules → List NumberedBody → List ℕ
 unfolding lineListing
-linesListing [] = []
-linesListing (l ∷ ls) = lineListing (l .number) (l .body) ++ linesListing ls
+linesListing rules [] = []
+linesListing rules (l ∷ ls) = lineListing rules (l .number) (l .body) ++ linesListing rules ls
 
+-- the lines that a reader finds, and what a walk over a body heeds
+unfoldable pub listingBy : By → Rules → List ℕ → Answer (List ℕ)
+unfolding linesListing bodiesFrom stepBy
+listingBy by rules image = mapDone (linesListing rules) (bodiesOf (stepBy by) image)
+
+-- 64 is a prefix; remarks and DATA are bytes like others
+abbrev pub originalRules : Rules
+originalRules = record { prefix = true; remarks = false; items = false }
+
+-- the listing of the original: the lines by terminators
 unfoldable pub listing : List ℕ → Answer (List ℕ)
-unfolding linesListing bodiesFrom terminatorStep
-listing image = mapDone linesListing (bodiesOf terminatorStep image)
+unfolding listingBy
+listing image = listingBy Terminators originalRules image

@@ -1,26 +1,35 @@
 // The listing of one body and of one line.
 use crate::decimal;
+use units::Mode;
+use units::Rules;
 ghost use mathlib.Core.Path.{_≡_};
 ghost use Prim.Native.Nat.{_≤_};
 ghost use lib.ListN.{length};
 ghost use Rattle.lent.specs.Stores.{Room, Put};
 ghost use Rattle.tables.specs.Texts.{SpellsTexts, hexDigits};
-ghost use Rattle.listing.specs.Body.{bodyListing, lineListing};
+ghost use Rattle.listing.specs.Body.{bodyListing};
+ghost use Rattle.listing.specs.LineHelpers.{headListing, restListing, LineLength};
 
 // How long the listing of a body is.
-pub fn measure_body(bytes: &[u8], starts: &[u16], hex: &[u8; 16], body: &[u8]) -> usize
+pub fn measure_body(
+    bytes: &[u8],
+    starts: &[u16],
+    hex: &[u8; 16],
+    rules: Rules,
+    body: &[u8],
+) -> usize
     requires { ⌜ SpellsTexts (now bytes) (now starts) × (now hex ≡ hexDigits) × (length (now body) ≤ 1048576) ⌝ }
-    ensures { λ r. ⌜ r ≡ length (bodyListing (now (body .entry))) ⌝ }
+    ensures { λ r. ⌜ r ≡ length (bodyListing rules (now (body .entry))) ⌝ }
 {
     let mut i: usize = 0;
     let mut n: usize = 0;
-    let mut quoted = false;
+    let mut mode = Mode::Plain;
     while i < body.len() {
-        let listed = pieces::piece_at(bytes, starts, body, i, quoted);
-        let piece = listed.piece;
-        n += pieces::piece_length(bytes, starts, hex, piece);
-        i += listed.used;
-        quoted = listed.quoted;
+        let taken = units::unit_at(body, i, mode, rules);
+        let unit = taken.unit;
+        n += pieces::unit_length(bytes, starts, hex, unit);
+        i += taken.used;
+        mode = taken.mode;
     }
     n
 }
@@ -32,47 +41,62 @@ pub fn put_body(
     bytes: &[u8],
     starts: &[u16],
     hex: &[u8; 16],
+    rules: Rules,
     body: &[u8],
 ) -> usize
-    requires { ⌜ SpellsTexts (now bytes) (now starts) × (now hex ≡ hexDigits) × Room (now out) at (bodyListing (now body)) ⌝ }
-    ensures { λ r. ⌜ Put (now (out .entry)) at (bodyListing (now (body .entry))) r (now (out .exit)) ⌝ }
+    requires { ⌜ SpellsTexts (now bytes) (now starts) × (now hex ≡ hexDigits) × (length (now body) ≤ 1048576) × Room (now out) at (bodyListing rules (now body)) ⌝ }
+    ensures { λ r. ⌜ Put (now (out .entry)) at (bodyListing rules (now (body .entry))) r (now (out .exit)) ⌝ }
 {
     let mut i: usize = 0;
     let mut to = at;
-    let mut quoted = false;
+    let mut mode = Mode::Plain;
     while i < body.len() {
-        let listed = pieces::piece_at(bytes, starts, body, i, quoted);
-        let piece = listed.piece;
-        to = pieces::put_piece(out, to, bytes, starts, hex, piece);
-        i += listed.used;
-        quoted = listed.quoted;
+        let taken = units::unit_at(body, i, mode, rules);
+        let unit = taken.unit;
+        to = pieces::put_unit(out, to, bytes, starts, hex, unit);
+        i += taken.used;
+        mode = taken.mode;
     }
     to
 }
 
 // How long the listing of a line is.
-pub fn measure_line(bytes: &[u8], starts: &[u16], hex: &[u8; 16], number: u16, body: &[u8]) -> usize
+pub fn measure_line(
+    bytes: &[u8],
+    starts: &[u16],
+    hex: &[u8; 16],
+    rules: Rules,
+    number: u16,
+    body: &[u8],
+) -> usize
     requires { ⌜ SpellsTexts (now bytes) (now starts) × (now hex ≡ hexDigits) × (length (now body) ≤ 1048576) ⌝ }
-    ensures { λ r. ⌜ r ≡ length (lineListing number (now (body .entry))) ⌝ }
+    ensures { λ r. ⌜ LineLength rules number (now (body .entry)) r ⌝ }
 {
-    decimal::places(number) + measure_body(bytes, starts, hex, body) + 2
+    decimal::places(number) + measure_body(bytes, starts, hex, rules, body) + 2
 }
 
-// Stores the listing of a line from a place on, and answers the place behind it.
-pub fn put_line(
+// Stores a line's number and the space from a place on, and answers the place behind them.
+pub fn put_head(out: &mut [u8], at: usize, number: u16) -> usize
+    requires { ⌜ Room (now out) at (headListing number) ⌝ }
+    ensures { λ r. ⌜ Put (now (out .entry)) at (headListing number) r (now (out .exit)) ⌝ }
+{
+    let space = decimal::put_decimal(out, at, number);
+    pieces::put(out, space, b" ")
+}
+
+// Stores a line's body and its end from a place on, and answers the place behind them.
+pub fn put_rest(
     out: &mut [u8],
     at: usize,
     bytes: &[u8],
     starts: &[u16],
     hex: &[u8; 16],
-    number: u16,
+    rules: Rules,
     body: &[u8],
 ) -> usize
-    requires { ⌜ SpellsTexts (now bytes) (now starts) × (now hex ≡ hexDigits) × Room (now out) at (lineListing number (now body)) ⌝ }
-    ensures { λ r. ⌜ Put (now (out .entry)) at (lineListing number (now (body .entry))) r (now (out .exit)) ⌝ }
+    requires { ⌜ SpellsTexts (now bytes) (now starts) × (now hex ≡ hexDigits) × (length (now body) ≤ 1048576) × Room (now out) at (restListing rules (now body)) ⌝ }
+    ensures { λ r. ⌜ Put (now (out .entry)) at (restListing rules (now (body .entry))) r (now (out .exit)) ⌝ }
 {
-    let space = decimal::put_decimal(out, at, number);
-    let from = pieces::put(out, space, b" ");
-    let to = put_body(out, from, bytes, starts, hex, body);
+    let to = put_body(out, at, bytes, starts, hex, rules, body);
     pieces::put(out, to, b"\n")
 }

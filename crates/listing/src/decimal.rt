@@ -1,13 +1,13 @@
 // A line number in decimal.
 ghost use mathlib.Core.Path.{_≡_};
-ghost use mathlib.Core.List.{[], _∷_};
 ghost use Prim.Native.Nat.{_+_, _/_, _%_, _<_};
+ghost use lib.ListN.{length};
 ghost use Rattle.lent.specs.Stores.{Room, Put};
-ghost use Rattle.listing.specs.Body.{places as placesOf, decimal};
+ghost use Rattle.listing.specs.Decimal.{decimal};
 
 // How many digits a number takes.
 pub fn places(n: u16) -> usize
-    ensures { λ r. ⌜ r ≡ placesOf n ⌝ }
+    ensures { λ r. ⌜ r ≡ length (decimal n) ⌝ }
 {
     if n < 10 {
         return 1;

@@ -1,15 +1,16 @@
 // The listing of an image.
 use lent::Outcome;
+use readers::By;
 use readers::Step;
-use readers::terminators;
 use refusals::Refusal;
 use tables::petscii;
 use tables::texts;
+use units::Rules;
 ghost use mathlib.Core.Path.{_≡_};
 ghost use Rattle.lent.specs.Lent.{intoBuffer, roomFor, outcomeAnswer, left};
 ghost use Rattle.tables.specs.Texts.{SpellsTexts, hexDigits};
 ghost use Rattle.lent.specs.Stores.{HasRoom};
-ghost use Rattle.listing.specs.Listing.{listing};
+ghost use Rattle.listing.specs.Listing.{listing, listingBy, originalRules};
 
 pub mod body;
 pub mod decimal;
@@ -23,6 +24,8 @@ pub fn list(image: &[u8], out: &mut [u8]) -> Outcome
         &texts::TEXT_BYTES,
         &texts::TEXT_STARTS,
         &petscii::HEX_DIGITS,
+        By::Terminators,
+        original_rules(),
         image,
     )
 }
@@ -35,37 +38,65 @@ pub fn room(image: &[u8]) -> Outcome
         &texts::TEXT_BYTES,
         &texts::TEXT_STARTS,
         &petscii::HEX_DIGITS,
+        By::Terminators,
+        original_rules(),
         image,
     )
 }
 
-fn list_with(out: &mut [u8], bytes: &[u8], starts: &[u16], hex: &[u8; 16], image: &[u8]) -> Outcome
-    requires { ⌜ SpellsTexts (now bytes) (now starts) × (now hex ≡ hexDigits) ⌝ }
-    ensures { λ r. ⌜ left r (now (out .exit)) ≡ intoBuffer (listing (now (image .entry))) (now (out .entry)) ⌝ }
+// What the original's listing heeds.
+fn original_rules() -> Rules
+    ensures { λ r. ⌜ r ≡ originalRules ⌝ }
 {
-    match measure(bytes, starts, hex, image) {
+    Rules {
+        prefix: true,
+        remarks: false,
+        items: false,
+    }
+}
+
+fn list_with(
+    out: &mut [u8],
+    bytes: &[u8],
+    starts: &[u16],
+    hex: &[u8; 16],
+    by: By,
+    rules: Rules,
+    image: &[u8],
+) -> Outcome
+    requires { ⌜ SpellsTexts (now bytes) (now starts) × (now hex ≡ hexDigits) ⌝ }
+    ensures { λ r. ⌜ left r (now (out .exit)) ≡ intoBuffer (listingBy by rules (now (image .entry))) (now (out .entry)) ⌝ }
+{
+    match measure(bytes, starts, hex, by, rules, image) {
         Outcome::Done(needed) => {
             if needed > out.len() {
                 return Outcome::Refused(Refusal::NoRoom { needed });
             }
-            Outcome::Done(write(out, bytes, starts, hex, image))
+            Outcome::Done(write(out, bytes, starts, hex, by, rules, image))
         }
         Outcome::Refused(refusal) => Outcome::Refused(refusal),
     }
 }
 
-fn measure(bytes: &[u8], starts: &[u16], hex: &[u8; 16], image: &[u8]) -> Outcome
+fn measure(
+    bytes: &[u8],
+    starts: &[u16],
+    hex: &[u8; 16],
+    by: By,
+    rules: Rules,
+    image: &[u8],
+) -> Outcome
     requires { ⌜ SpellsTexts (now bytes) (now starts) × (now hex ≡ hexDigits) ⌝ }
-    ensures { λ r. ⌜ outcomeAnswer r ≡ roomFor (listing (now (image .entry))) ⌝ }
+    ensures { λ r. ⌜ outcomeAnswer r ≡ roomFor (listingBy by rules (now (image .entry))) ⌝ }
 {
     let mut offset: usize = 2;
     let mut n: usize = 0;
     loop {
-        match terminators::step(image, offset) {
+        match readers::step_by(image, offset, by) {
             Step::Found(line) => {
                 let from = line.from;
                 let to = line.to;
-                n += body::measure_line(bytes, starts, hex, line.number, &image[from..to]);
+                n += body::measure_line(bytes, starts, hex, rules, line.number, &image[from..to]);
                 offset = line.next;
             }
             Step::End => {
@@ -79,18 +110,27 @@ fn measure(bytes: &[u8], starts: &[u16], hex: &[u8; 16], image: &[u8]) -> Outcom
 }
 
 // Stores the listing of an image that has one, in a buffer that has the room.
-fn write(out: &mut [u8], bytes: &[u8], starts: &[u16], hex: &[u8; 16], image: &[u8]) -> usize
-    requires { ⌜ SpellsTexts (now bytes) (now starts) × (now hex ≡ hexDigits) × HasRoom (now out) (listing (now image)) ⌝ }
-    ensures { λ r. ⌜ left (Outcome.Done r) (now (out .exit)) ≡ intoBuffer (listing (now (image .entry))) (now (out .entry)) ⌝ }
+fn write(
+    out: &mut [u8],
+    bytes: &[u8],
+    starts: &[u16],
+    hex: &[u8; 16],
+    by: By,
+    rules: Rules,
+    image: &[u8],
+) -> usize
+    requires { ⌜ SpellsTexts (now bytes) (now starts) × (now hex ≡ hexDigits) × HasRoom (now out) (listingBy by rules (now image)) ⌝ }
+    ensures { λ r. ⌜ left (Outcome.Done r) (now (out .exit)) ≡ intoBuffer (listingBy by rules (now (image .entry))) (now (out .entry)) ⌝ }
 {
     let mut offset: usize = 2;
     let mut at: usize = 0;
     loop {
-        match terminators::step(image, offset) {
+        match readers::step_by(image, offset, by) {
             Step::Found(line) => {
                 let from = line.from;
                 let to = line.to;
-                at = body::put_line(out, at, bytes, starts, hex, line.number, &image[from..to]);
+                let behind = body::put_head(out, at, line.number);
+                at = body::put_rest(out, behind, bytes, starts, hex, rules, &image[from..to]);
                 offset = line.next;
             }
             Step::End => {

@@ -10,7 +10,7 @@ use lib.ListN.{length, take, drop, replicate}
 use lib.Seq.{sets, sets-eq, length-sets, take-append-seam}
 use Rattle.ascii.specs.Bytes.{between}
 use Rattle.tables.specs.Spelling.{bytesOf}
-use Rattle.tables.specs.Texts.{hexByte, byteText, held}
+use Rattle.tables.specs.Texts.{hexByte, byteText, remarkText, held}
 use Rattle.tables.specs.declared.petscii.ByteText.{ByteText}
 
 short : (n : ℕ) (b : Bool) (x y : List ℕ) → length x ≤ n → length y ≤ n → length (cond b x y) ≤ n
@@ -26,19 +26,23 @@ byte-text-short b =
     (short 6 (eqb b 0x60) _ _ (omega arith)
     (short 6 (between 0xC1 0xDA b) _ _ (omega arith) (omega arith)))))
 
-module _ (b : ℕ) {t : ByteText} (e : t ≡ held (byteText b)) where
-  pub held-length : t .len ≡ length (byteText b)
-  held-length = ap (λ (x : ByteText). x .len) e
+pub remark-text-short : (b : ℕ) → length (remarkText b) ≤ 6
+unfolding remarkText
+remark-text-short b = short 6 (between 0x61 0x7A b) _ _ (omega arith) (byte-text-short b)
 
-  pub held-text : take (t .len) (t .bytes) ≡ byteText b
-  held-text =
-      let s = byteText b in
-      ap (λ (x : ByteText). take (x .len) (x .bytes)) e
-      ∙ ap (take (length s)) (sets-eq s (replicate 6 0) 0 (omega (arith, byte-text-short b)))
-      ∙ take-append-seam s (drop (0 + length s) (replicate 6 0))
+module _ (s : List ℕ) {t : ByteText} where
+  pub held-length : t ≡ held s → t .len ≡ length s
+  held-length e = ap (λ (x : ByteText). x .len) e
 
-  pub held-within : t .len ≤ length (t .bytes)
-  held-within = rw e (omega (arith, byte-text-short b, length-sets (replicate 6 0) 0 (byteText b)))
+  module _ (few : length s ≤ 6) (e : t ≡ held s) where
+    pub held-text : take (t .len) (t .bytes) ≡ s
+    held-text =
+        ap (λ (x : ByteText). take (x .len) (x .bytes)) e
+        ∙ ap (take (length s)) (sets-eq s (replicate 6 0) 0 (omega arith))
+        ∙ take-append-seam s (drop (0 + length s) (replicate 6 0))
 
-  pub held-long : t .len ≡ length (take (t .len) (t .bytes))
-  held-long = held-length ∙ ap length (sym held-text)
+    pub held-within : t .len ≤ length (t .bytes)
+    held-within = rw e (omega (arith, length-sets (replicate 6 0) 0 s))
+
+    pub held-long : t .len ≡ length (take (t .len) (t .bytes))
+    held-long = held-length e ∙ ap length (sym held-text)

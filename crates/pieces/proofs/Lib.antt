@@ -1,3 +1,5 @@
 pub mod Copying
 pub mod Held
-pub mod Showing
+pub mod Owed
+pub mod Short
+pub mod Spelling

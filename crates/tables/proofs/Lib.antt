@@ -1,3 +1,4 @@
+pub mod ByteTexts
 pub mod Lists
 pub mod Naming
 pub mod Sections

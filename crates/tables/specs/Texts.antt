@@ -42,6 +42,11 @@ byteText b =
     (cond (between 0xC1 0xDA b) ((b - 0x80) ∷ [])
     (bytesOf "{$" ++ (hexByte b ++ bytesOf "}"))))))
 
+-- a byte of a remark (document 02, No. 6): "lists 61 to 7A as themselves"
+unfoldable pub remarkText : ℕ → List ℕ
+unfolding byteText
+remarkText b = cond (between 0x61 0x7A b) (b ∷ []) (byteText b)
+
 -- a text of at most six bytes in an array of six
 abbrev pub held : List ℕ → ByteText
 held t = record { bytes = sets (replicate 6 0) 0 t; len = length t }

@@ -1,7 +1,7 @@
 // The text of one PETSCII byte.
 ghost use mathlib.Core.Path.{_≡_};
 ghost use mathlib.Core.List.{[], _∷_};
-ghost use Rattle.tables.specs.Texts.{hexDigits, byteText, held};
+ghost use Rattle.tables.specs.Texts.{hexDigits, byteText, remarkText, held};
 
 pub const HEX_DIGITS: [u8; 16] = *b"0123456789ABCDEF";
 
@@ -59,6 +59,17 @@ pub fn byte_text(b: u8, hex: &[u8; 16]) -> ByteText
         bytes: [0x7B, 0x24, high, low, 0x7D, 0],
         len: 5,
     }
+}
+
+// The text of a byte of a remark, with the digits lent: a small letter is itself.
+pub fn remark_text(b: u8, hex: &[u8; 16]) -> ByteText
+    requires { ⌜ now hex ≡ hexDigits ⌝ }
+    ensures { λ r. ⌜ r ≡ held (remarkText b) ⌝ }
+{
+    if ascii::between(0x61, 0x7A, b) {
+        return one(b);
+    }
+    byte_text(b, hex)
 }
 
 fn wide(b: u8) -> usize

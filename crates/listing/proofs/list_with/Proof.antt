@@ -1,45 +1,28 @@
 -- `listing::list_with` meets its contract: what is measured decides between the three cases.
 -- Assumes nothing.
-use denote.Ref.{now}
-use Rattle.listing.specs.Listing.{listing}
-use Rattle.lent.proofs.Outcomes.{told-outcome, has-room, into-refused, into-none}
+use Rattle.listing.proofs.Whole.{room-there, no-room, no-listing}
 use borrow.Author.Needs.{needs}
 use Rattle.listing.proofs.list_with.Statement.{statement}
 use Rattle.listing.proofs.list_with.Tie as tie
 
-measure-requires : tie.Need-measure-requires
-measure-requires c κs = c .before .before .before .before .pre
-
-enum-known-needed : tie.Need-enum-known-needed
-enum-known-needed c = search needs
-
 returns : tie.Need-returns
-returns c = into-none _ _ (told-outcome (c .before .before .needed .given .1) (c .before .before .before .before .measure .ensures)) (c .if1 .taken)
+returns c = search no-room
 
 write-requires : tie.Need-write-requires
-write-requires c κs = (c .before .before .before .before .before .before .before .before .before .before .pre .0, c .before .before .before .before .before .before .before .before .before .before .pre .1, has-room (now (c .before .before .before .before .before .before .before .before .before .before .args .out)) (listing (now (c .before .before .before .before .before .before .before .before .before .before .args .image))) (told-outcome (c .before .before .before .needed .given .1) (c .before .before .before .before .before .measure .ensures)) (c .before .if1 .left))
-
-enum-known-refusal : tie.Need-enum-known-refusal
-enum-known-refusal c = search needs
-
-same-length : tie.Need-same-length
-same-length c = search needs
-
-returns-2 : tie.Need-returns-2
-returns-2 c = c .before .before .write .ensures
+write-requires c κs = search room-there
 
 returns-3 : tie.Need-returns-3
-returns-3 c = into-refused _ _ (told-outcome (c .before .refusal .given .1) (c .before .before .before .measure .ensures))
+returns-3 c = search no-listing
 
 pub list-with-spec : {M : Type 1} → statement M
 list-with-spec =
     tie.close
     (tie.spec
-    measure-requires
-    enum-known-needed
+    (λ c κs. search needs)
+    (λ c. search needs)
     returns
     write-requires
-    enum-known-refusal
-    same-length
-    returns-2
+    (λ c. search needs)
+    (λ c. search needs)
+    (λ c. search needs)
     returns-3)

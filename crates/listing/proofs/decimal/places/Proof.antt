@@ -1,29 +1,31 @@
 -- `listing::decimal::places` meets its contract.
 -- Assumes nothing.
-use borrow.Author.Tests.{lt-ltb, le-ltb}
-use Rattle.listing.specs.Body.{places}
+use Rattle.listing.proofs.Digits.{places-one, places-two, places-three, places-four, places-five}
+use borrow.Author.Needs.{needs}
 use Rattle.listing.proofs.decimal.places.Statement.{statement}
 use Rattle.listing.proofs.decimal.places.Tie as tie
 
 returns : tie.Need-returns
-unfolding places
-returns c = simp (lt-ltb _ _ (c .if1 .taken))
+returns c = search places-one
 
 returns-2 : tie.Need-returns-2
-unfolding places
-returns-2 c = simp (le-ltb _ _ (c .before .if1 .left), lt-ltb _ _ (c .if2 .taken))
+returns-2 c = search places-two
 
 returns-3 : tie.Need-returns-3
-unfolding places
-returns-3 c = simp (le-ltb _ _ (c .before .before .if1 .left), le-ltb _ _ (c .before .if2 .left), lt-ltb _ _ (c .if3 .taken))
+returns-3 c = search places-three
 
 returns-4 : tie.Need-returns-4
-unfolding places
-returns-4 c = simp (le-ltb _ _ (c .before .before .before .if1 .left), le-ltb _ _ (c .before .before .if2 .left), le-ltb _ _ (c .before .if3 .left), lt-ltb _ _ (c .if4 .taken))
+returns-4 c = search places-four
 
 returns-5 : tie.Need-returns-5
-unfolding places
-returns-5 c = simp (le-ltb _ _ (c .before .before .before .if1 .left), le-ltb _ _ (c .before .before .if2 .left), le-ltb _ _ (c .before .if3 .left), le-ltb _ _ (c .if4 .left))
+returns-5 c = search places-five
 
 pub places-spec : {M : Type 1} → statement M
-places-spec = tie.close (tie.spec returns returns-2 returns-3 returns-4 returns-5)
+places-spec =
+    tie.close
+    (tie.spec
+    returns
+    returns-2
+    returns-3
+    returns-4
+    returns-5)

@@ -1,7 +1,6 @@
--- A piece is at most eight times as long as what it takes of the body: from the tables, by a test of each.
+-- No unit's text is longer than eight bytes: from the tables, by a test of each.
 -- Assumes nothing.
-use Prim.Native.Nat.{ℕ, zero, suc, _*_, _-_, _≤_}
-use mathlib.Core.Path.{_≡_, refl}
+use Prim.Native.Nat.{ℕ, zero, suc, _-_, _≤_}
 use mathlib.Core.Bool.{Bool, true, false, cond, _&&_}
 use mathlib.Core.List.{List, [], _∷_}
 use native.Mathlib.Omega.{arith}
@@ -10,10 +9,12 @@ use lib.ListN.{length, getD}
 use Rattle.words.specs.Find.{Entry}
 use Rattle.words.proofs.Search.{and-left, and-right}
 use Rattle.tables.specs.Rom.{romWords}
-use Rattle.tables.specs.Texts.{hexByte, byteText, tokenText}
+use Rattle.tables.specs.Texts.{hexByte, tokenText, textOf}
 use Rattle.tables.specs.Tsb.{tsbWords, withToken, tsbId, tsbText}
-use Rattle.pieces.specs.Pieces.{unknownPair, orUnknown, pairText, Shown, afterPrefix, shownPlain, shown}
-use Rattle.pieces.proofs.Held.{byte-text-short}
+use Rattle.units.specs.declared.Unit.{Unit}
+use Rattle.units.specs.declared.Unit.the-variants.{Char, Token, Pair, Lone, Remarked}
+use Rattle.pieces.specs.Pieces.{unknownPair, orUnknown, pairText, unitText}
+use Rattle.pieces.proofs.Held.{byte-text-short, remark-text-short}
 
 -- no word is longer than eight bytes
 shortWords : List (List ℕ) → Bool
@@ -55,6 +56,10 @@ token-short : (b : ℕ) → length (tokenText b) ≤ 8
 unfolding tokenText hexByte
 token-short b = either (ltb b 0xCC) _ _ (short-at romWords rom-short (b - 0x80)) (either (eqb b 0xFF) _ _ (omega arith) (omega arith))
 
+text-short : (b : ℕ) → length (textOf b) ≤ 8
+unfolding textOf
+text-short b = either (ltb b 0x80) _ _ (short-with tsbWords tsb-short b) (token-short b)
+
 pair-short : (b : ℕ) → length (pairText b) ≤ 8
 unfolding pairText tsbText unknownPair hexByte
 pair-short b = go (withToken (tsbId b) tsbWords) (short-with tsbWords tsb-short (tsbId b))
@@ -63,27 +68,10 @@ pair-short b = go (withToken (tsbId b) tsbWords) (short-with tsbWords tsb-short 
     go [] h = omega arith
     go (x ∷ t) h = h
 
--- what a piece of the body shows: it takes a byte or two of those that there are, and is short
-pub record Fine (more : ℕ) (s : Shown) : Type 0 where
-  pub some : 1 ≤ s .used
-  pub within : s .used ≤ suc more
-  pub short : length (s .text) ≤ 8 * s .used
-
-fine-either : (more : ℕ) (b : Bool) (x y : Shown) → Fine more x → Fine more y → Fine more (cond b x y)
-fine-either more true x y h k = h
-fine-either more false x y h k = k
-
-fine-prefix : (rest : List ℕ) → Fine (length rest) (afterPrefix rest)
-fine-prefix [] = record { some = omega arith; within = omega arith; short = omega arith }
-fine-prefix (b ∷ rest) = record { some = omega arith; within = omega arith; short = omega (arith, pair-short b) }
-
-pub fine : (quoted : Bool) (b : ℕ) (rest : List ℕ) → Fine (length rest) (shown quoted b rest)
-unfolding shown
-fine quoted b rest =
-    let char : length (byteText b) ≤ 6 = byte-text-short b in
-    let n = length rest in
-    fine-either n (eqb b 0x22) _ _ (record { some = omega arith; within = omega arith; short = omega arith })
-    (fine-either n quoted _ _ (record { some = omega arith; within = omega arith; short = omega arith })
-    (fine-either n (eqb b 0x64) _ _ (fine-prefix rest)
-    (fine-either n (leb 0x80 b) _ _ (record { some = omega arith; within = omega arith; short = omega (arith, token-short b) })
-    (record { some = omega arith; within = omega arith; short = omega arith }))))
+pub unit-short : (u : Unit) → length (unitText u) ≤ 8
+unfolding unitText
+unit-short (Char b) = omega (arith, byte-text-short b)
+unit-short (Token b) = text-short b
+unit-short (Pair b) = pair-short b
+unit-short Lone = omega arith
+unit-short (Remarked b) = omega (arith, remark-text-short b)
