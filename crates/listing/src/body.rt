@@ -6,7 +6,7 @@ ghost use mathlib.Core.Path.{_≡_};
 ghost use Prim.Native.Nat.{_≤_};
 ghost use lib.ListN.{length};
 ghost use Rattle.lent.specs.Stores.{Room, Put};
-ghost use Rattle.tables.specs.Texts.{SpellsTexts, hexDigits};
+ghost use Rattle.tables.specs.Texts.{SpellsTexts};
 ghost use Rattle.listing.specs.Body.{bodyListing};
 ghost use Rattle.listing.specs.LineHelpers.{headListing, restListing, LineLength};
 
@@ -14,11 +14,10 @@ ghost use Rattle.listing.specs.LineHelpers.{headListing, restListing, Li
 pub fn measure_body(
     bytes: &[u8],
     starts: &[u16],
-    hex: &[u8; 16],
     rules: Rules,
     body: &[u8],
 ) -> usize
-    requires { ⌜ SpellsTexts (now bytes) (now starts) × (now hex ≡ hexDigits) × (length (now body) ≤ 1048576) ⌝ }
+    requires { ⌜ SpellsTexts (now bytes) (now starts) × (length (now body) ≤ 1048576) ⌝ }
     ensures { λ r. ⌜ r ≡ length (bodyListing rules (now (body .entry))) ⌝ }
 {
     let mut i: usize = 0;
@@ -27,7 +26,7 @@ pub fn measure_body(
     while i < body.len() {
         let taken = units::unit_at(body, i, mode, rules);
         let unit = taken.unit;
-        n += pieces::unit_length(bytes, starts, hex, unit);
+        n += pieces::unit_length(bytes, starts, unit);
         i += taken.used;
         mode = taken.mode;
     }
@@ -40,11 +39,10 @@ pub fn put_body(
     at: usize,
     bytes: &[u8],
     starts: &[u16],
-    hex: &[u8; 16],
     rules: Rules,
     body: &[u8],
 ) -> usize
-    requires { ⌜ SpellsTexts (now bytes) (now starts) × (now hex ≡ hexDigits) × (length (now body) ≤ 1048576) × Room (now out) at (bodyListing rules (now body)) ⌝ }
+    requires { ⌜ SpellsTexts (now bytes) (now starts) × (length (now body) ≤ 1048576) × Room (now out) at (bodyListing rules (now body)) ⌝ }
     ensures { λ r. ⌜ Put (now (out .entry)) at (bodyListing rules (now (body .entry))) r (now (out .exit)) ⌝ }
 {
     let mut i: usize = 0;
@@ -53,7 +51,7 @@ pub fn put_body(
     while i < body.len() {
         let taken = units::unit_at(body, i, mode, rules);
         let unit = taken.unit;
-        to = pieces::put_unit(out, to, bytes, starts, hex, unit);
+        to = pieces::put_unit(out, to, bytes, starts, unit);
         i += taken.used;
         mode = taken.mode;
     }
@@ -64,15 +62,14 @@ pub fn put_body(
 pub fn measure_line(
     bytes: &[u8],
     starts: &[u16],
-    hex: &[u8; 16],
     rules: Rules,
     number: u16,
     body: &[u8],
 ) -> usize
-    requires { ⌜ SpellsTexts (now bytes) (now starts) × (now hex ≡ hexDigits) × (length (now body) ≤ 1048576) ⌝ }
+    requires { ⌜ SpellsTexts (now bytes) (now starts) × (length (now body) ≤ 1048576) ⌝ }
     ensures { λ r. ⌜ LineLength rules number (now (body .entry)) r ⌝ }
 {
-    decimal::places(number) + measure_body(bytes, starts, hex, rules, body) + 2
+    decimal::places(number) + measure_body(bytes, starts, rules, body) + 2
 }
 
 // Stores a line's number and the space from a place on, and answers the place behind them.
@@ -90,13 +87,12 @@ pub fn put_rest(
     at: usize,
     bytes: &[u8],
     starts: &[u16],
-    hex: &[u8; 16],
     rules: Rules,
     body: &[u8],
 ) -> usize
-    requires { ⌜ SpellsTexts (now bytes) (now starts) × (now hex ≡ hexDigits) × (length (now body) ≤ 1048576) × Room (now out) at (restListing rules (now body)) ⌝ }
+    requires { ⌜ SpellsTexts (now bytes) (now starts) × (length (now body) ≤ 1048576) × Room (now out) at (restListing rules (now body)) ⌝ }
     ensures { λ r. ⌜ Put (now (out .entry)) at (restListing rules (now (body .entry))) r (now (out .exit)) ⌝ }
 {
-    let to = put_body(out, at, bytes, starts, hex, rules, body);
+    let to = put_body(out, at, bytes, starts, rules, body);
     pieces::put(out, to, b"\n")
 }

@@ -3,12 +3,11 @@ use lent::Outcome;
 use readers::By;
 use readers::Step;
 use refusals::Refusal;
-use tables::petscii;
 use tables::texts;
 use units::Rules;
 ghost use mathlib.Core.Path.{_≡_};
 ghost use Rattle.lent.specs.Lent.{intoBuffer, roomFor, outcomeAnswer, left};
-ghost use Rattle.tables.specs.Texts.{SpellsTexts, hexDigits};
+ghost use Rattle.tables.specs.Texts.{SpellsTexts};
 ghost use Rattle.lent.specs.Stores.{HasRoom};
 ghost use Rattle.listing.specs.Listing.{listing, listingBy, originalRules};
 
@@ -23,7 +22,6 @@ pub fn list(image: &[u8], out: &mut [u8]) -> Outcome
         out,
         &texts::TEXT_BYTES,
         &texts::TEXT_STARTS,
-        &petscii::HEX_DIGITS,
         By::Terminators,
         original_rules(),
         image,
@@ -37,7 +35,6 @@ pub fn room(image: &[u8]) -> Outcome
     measure(
         &texts::TEXT_BYTES,
         &texts::TEXT_STARTS,
-        &petscii::HEX_DIGITS,
         By::Terminators,
         original_rules(),
         image,
@@ -59,20 +56,19 @@ fn list_with(
     out: &mut [u8],
     bytes: &[u8],
     starts: &[u16],
-    hex: &[u8; 16],
     by: By,
     rules: Rules,
     image: &[u8],
 ) -> Outcome
-    requires { ⌜ SpellsTexts (now bytes) (now starts) × (now hex ≡ hexDigits) ⌝ }
+    requires { ⌜ SpellsTexts (now bytes) (now starts) ⌝ }
     ensures { λ r. ⌜ left r (now (out .exit)) ≡ intoBuffer (listingBy by rules (now (image .entry))) (now (out .entry)) ⌝ }
 {
-    match measure(bytes, starts, hex, by, rules, image) {
+    match measure(bytes, starts, by, rules, image) {
         Outcome::Done(needed) => {
             if needed > out.len() {
                 return Outcome::Refused(Refusal::NoRoom { needed });
             }
-            Outcome::Done(write(out, bytes, starts, hex, by, rules, image))
+            Outcome::Done(write(out, bytes, starts, by, rules, image))
         }
         Outcome::Refused(refusal) => Outcome::Refused(refusal),
     }
@@ -81,12 +77,11 @@ fn list_with(
 fn measure(
     bytes: &[u8],
     starts: &[u16],
-    hex: &[u8; 16],
     by: By,
     rules: Rules,
     image: &[u8],
 ) -> Outcome
-    requires { ⌜ SpellsTexts (now bytes) (now starts) × (now hex ≡ hexDigits) ⌝ }
+    requires { ⌜ SpellsTexts (now bytes) (now starts) ⌝ }
     ensures { λ r. ⌜ outcomeAnswer r ≡ roomFor (listingBy by rules (now (image .entry))) ⌝ }
 {
     let mut offset: usize = 2;
@@ -96,7 +91,7 @@ fn measure(
             Step::Found(line) => {
                 let from = line.from;
                 let to = line.to;
-                n += body::measure_line(bytes, starts, hex, rules, line.number, &image[from..to]);
+                n += body::measure_line(bytes, starts, rules, line.number, &image[from..to]);
                 offset = line.next;
             }
             Step::End => {
@@ -114,12 +109,11 @@ fn write(
     out: &mut [u8],
     bytes: &[u8],
     starts: &[u16],
-    hex: &[u8; 16],
     by: By,
     rules: Rules,
     image: &[u8],
 ) -> usize
-    requires { ⌜ SpellsTexts (now bytes) (now starts) × (now hex ≡ hexDigits) × HasRoom (now out) (listingBy by rules (now image)) ⌝ }
+    requires { ⌜ SpellsTexts (now bytes) (now starts) × HasRoom (now out) (listingBy by rules (now image)) ⌝ }
     ensures { λ r. ⌜ left (Outcome.Done r) (now (out .exit)) ≡ intoBuffer (listingBy by rules (now (image .entry))) (now (out .entry)) ⌝ }
 {
     let mut offset: usize = 2;
@@ -130,7 +124,7 @@ fn write(
                 let from = line.from;
                 let to = line.to;
                 let behind = body::put_head(out, at, line.number);
-                at = body::put_rest(out, behind, bytes, starts, hex, rules, &image[from..to]);
+                at = body::put_rest(out, behind, bytes, starts, rules, &image[from..to]);
                 offset = line.next;
             }
             Step::End => {

@@ -1,20 +1,23 @@
 -- The texts of units, as the code makes them: each says that what was made is the unit's text, from what a `match` says of the unit and
 -- what the calls promise.
 -- Assumes nothing.
-use Prim.Native.Nat.{ℕ, _+_, _≤_, _<_}
+use Prim.Native.Nat.{ℕ, _/_, _%_, _≤_, _<_}
 use mathlib.Core.Path.{_≡_, refl, sym, ap, _∙_}
 use mathlib.Core.Bool.{Bool, true, _&&_}
-use mathlib.Core.List.{List, [], _∷_}
+use mathlib.Core.List.{List, [], _∷_, _++_}
 use native.Mathlib.Omega.{arith}
 use lib.Dec.{T, eqb, ltb, ltb→lt}
-use lib.ListN.{length, take}
+use lib.ListN.{length, getD, take}
+use mir.Syntax.{w8}
+use mir.Val.{Fits}
 use borrow.Author.Tests.{ne-eqb, lt-ltb}
 use Rattle.words.specs.Find.{Entry}
 use Rattle.words.proofs.Search.{and-left, and-right}
 use Rattle.lent.specs.Stores.{Room, Put}
 use Rattle.tables.specs.Spelling.{bytesOf}
-use Rattle.tables.specs.Texts.{byteText, hexByte, remarkText, textOf, held}
+use Rattle.tables.specs.Texts.{hexDigits, byteText, hexByte, remarkText, textOf, held}
 use Rattle.tables.specs.Tsb.{tsbWords, withToken, tsbId, tsbText}
+use Rattle.tables.proofs.ByteTexts.{hex-digits}
 use Rattle.tables.specs.declared.petscii.ByteText.{ByteText}
 use Rattle.units.specs.declared.Unit.{Unit}
 use Rattle.units.specs.declared.Unit.the-variants.{Char, Token, Pair, Lone, Remarked}
@@ -83,6 +86,11 @@ module _ {unit : Unit} where
   pub remarked-text : {b : ℕ} {t : ByteText} → unit ≡ Remarked b → t ≡ held (remarkText b) → take (t .len) (t .bytes) ≡ unitText unit
   unfolding unitText
   remarked-text {b} is e = rw is (held-text (remarkText b) (remark-text-short b) e)
+
+pub pair-digits : {b high low : ℕ} → Fits w8 b → high ≡ getD hexDigits (b / 16 % 16) 0 → low ≡ getD hexDigits (b % 16 % 16) 0
+    → 0x7B ∷ 0x36 ∷ 0x34 ∷ 0x7D ∷ 0x7B ∷ high ∷ low ∷ 0x7D ∷ [] ≡ unknownPair b
+unfolding unknownPair
+pair-digits small h l = ap (λ (digits : List ℕ). bytesOf "{64}{" ++ (digits ++ bytesOf "}")) (hex-digits small h l)
 
 -- ---- its length, its room, and that it was stored
 

@@ -6,17 +6,17 @@ ghost use mathlib.Core.Path.{_≡_};
 ghost use Prim.Native.Nat.{_+_};
 ghost use lib.ListN.{length};
 ghost use Rattle.lent.specs.Stores.{Room, Put};
-ghost use Rattle.tables.specs.Texts.{SpellsTexts, hexDigits};
+ghost use Rattle.tables.specs.Texts.{SpellsTexts};
 ghost use Rattle.tables.specs.Tsb.{tsbId, tsbText};
 ghost use Rattle.pieces.specs.Pieces.{unknownPair, unitText};
 
 // How long a unit's text is.
-pub fn unit_length(bytes: &[u8], starts: &[u16], hex: &[u8; 16], unit: Unit) -> usize
-    requires { ⌜ SpellsTexts (now bytes) (now starts) × (now hex ≡ hexDigits) ⌝ }
+pub fn unit_length(bytes: &[u8], starts: &[u16], unit: Unit) -> usize
+    requires { ⌜ SpellsTexts (now bytes) (now starts) ⌝ }
     ensures { λ r. ⌜ r ≡ length (unitText unit) ⌝ }
 {
     match unit {
-        Unit::Char(b) => petscii::byte_text(b, hex).len,
+        Unit::Char(b) => petscii::byte_to_string(b).len,
         Unit::Token(b) => texts::text_at(bytes, starts, b).len(),
         Unit::Pair(b) => {
             let n = tsb_word(bytes, starts, b).len();
@@ -26,7 +26,7 @@ pub fn unit_length(bytes: &[u8], starts: &[u16], hex: &[u8; 16], unit: Unit) -> 
             8
         }
         Unit::Lone => 4,
-        Unit::Remarked(b) => petscii::remark_text(b, hex).len,
+        Unit::Remarked(b) => petscii::remark_to_string(b).len,
     }
 }
 
@@ -36,15 +36,14 @@ pub fn put_unit(
     at: usize,
     bytes: &[u8],
     starts: &[u16],
-    hex: &[u8; 16],
     unit: Unit,
 ) -> usize
-    requires { ⌜ SpellsTexts (now bytes) (now starts) × (now hex ≡ hexDigits) × Room (now out) at (unitText unit) ⌝ }
+    requires { ⌜ SpellsTexts (now bytes) (now starts) × Room (now out) at (unitText unit) ⌝ }
     ensures { λ r. ⌜ Put (now (out .entry)) at (unitText unit) r (now (out .exit)) ⌝ }
 {
     match unit {
         Unit::Char(b) => {
-            let text = petscii::byte_text(b, hex);
+            let text = petscii::byte_to_string(b);
             let n = text.len;
             let held = text.bytes;
             put(out, at, &held[..n])
@@ -55,12 +54,12 @@ pub fn put_unit(
             if word.len() > 0 {
                 return put(out, at, word);
             }
-            let held = pair_digits(hex, b);
+            let held = pair_digits(b);
             put(out, at, &held)
         }
         Unit::Lone => put(out, at, b"{64}"),
         Unit::Remarked(b) => {
-            let text = petscii::remark_text(b, hex);
+            let text = petscii::remark_to_string(b);
             let n = text.len;
             let held = text.bytes;
             put(out, at, &held[..n])
@@ -104,11 +103,10 @@ fn tsb_id(b: u8) -> u8
     }
 }
 
-fn pair_digits(hex: &[u8; 16], b: u8) -> [u8; 8]
-    requires { ⌜ now hex ≡ hexDigits ⌝ }
+fn pair_digits(b: u8) -> [u8; 8]
     ensures { λ r. ⌜ r ≡ unknownPair b ⌝ }
 {
-    let high = hex[(b / 16) as usize];
-    let low = hex[(b % 16) as usize];
+    let high = petscii::hex_digit(b / 16);
+    let low = petscii::hex_digit(b % 16);
     [0x7B, 0x36, 0x34, 0x7D, 0x7B, high, low, 0x7D]
 }

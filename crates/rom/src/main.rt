@@ -30,7 +30,7 @@ fn token_of(bytes: &[u8], starts: &[u16], tokens: &[u8], text: &[u8]) -> u8
 }
 
 fn digit(n: u8) -> u8 {
-    petscii::HEX_DIGITS[(n % 16) as usize]
+    petscii::hex_digit(n)
 }
 
 fn print_row(k: u8) -> bool {

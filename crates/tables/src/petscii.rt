@@ -1,9 +1,9 @@
 // The text of one PETSCII byte.
 ghost use mathlib.Core.Path.{_≡_};
 ghost use mathlib.Core.List.{[], _∷_};
+ghost use Prim.Native.Nat.{_%_};
+ghost use lib.ListN.{getD};
 ghost use Rattle.tables.specs.Texts.{hexDigits, byteText, remarkText, held};
-
-pub const HEX_DIGITS: [u8; 16] = *b"0123456789ABCDEF";
 
 // A text of at most six bytes: the first len of them, and zeros behind.
 pub struct ByteText {
@@ -22,14 +22,6 @@ fn one(b: u8) -> ByteText
 
 // The text of a byte that is listed as a character.
 pub fn byte_to_string(b: u8) -> ByteText
-    ensures { λ r. ⌜ r ≡ held (byteText b) ⌝ }
-{
-    byte_text(b, &HEX_DIGITS)
-}
-
-// The same, with the digits lent.
-pub fn byte_text(b: u8, hex: &[u8; 16]) -> ByteText
-    requires { ⌜ now hex ≡ hexDigits ⌝ }
     ensures { λ r. ⌜ r ≡ held (byteText b) ⌝ }
 {
     if b == 0 {
@@ -53,27 +45,31 @@ pub fn byte_text(b: u8, hex: &[u8; 16]) -> ByteText
     if ascii::between(0xC1, 0xDA, b) {
         return one(b - 0x80);
     }
-    let high = hex[wide(b / 16)];
-    let low = hex[wide(b % 16)];
+    let high = hex_digit(b / 16);
+    let low = hex_digit(b % 16);
     ByteText {
         bytes: [0x7B, 0x24, high, low, 0x7D, 0],
         len: 5,
     }
 }
 
-// The text of a byte of a remark, with the digits lent: a small letter is itself.
-pub fn remark_text(b: u8, hex: &[u8; 16]) -> ByteText
-    requires { ⌜ now hex ≡ hexDigits ⌝ }
+// The text of a byte of a remark: a small letter is itself.
+pub fn remark_to_string(b: u8) -> ByteText
     ensures { λ r. ⌜ r ≡ held (remarkText b) ⌝ }
 {
     if ascii::between(0x61, 0x7A, b) {
         return one(b);
     }
-    byte_text(b, hex)
+    byte_to_string(b)
 }
 
-fn wide(b: u8) -> usize
-    ensures { λ r. ⌜ r ≡ b ⌝ }
+// The hex digit of a value below 16; any other value is taken as its last digit.
+pub fn hex_digit(value: u8) -> u8
+    ensures { λ r. ⌜ r ≡ getD hexDigits (value % 16) 0 ⌝ }
 {
-    b as usize
+    let digit = value % 16;
+    if digit < 10 {
+        return 0x30 + digit;
+    }
+    0x41 + (digit - 10)
 }

@@ -1,7 +1,5 @@
 -- `listing::list` meets its contract: the constants that it lends are the tables.
 -- Assumes nothing.
-use mathlib.Core.Path.{refl}
-use Rattle.tables.specs.Texts.{hexDigits}
 use Rattle.tables.proofs.TextTable.{texts-right, rightBelow}
 use Rattle.listing.proofs.Whole.{original-listing}
 use borrow.Author.Needs.{needs}
@@ -9,8 +7,8 @@ use Rattle.listing.proofs.list.Statement.{statement}
 use Rattle.listing.proofs.list.Tie as tie
 
 list-with-requires : tie.Need-list-with-requires
-unfolding rightBelow hexDigits
-list-with-requires c κs = (texts-right _ _ tt, refl)
+unfolding rightBelow
+list-with-requires c κs = texts-right _ _ tt
 
 returns : tie.Need-returns
 returns c = search original-listing

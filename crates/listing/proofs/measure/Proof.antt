@@ -9,10 +9,10 @@ use Rattle.listing.proofs.measure.Statement.{statement}
 use Rattle.listing.proofs.measure.Tie as tie
 
 abbrev Inv-loop : tie.InvT-loop
-Inv-loop bytes starts hex by rules image offset₀ n₀ offset n = LinesCounted by rules image offset n
+Inv-loop bytes starts by rules image offset₀ n₀ offset n = LinesCounted by rules image offset n
 
 abbrev μ-loop : tie.MeasureT-loop
-μ-loop bytes starts hex by rules image offset₀ n₀ offset n = length image - offset
+μ-loop bytes starts by rules image offset₀ n₀ offset n = length image - offset
 
 loop-holds : tie.Need-loop-holds Inv-loop μ-loop
 loop-holds c = search counted-start

@@ -1,7 +1,5 @@
 -- `listing::room` meets its contract: the constants that it lends are the tables.
 -- Assumes nothing.
-use mathlib.Core.Path.{refl}
-use Rattle.tables.specs.Texts.{hexDigits}
 use Rattle.tables.proofs.TextTable.{texts-right, rightBelow}
 use Rattle.listing.proofs.Whole.{original-room}
 use borrow.Author.Needs.{needs}
@@ -9,8 +7,8 @@ use Rattle.listing.proofs.room.Statement.{statement}
 use Rattle.listing.proofs.room.Tie as tie
 
 measure-requires : tie.Need-measure-requires
-unfolding rightBelow hexDigits
-measure-requires c κs = (texts-right _ _ tt, refl)
+unfolding rightBelow
+measure-requires c κs = texts-right _ _ tt
 
 returns : tie.Need-returns
 returns c = search original-room

@@ -9,10 +9,10 @@ use Rattle.listing.proofs.write.Statement.{statement}
 use Rattle.listing.proofs.write.Tie as tie
 
 abbrev Inv-loop : tie.InvT-loop
-Inv-loop out₀ bytes starts hex by rules image offset₀ at₀ out offset at = LinesWritten by rules image out₀ offset out at
+Inv-loop out₀ bytes starts by rules image offset₀ at₀ out offset at = LinesWritten by rules image out₀ offset out at
 
 abbrev μ-loop : tie.MeasureT-loop
-μ-loop out₀ bytes starts hex by rules image offset₀ at₀ out offset at = length image - offset
+μ-loop out₀ bytes starts by rules image offset₀ at₀ out offset at = length image - offset
 
 loop-holds : tie.Need-loop-holds Inv-loop μ-loop
 loop-holds c = search written-start

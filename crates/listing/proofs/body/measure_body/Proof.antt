@@ -9,10 +9,10 @@ use Rattle.listing.proofs.body.measure_body.Statement.{statement}
 use Rattle.listing.proofs.body.measure_body.Tie as tie
 
 abbrev Inv-loop : tie.InvT-loop
-Inv-loop bytes starts hex rules body i₀ n₀ mode₀ i n mode = BodyCounted rules body i mode n
+Inv-loop bytes starts rules body i₀ n₀ mode₀ i n mode = BodyCounted rules body i mode n
 
 abbrev μ-loop : tie.MeasureT-loop
-μ-loop bytes starts hex rules body i₀ n₀ mode₀ i n mode = length body - i
+μ-loop bytes starts rules body i₀ n₀ mode₀ i n mode = length body - i
 
 loop-holds : tie.Need-loop-holds Inv-loop μ-loop
 loop-holds c = search counted-start

@@ -9,10 +9,10 @@ use Rattle.listing.proofs.body.put_body.Statement.{statement}
 use Rattle.listing.proofs.body.put_body.Tie as tie
 
 abbrev Inv-loop : tie.InvT-loop
-Inv-loop out₀ at bytes starts hex rules body i₀ to₀ mode₀ out i to mode = BodyWritten rules body out₀ at out i mode to
+Inv-loop out₀ at bytes starts rules body i₀ to₀ mode₀ out i to mode = BodyWritten rules body out₀ at out i mode to
 
 abbrev μ-loop : tie.MeasureT-loop
-μ-loop out₀ at bytes starts hex rules body i₀ to₀ mode₀ out i to mode = length body - i
+μ-loop out₀ at bytes starts rules body i₀ to₀ mode₀ out i to mode = length body - i
 
 loop-holds : tie.Need-loop-holds Inv-loop μ-loop
 loop-holds c = search written-start
