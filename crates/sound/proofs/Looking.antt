@@ -191,4 +191,4 @@ module _ (d : List ℕ) {log : List ℕ} {t : Traced} {after : List ℕ} (e : le
     seen-listed = rw seen-directory at (listed-start y (omega (arith, y .counts, seen-in)))
 
     pub seen-all : {v : Bool} → v ≡ sound d → Looks d (record { sectors = t .to; files = f; sound = v }) after after′
-    seen-all v = record { verdict = v; few = seen-few; sectors = seen-directory; many = omega (arith, seen-in); files = seen-listed }
+    seen-all v = record { verdict = v; few = seen-few; sectors = seen-directory; many = omega (arith, seen-in); counts = rw seen-directory at (y .counts); files = seen-listed }

@@ -14,4 +14,5 @@ pub record Looks (d : List ℕ) (r : Seen) (sectorList fileList : List ℕ) : Ty
   pub few : r .sectors ≤ 18
   pub sectors : take (r .sectors) sectorList ≡ directory d .sectors
   pub many : r .files ≤ 144
+  pub counts : r .files ≡ length (listed d)
   pub files : take (r .files) fileList ≡ listed d
