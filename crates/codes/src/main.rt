@@ -1,7 +1,6 @@
 // Prints what the library gives, for the checks in facts/: the code of each escape that standard input names, a name to a line; then, for each
 // of the 256 bytes, the listing of a line that holds the byte alone, and of one that holds a quote and the byte.
 use escapes::Escape;
-use input::Input;
 use lent::Outcome;
 use libc::STDIN_FILENO;
 use libc::STDOUT_FILENO;
@@ -68,12 +67,7 @@ fn print_listings() {
 
 fn main() {
     let mut names = [0u8; 4096];
-    match input::read_input(STDIN_FILENO, &mut names) {
-        Input::All(count) => print_escapes(&names[0..count]),
-        Input::Longer => {
-            io::write_all(STDOUT_FILENO, b"the names are more than 4,096 bytes\n");
-        }
-        Input::Failed => os::fail(b"standard input"),
-    }
+    let count = io::read_full(STDIN_FILENO, &mut names);
+    print_escapes(&names[0..count]);
     print_listings();
 }
