@@ -1,4 +1,4 @@
--- The digits of a number: the equations of `decimal`, and the last of five.
+-- The digits of a line number: how many they are, and the last of five.
 -- Assumes nothing.
 use Prim.Native.Nat.{ℕ, zero, suc, _+_, _-_, _/_, _%_, _≤_, _<_}
 use mathlib.Core.Path.{_≡_, refl, sym, ap, _∙_}
@@ -11,26 +11,10 @@ use mir.Syntax.{w16}
 use mir.Val.{Fits}
 use lib.ListN.{length, take, drop, length-append, length-drop}
 use lib.Seq.{take-all}
-use borrow.Author.Tests.{lt-ltb, le-ltb, ltb-false, ltb-true}
-use Rattle.steps.proofs.Nearer.{Nearer, again-on, by-nearer}
-use Rattle.listing.specs.Decimal.{digitsBy, digitsOn, decimal}
-
-nearer : Nearer (λ (n : ℕ). n) digitsOn
-nearer n f g alike = go (ltb n 10) refl
-  where
-    go : (b : Bool) → ltb n 10 ≡ b → digitsBy b f n ≡ digitsBy b g n
-    go true e = refl
-    go false e = ap (λ (ds : List ℕ). ds ++ ((48 + n % 10) ∷ [])) (alike (n / 10) (omega (arith, ltb-false n 10 e)))
-
-decimal-on : (n : ℕ) → decimal n ≡ digitsOn decimal n
-unfolding decimal
-decimal-on n = again-on nearer [] suc (λ m. omega arith) n
-
-pub decimal-digit : (n : ℕ) → n < 10 → decimal n ≡ (48 + n) ∷ []
-decimal-digit n h = decimal-on n ∙ ap (λ (b : Bool). digitsBy b decimal n) (lt-ltb n 10 h)
-
-pub decimal-more : (n : ℕ) → 10 ≤ n → decimal n ≡ decimal (n / 10) ++ ((48 + n % 10) ∷ [])
-decimal-more n h = decimal-on n ∙ ap (λ (b : Bool). digitsBy b decimal n) (le-ltb n 10 h)
+use borrow.Author.Tests.{ltb-false, ltb-true}
+use Rattle.steps.proofs.Nearer.{by-nearer}
+use Rattle.decimals.specs.Decimal.{decimal}
+use Rattle.decimals.proofs.Digits.{decimal-digit, decimal-more}
 
 -- ---- how many
 

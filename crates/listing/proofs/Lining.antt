@@ -11,7 +11,7 @@ use Rattle.lent.specs.Stores.{Room, Put}
 use Rattle.lent.proofs.Storing.{room-first, room-second, put-both}
 use Rattle.units.specs.declared.Rules.{Rules}
 use Rattle.listing.specs.Body.{bodyListing, lineListing}
-use Rattle.listing.specs.Decimal.{decimal}
+use Rattle.decimals.specs.Decimal.{decimal}
 use Rattle.listing.specs.LineHelpers.{headListing, restListing, LineLength}
 use Rattle.listing.proofs.Digits.{places-most}
 use Rattle.listing.proofs.Progress.{body-short}

@@ -6,7 +6,7 @@ use mathlib.Core.List.{List, [], _∷_, _++_}
 use Rattle.units.specs.declared.Rules.{Rules}
 use Rattle.units.specs.Units.{unitsFrom, unitsOf}
 use Rattle.pieces.specs.Pieces.{spelt}
-use Rattle.listing.specs.Decimal.{decimal}
+use Rattle.decimals.specs.Decimal.{decimal}
 
 unfoldable pub bodyListing : Rules → List ℕ → List ℕ
 unfolding unitsFrom spelt

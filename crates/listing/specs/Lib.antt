@@ -1,4 +1,3 @@
 pub mod Body
-pub mod Decimal
 pub mod LineHelpers
 pub mod Listing

@@ -6,7 +6,7 @@ use mathlib.Core.List.{List, [], _∷_, _++_}
 use lib.ListN.{length}
 use Rattle.units.specs.declared.Rules.{Rules}
 use Rattle.listing.specs.Body.{bodyListing, lineListing}
-use Rattle.listing.specs.Decimal.{decimal}
+use Rattle.decimals.specs.Decimal.{decimal}
 
 -- the number and the space
 unfoldable pub headListing : ℕ → List ℕ

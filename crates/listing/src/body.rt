@@ -11,12 +11,7 @@ ghost use Rattle.listing.specs.Body.{bodyListing};
 ghost use Rattle.listing.specs.LineHelpers.{headListing, restListing, LineLength};
 
 // How long the listing of a body is.
-pub fn measure_body(
-    bytes: &[u8],
-    starts: &[u16],
-    rules: Rules,
-    body: &[u8],
-) -> usize
+pub fn measure_body(bytes: &[u8], starts: &[u16], rules: Rules, body: &[u8]) -> usize
     requires { ⌜ SpellsTexts (now bytes) (now starts) × (length (now body) ≤ 1048576) ⌝ }
     ensures { λ r. ⌜ r ≡ length (bodyListing rules (now (body .entry))) ⌝ }
 {
@@ -59,13 +54,7 @@ pub fn put_body(
 }
 
 // How long the listing of a line is.
-pub fn measure_line(
-    bytes: &[u8],
-    starts: &[u16],
-    rules: Rules,
-    number: u16,
-    body: &[u8],
-) -> usize
+pub fn measure_line(bytes: &[u8], starts: &[u16], rules: Rules, number: u16, body: &[u8]) -> usize
     requires { ⌜ SpellsTexts (now bytes) (now starts) × (length (now body) ≤ 1048576) ⌝ }
     ensures { λ r. ⌜ LineLength rules number (now (body .entry)) r ⌝ }
 {

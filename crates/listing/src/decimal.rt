@@ -3,7 +3,7 @@ ghost use mathlib.Core.Path.{_≡_};
 ghost use Prim.Native.Nat.{_+_, _/_, _%_, _<_};
 ghost use lib.ListN.{length};
 ghost use Rattle.lent.specs.Stores.{Room, Put};
-ghost use Rattle.listing.specs.Decimal.{decimal};
+ghost use Rattle.decimals.specs.Decimal.{decimal};
 
 // How many digits a number takes.
 pub fn places(n: u16) -> usize

@@ -74,13 +74,7 @@ fn list_with(
     }
 }
 
-fn measure(
-    bytes: &[u8],
-    starts: &[u16],
-    by: By,
-    rules: Rules,
-    image: &[u8],
-) -> Outcome
+fn measure(bytes: &[u8], starts: &[u16], by: By, rules: Rules, image: &[u8]) -> Outcome
     requires { ⌜ SpellsTexts (now bytes) (now starts) ⌝ }
     ensures { λ r. ⌜ outcomeAnswer r ≡ roomFor (listingBy by rules (now (image .entry))) ⌝ }
 {
@@ -105,14 +99,7 @@ fn measure(
 }
 
 // Stores the listing of an image that has one, in a buffer that has the room.
-fn write(
-    out: &mut [u8],
-    bytes: &[u8],
-    starts: &[u16],
-    by: By,
-    rules: Rules,
-    image: &[u8],
-) -> usize
+fn write(out: &mut [u8], bytes: &[u8], starts: &[u16], by: By, rules: Rules, image: &[u8]) -> usize
     requires { ⌜ SpellsTexts (now bytes) (now starts) × HasRoom (now out) (listingBy by rules (now image)) ⌝ }
     ensures { λ r. ⌜ left (Outcome.Done r) (now (out .exit)) ≡ intoBuffer (listingBy by rules (now (image .entry))) (now (out .entry)) ⌝ }
 {

@@ -31,13 +31,7 @@ pub fn unit_length(bytes: &[u8], starts: &[u16], unit: Unit) -> usize
 }
 
 // Stores a unit's text from a place on, and answers the place behind it.
-pub fn put_unit(
-    out: &mut [u8],
-    at: usize,
-    bytes: &[u8],
-    starts: &[u16],
-    unit: Unit,
-) -> usize
+pub fn put_unit(out: &mut [u8], at: usize, bytes: &[u8], starts: &[u16], unit: Unit) -> usize
     requires { ⌜ SpellsTexts (now bytes) (now starts) × Room (now out) at (unitText unit) ⌝ }
     ensures { λ r. ⌜ Put (now (out .entry)) at (unitText unit) r (now (out .exit)) ⌝ }
 {

@@ -1,5 +1,5 @@
--- A line number in decimal (document 01, "Reading and listing": "A listed line is the number, a space, the body, LF"). Right for every
--- number; `decimal-digit` and `decimal-more` (proofs/Digits.antt) are the equations without the count.
+-- A number in decimal (document 01, "Reading and listing": "A listed line is the number, a space, the body, LF"; the programs write "a refusal
+-- as its decimal number"). Right for every number; `decimal-digit` and `decimal-more` (proofs/Digits.antt) are the equations without the count.
 -- Assumes nothing.
 use Prim.Native.Nat.{ℕ, suc, _+_, _/_, _%_}
 use mathlib.Core.Bool.{Bool, true, false}

@@ -1,0 +1,1 @@
+// Laws alone: a number in decimal.
