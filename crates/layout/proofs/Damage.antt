@@ -92,11 +92,11 @@ pub places-kept : (a p : ℕ) (before : List NumberedBody) (l m : NumberedBody) 
 unfolding linesAt
 places-kept a p [] l m after long =
     ap
-    (λ (n : ℕ). record { link = a + 5 + n; number = 0; from = p + 4; to = p + 4 + n; next = p + 5 + n } ∷ map placeOf (linesAt (a + 5 + n) (p + 5 + n) after))
+    (λ (n : ℕ). record { address = a; link = a + 5 + n; number = 0; from = p + 4; to = p + 4 + n; next = p + 5 + n } ∷ map placeOf (linesAt (a + 5 + n) (p + 5 + n) after))
     long
 places-kept a p (b ∷ before) l m after long =
     let link = linkOf a (b .body) in
-    ap (λ (xs : List Line). placeOf (placedLine link p b) ∷ xs) (places-kept link (p + 5 + length (b .body)) before l m after long)
+    ap (λ (xs : List Line). placeOf (placedLine a link p b) ∷ xs) (places-kept link (p + 5 + length (b .body)) before l m after long)
 
 module _ (load : ℕ) (before : List NumberedBody) (l m : NumberedBody) (after : List NumberedBody) (long : length (m .body) ≡ length (l .body)) where
   link-kept : linkBehind load before m ≡ linkBehind load before l

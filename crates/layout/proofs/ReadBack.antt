@@ -9,7 +9,7 @@ use native.Mathlib.Omega.{arith}
 use lib.ListN.{length}
 use Rattle.refusals.specs.Answer.{done, mapDone}
 use Rattle.readers.specs.NumberedBody.{NumberedBody}
-use Rattle.readers.specs.Image.{lowFirstAt, line, end}
+use Rattle.readers.specs.Image.{lowFirstAt, addressAt, line, end}
 use Rattle.readers.specs.Lines.{Reader, linesFrom, overviewOf}
 use Rattle.readers.specs.Bodies.{numberedBody, bodiesFrom}
 use Rattle.readers.specs.Links.{linkStep}
@@ -20,8 +20,8 @@ use Rattle.readers.proofs.ByTerminators.{terminator-sound}
 use Rattle.readers.proofs.Reading.{overview-bodies}
 use Rattle.layout.specs.Each.{Each}
 use Rattle.layout.specs.Layout.{linkOf, lineBytes, linesBytes, imageOf, endAddress, Fits, Laid}
-use Rattle.layout.specs.Reads.{placedLine, linesAt, ReadAs, NoZero, NoZeros}
-use Rattle.layout.proofs.Laying.{image-length, end-above, first-fits}
+use Rattle.layout.specs.Reads.{placedLine, linesAt, LinksLead, ReadAs, NoZero, NoZeros}
+use Rattle.layout.proofs.Laying.{image-length, lines-length, end-above, first-fits}
 use Rattle.layout.proofs.Standing.{Holds, Stands, stands-next, body-read, end-by-links, end-by-terminators, found-by-links, found-by-terminators}
 
 -- the offset p is that of the address a
@@ -48,14 +48,14 @@ bodies-at s (l ∷ ls) a p h =
     let b = linkOf a (l .body) in
     let q = p + 5 + length (l .body) in
     let k = first-stands a l ls h in
-    ap (λ (x : NumberedBody). x ∷ map (numberedBody s) (linesAt b q ls)) (body-read k)
+    ap (λ (x : NumberedBody). x ∷ map (numberedBody s) (linesAt b q ls)) (body-read k a)
     ∙ ap (λ (xs : List NumberedBody). l ∷ xs) (bodies-at s ls b q (stands-next k))
 
 -- a step that finds each line where it stands, if Q holds of it, and the end
 record Finds (step : Reader) (s : List ℕ) (load : ℕ) (Q : NumberedBody → Type 0) : Type 0 where
   sound : Sound step
   finds-line : {a p : ℕ} {l : NumberedBody} {rest : List ℕ} → Meets load a p → Stands s p (linkOf a (l .body)) l rest → linkOf a (l .body) ≤ 0xFFFF → Q l
-      → step s p ≡ done (line (placedLine (linkOf a (l .body)) p l))
+      → step s p ≡ done (line (placedLine a (linkOf a (l .body)) p l))
   finds-end : {p : ℕ} → Holds s p (0 ∷ 0 ∷ []) → step s p ≡ done end
 
 module _ {step : Reader} {s : List ℕ} {load : ℕ} {Q : NumberedBody → Type 0} (finds : Finds step s load Q) where
@@ -66,7 +66,7 @@ module _ {step : Reader} {s : List ℕ} {load : ℕ} {Q : NumberedBody → Type 
       let b = linkOf a (l .body) in
       let k = first-stands a l ls h in
       lines-line (finds .sound) s p (finds .finds-line m k (first-fits a l ls f) (q .0))
-      ∙ ap (mapDone (λ xs. placedLine b p l ∷ xs)) (places-from ls b (p + 5 + length (l .body)) (omega arith) (stands-next k) f (q .1))
+      ∙ ap (mapDone (λ xs. placedLine a b p l ∷ xs)) (places-from ls b (p + 5 + length (l .body)) (omega arith) (stands-next k) f (q .1))
 
   -- an image whose load address and lines are these is read as they are
   reads : {ls : List NumberedBody} → lowFirstAt s 0 ≡ load → Lined s 2 load ls → Fits load ls → Each Q ls → ReadAs step load ls s
@@ -84,13 +84,16 @@ both : {A : Type 0} (P Q : A → Type 0) (xs : List A) → Each P xs → Each Q 
 both P Q [] p q = tt
 both P Q (x ∷ xs) p q = ((p .0, q .0), both P Q xs (p .1) (q .1))
 
+load-is : {load : ℕ} {ls : List NumberedBody} → Laid load ls → lowFirstAt (imageOf load ls) 0 ≡ load
+unfolding imageOf
+load-is {load} {ls} laid = omega (arith, end-above load ls, laid .fits)
+
 module _ {load : ℕ} {ls : List NumberedBody} (up : 0x0100 ≤ load) (laid : Laid load ls) where
   image-long : length (imageOf load ls) ≤ 1048576
   image-long = omega (arith, image-length load ls, laid .fits)
 
   load-there : lowFirstAt (imageOf load ls) 0 ≡ load
-  unfolding imageOf
-  load-there = omega (arith, end-above load ls, laid .fits)
+  load-there = load-is laid
 
   lines-there : Lined (imageOf load ls) 2 load ls
   unfolding imageOf
@@ -103,7 +106,7 @@ module _ {load : ℕ} {ls : List NumberedBody} (up : 0x0100 ≤ load) (laid : La
       finds : Finds linkStep (imageOf load ls) load (λ l. l .number ≤ 65535)
       finds = record {
         sound = link-sound;
-        finds-line = λ m k f q. found-by-links k image-long (omega (arith, m)) f q (omega (arith, m, load-there));
+        finds-line = λ m k f q. found-by-links k image-long (omega (arith, m)) f q (omega (arith, m, load-there)) (omega (arith, m, load-there));
         finds-end = λ h. end-by-links image-long h;
       }
 
@@ -115,6 +118,19 @@ module _ {load : ℕ} {ls : List NumberedBody} (up : 0x0100 ≤ load) (laid : La
       finds : Finds terminatorStep (imageOf load ls) load (λ l. (l .number ≤ 65535) × NoZero (l .body))
       finds = record {
         sound = terminator-sound;
-        finds-line = λ m k f q. found-by-terminators k image-long (omega (arith, m)) f (q .0) (q .1);
+        finds-line = λ m k f q. found-by-terminators k image-long (omega (arith, m)) f (q .0) (omega (arith, m, load-there)) (q .1);
         finds-end = λ h. end-by-terminators image-long h;
       }
+
+-- ---- where the links lead
+
+-- each link is the next line's address, and the last the address behind the lines
+pub links-lead : (ls : List NumberedBody) (a p : ℕ) → LinksLead (linesAt a p ls) (endAddress a ls)
+unfolding linesAt endAddress
+links-lead [] a p = tt
+links-lead (l ∷ []) a p = refl
+links-lead (l ∷ m ∷ ls) a p = (refl, links-lead (m ∷ ls) (linkOf a (l .body)) (p + 5 + length (l .body)))
+
+-- that is the address of the end marker
+pub end-marker : {load : ℕ} {ls : List NumberedBody} → Laid load ls → addressAt (imageOf load ls) (2 + length (linesBytes load ls)) ≡ endAddress load ls
+end-marker {load} {ls} laid = omega (arith, load-is laid, lines-length load ls)

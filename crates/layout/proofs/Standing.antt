@@ -9,7 +9,7 @@ use borrow.Author.Tests.{ne-eqb}
 use lib.Seq.{getD-drop, drop-drop, getD-append-seam, take-append-seam, drop-append-seam}
 use Rattle.refusals.specs.Answer.{done}
 use Rattle.readers.specs.NumberedBody.{NumberedBody}
-use Rattle.readers.specs.Image.{lowFirstAt, lineAt, line, end}
+use Rattle.readers.specs.Image.{lowFirstAt, addressAt, lineAt, line, end}
 use Rattle.readers.specs.Bodies.{numberedBody}
 use Rattle.readers.specs.Links.{linkStep}
 use Rattle.readers.specs.Terminators.{beforeZero, bodyEnd, terminatorStep}
@@ -90,28 +90,28 @@ module _ {s : List ℕ} {p link : ℕ} {l : NumberedBody} {rest : List ℕ} (k :
       ∙ ap (λ (b : List ℕ). getD b (length (l .body)) 0) body-there
       ∙ getD-append-seam (l .body) 0 rest 0
 
-  pub body-read : numberedBody s (placedLine link p l) ≡ l
-  body-read =
+  pub body-read : (a : ℕ) → numberedBody s (placedLine a link p l) ≡ l
+  body-read a =
       let e : p + 4 + length (l .body) - (p + 4) ≡ length (l .body) = omega arith in
       let b : take (p + 4 + length (l .body) - (p + 4)) (drop (p + 4) s) ≡ l .body = rw (e, body-there) (take-append-seam (l .body) (0 ∷ rest)) in
       ap (λ (x : List ℕ). record { number = l .number; body = x }) b
 
-  module _ (long : length s ≤ 1048576) (up : 0x0100 ≤ link) (fits : link ≤ 0xFFFF) (number : l .number ≤ 65535) where
-    at-place : {to next : ℕ} → to ≡ p + 4 + length (l .body) → next ≡ p + 5 + length (l .body) → lineAt s p to next ≡ placedLine link p l
-    at-place t n = rw (link-there fits, number-there number, t, n)
+  module _ (long : length s ≤ 1048576) (up : 0x0100 ≤ link) (fits : link ≤ 0xFFFF) (number : l .number ≤ 65535) {a : ℕ} (here : a ≡ addressAt s p) where
+    at-place : {to next : ℕ} → to ≡ p + 4 + length (l .body) → next ≡ p + 5 + length (l .body) → lineAt s p to next ≡ placedLine a link p l
+    at-place t n = rw (here, link-there fits, number-there number, t, n)
 
     no-end : getD s (p + 1) 0 ≡ 0 → ⊥
     no-end z = omega (arith, high-byte)
 
     -- by links, where the link leads behind the line
-    pub found-by-links : link + 2 ≡ lowFirstAt s 0 + (p + 5 + length (l .body)) → linkStep s p ≡ done (line (placedLine link p l))
+    pub found-by-links : link + 2 ≡ lowFirstAt s 0 + (p + 5 + length (l .body)) → linkStep s p ≡ done (line (placedLine a link p l))
     found-by-links leads =
         let t = p + 5 + length (l .body) in
         let z : getD s (t - 1) 0 ≡ 0 = rw (let e : t - 1 ≡ p + 4 + length (l .body) = omega arith in e) zero-there in
         sym (link-line s p long (omega (arith, long-as)) (omega (arith, long-as)) no-end (omega arith) (omega (arith, long-as)) z (omega (arith, link-there fits)) (sym (at-place (omega arith) refl)))
 
     -- by terminators, where no byte of the body is 00
-    pub found-by-terminators : NoZero (l .body) → terminatorStep s p ≡ done (line (placedLine link p l))
+    pub found-by-terminators : NoZero (l .body) → terminatorStep s p ≡ done (line (placedLine a link p l))
     found-by-terminators none =
         let e : bodyEnd s p ≡ p + 4 + length (l .body) = ap (λ (b : List ℕ). p + 4 + beforeZero b) body-there ∙ ap (λ (n : ℕ). p + 4 + n) (before-zero (l .body) rest none) in
         sym (terminator-line s p long (omega (arith, long-as)) (omega (arith, long-as)) (omega (arith, long-as)) no-end (omega (arith, long-as)) (sym (at-place e (omega (arith, long-as, e)))))

@@ -12,10 +12,11 @@ use Rattle.readers.specs.Bodies.{bodiesOf}
 use Rattle.layout.specs.Each.{Each}
 use Rattle.layout.specs.Layout.{linkOf}
 
--- the line at an offset, with a link
-abbrev pub placedLine : ℕ → ℕ → NumberedBody → Line
-placedLine link p l =
+-- the line at an address and an offset, with a link
+abbrev pub placedLine : ℕ → ℕ → ℕ → NumberedBody → Line
+placedLine address link p l =
     record {
+      address = address;
       link = link;
       number = l .number;
       from = p + 4;
@@ -26,11 +27,17 @@ placedLine link p l =
 -- lines one behind the other, the first at an address and at an offset
 unfoldable pub linesAt : ℕ → ℕ → List NumberedBody → List Line
 linesAt address p [] = []
-linesAt address p (l ∷ ls) = placedLine (linkOf address (l .body)) p l ∷ linesAt (linkOf address (l .body)) (p + 5 + length (l .body)) ls
+linesAt address p (l ∷ ls) = placedLine address (linkOf address (l .body)) p l ∷ linesAt (linkOf address (l .body)) (p + 5 + length (l .body)) ls
 
 -- a line's link and place, whatever its number
 abbrev pub placeOf : Line → Line
-placeOf l = record { link = l .link; number = 0; from = l .from; to = l .to; next = l .next }
+placeOf l = record { address = l .address; link = l .link; number = 0; from = l .from; to = l .to; next = l .next }
+
+-- "each link equals the next line's address, and the last equals the address of the end marker" (document 02, No. 8)
+abbrev pub LinksLead : List Line → ℕ → Type 0
+LinksLead [] ending = Unit {0}
+LinksLead (l ∷ []) ending = l .link ≡ ending
+LinksLead (l ∷ m ∷ ls) ending = (l .link ≡ m .address) × LinksLead (m ∷ ls) ending
 
 -- an image is read as these lines: its load address and line count, each line's number and body, and each line's place and link
 pub record ReadAs (step : Reader) (load : ℕ) (ls : List NumberedBody) (s : List ℕ) : Type 0 where

@@ -9,11 +9,12 @@ use Rattle.steps.proofs.Nearer.{Nearer, again-once, by-nearer}
 use Rattle.refusals.specs.Numbers.{Numbered}
 use Rattle.refusals.specs.Answer.{Answer, done, refused, mapDone}
 use Rattle.readers.specs.declared.Line.{Line}
-use Rattle.readers.specs.Image.{lowFirstAt, Found, line, end}
+use Rattle.readers.specs.Image.{lowFirstAt, addressAt, Found, line, end}
 use Rattle.readers.specs.Lines.{Reader, onward, readOn, linesFrom}
 
 -- a line found at p lies behind p and within the image
 pub record LiesAt (s : List ℕ) (p : ℕ) (l : Line) : Type 0 where
+  pub address : l .address ≡ addressAt s p
   pub link : l .link ≡ lowFirstAt s p
   pub number : l .number ≡ lowFirstAt s (p + 2)
   pub starts : l .from ≡ p + 4

@@ -1,7 +1,7 @@
 -- What both readers read alike in an image (document 01, "Reading and listing"), and what they check before they look at an offset
 -- ("Numbers of refusal": "A single step of either reader checks 7 and 8 before it looks at its offset").
 -- Assumes nothing.
-use Prim.Native.Nat.{ℕ, _+_, _*_}
+use Prim.Native.Nat.{ℕ, _+_, _*_, _-_}
 use mathlib.Core.Bool.{cond}
 use mathlib.Core.List.{List}
 use lib.ListN.{length, getD}
@@ -14,9 +14,21 @@ use Rattle.readers.specs.declared.Line.{Line}
 abbrev pub lowFirstAt : List ℕ → ℕ → ℕ
 lowFirstAt s p = getD s p 0 + 256 * getD s (p + 1) 0
 
+-- "load address plus offset less 2, never below 0" (document 02, No. 8): the address in memory of what stands at p, in full
+abbrev pub addressAt : List ℕ → ℕ → ℕ
+addressAt s p = lowFirstAt s 0 + p - 2
+
 -- the line at p, whose body starts behind its link and number and ends at an offset; what follows the line stands at another
 abbrev pub lineAt : List ℕ → ℕ → ℕ → ℕ → Line
-lineAt s p to next = record { link = lowFirstAt s p; number = lowFirstAt s (p + 2); from = p + 4; to = to; next = next }
+lineAt s p to next =
+    record {
+      address = addressAt s p;
+      link = lowFirstAt s p;
+      number = lowFirstAt s (p + 2);
+      from = p + 4;
+      to = to;
+      next = next;
+    }
 
 -- what is found at an offset: a line, or the end
 pub data Found : Type 0 where

@@ -6,7 +6,7 @@ ghost use Prim.Native.Nat.{_+_, _*_, _≤_, _<_};
 ghost use lib.ListN.{length};
 ghost use Rattle.readers.specs.Answers.{stepAnswer, checkedAnswer};
 ghost use Rattle.readers.specs.Bodies.{bodyAt};
-ghost use Rattle.readers.specs.Image.{lowFirstAt, lineAt};
+ghost use Rattle.readers.specs.Image.{lowFirstAt, addressAt, lineAt};
 ghost use Rattle.readers.specs.Lines.{overview};
 ghost use Rattle.readers.specs.Readers.{stepBy};
 use refusals::Refusal;
@@ -23,9 +23,10 @@ pub enum By {
     Links,
 }
 
-// A line of an image: its link and its number, the offsets of its body's first byte and behind its last, and the offset of what
-// follows the line.
+// A line of an image: its own address in memory, its link and its number, the offsets of its body's first byte and behind its last, and
+// the offset of what follows the line.
 pub struct Line {
+    pub address: usize,
     pub link: u16,
     pub number: u16,
     pub from: usize,
@@ -96,18 +97,29 @@ pub fn body_by(image: &[u8], offset: usize, by: By) -> &[u8]
 
 // The line at an offset: its link and number stand there, then its body up to an offset; what follows it stands at another.
 fn line_at(image: &[u8], offset: usize, to: usize, next: usize) -> Line
-    requires { ⌜ offset + 4 ≤ length (now image) ⌝ }
+    requires { ⌜ (offset + 4 ≤ length (now image)) × (length (now image) ≤ 1048576) ⌝ }
     ensures { λ r. ⌜ r ≡ lineAt (now (image .entry)) offset to next ⌝ }
 {
+    let address = address_at(image, offset);
     let link = low_first_at(image, offset);
     let number = low_first_at(image, offset + 2);
     Line {
+        address,
         link,
         number,
         from: offset + 4,
         to,
         next,
     }
+}
+
+// The address in memory of what stands at an offset: the load address plus the offset less 2, never below 0.
+fn address_at(image: &[u8], offset: usize) -> usize
+    requires { ⌜ (offset + 4 ≤ length (now image)) × (length (now image) ≤ 1048576) ⌝ }
+    ensures { λ r. ⌜ r ≡ addressAt (now (image .entry)) offset ⌝ }
+{
+    let sum = low_first_at(image, 0) as usize + offset;
+    if sum < 2 { 0 } else { sum - 2 }
 }
 
 // The number in two bytes at an offset, low byte first.

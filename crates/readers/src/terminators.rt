@@ -57,7 +57,7 @@ pub fn body(image: &[u8], offset: usize) -> &[u8]
 
 // The line at an offset: its body runs to the first 00, and the next offset is behind that; or both are the image's end.
 fn terminated_line(image: &[u8], offset: usize) -> Line
-    requires { ⌜ offset + 4 ≤ length (now image) ⌝ }
+    requires { ⌜ (offset + 4 ≤ length (now image)) × (length (now image) ≤ 1048576) ⌝ }
     ensures { λ r. ⌜ r ≡ terminatedLine (now (image .entry)) offset ⌝ }
 {
     let from = offset + 4;
