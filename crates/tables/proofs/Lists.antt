@@ -7,10 +7,9 @@ use lib.Dec.{T}
 use Rattle.ascii.specs.Bytes.{between, upper}
 use Rattle.words.specs.Compare.{begins}
 use Rattle.words.specs.Find.{wordIn}
-use Rattle.words.specs.Initials.{raised, allRaised}
 use Rattle.words.specs.Order.{beginsNone, ordered, Longest}
 use Rattle.words.proofs.Order.{longest-in}
-use Rattle.tables.specs.Rom.{v2Words, operators}
+use Rattle.tables.specs.Rom.{v2Words}
 use Rattle.tables.specs.Tsb.{tsbWords}
 
 pub v2-ordered : T (ordered v2Words)
@@ -26,17 +25,3 @@ v2-longest = longest-in v2Words v2-ordered
 
 pub tsb-longest : (text : List ℕ) → Longest tsbWords text (wordIn tsbWords text)
 tsb-longest = longest-in tsbWords tsb-ordered
-
--- the words that a text may begin with are stored in capitals
-
-pub v2-raised : T (allRaised v2Words)
-unfolding allRaised upper between v2Words
-v2-raised = tt
-
-pub operators-raised : T (allRaised operators)
-unfolding allRaised upper between operators
-operators-raised = tt
-
-pub tsb-raised : T (allRaised tsbWords)
-unfolding allRaised upper between tsbWords
-tsb-raised = tt

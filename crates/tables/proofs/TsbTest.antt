@@ -2,11 +2,14 @@
 -- Assumes nothing.
 use Prim.Native.Nat.{ℕ}
 use mathlib.Core.Path.{_≡_, sym, ap, _∙_}
+use mathlib.Core.Bool.{true, false}
 use mathlib.Core.List.{List, _∷_}
 use lib.Dec.{T}
 use Rattle.words.specs.Compare.{same, member}
-use Rattle.words.specs.Find.{sameIn}
+use Rattle.words.specs.Find.{matchIn, sameIn}
 use Rattle.words.specs.declared.Match.{Match}
+use Rattle.words.specs.declared.Match.the-variants.{Word, Nothing}
+use Rattle.words.specs.declared.Test.the-variants.{Same}
 use Rattle.words.proofs.Sameness.{isFound, spellings, same-member, within, member-same}
 use Rattle.tables.specs.Spelling.{bytesOf}
 use Rattle.tables.specs.Tsb.{tsbWords, tsbTexts, isTsbWord}
@@ -22,6 +25,13 @@ given-in-list : T (within given (spellings tsbWords))
 unfolding within member same tsbTexts tsbWords
 given-in-list = tt
 
-pub tsb-test : (w : List ℕ) {m : Match} → m ≡ sameIn tsbWords w → isFound m ≡ isTsbWord w
-unfolding isTsbWord
+tsb-test : (w : List ℕ) {m : Match} → m ≡ matchIn Same tsbWords w → isFound m ≡ isTsbWord w
+unfolding isTsbWord sameIn
 tsb-test w e = ap isFound e ∙ same-member w tsbWords ∙ member-same w (spellings tsbWords) given list-in-given given-in-list
+
+module _ {m : Match} (w : List ℕ) where
+  pub tsb-yes : {i u k : ℕ} → m ≡ Word i u k → m ≡ matchIn Same tsbWords w → true ≡ isTsbWord w
+  tsb-yes f e = ap isFound (sym f) ∙ tsb-test w e
+
+  pub tsb-no : m ≡ Nothing → m ≡ matchIn Same tsbWords w → false ≡ isTsbWord w
+  tsb-no f e = ap isFound (sym f) ∙ tsb-test w e

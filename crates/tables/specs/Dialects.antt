@@ -4,43 +4,48 @@
 use Prim.Native.Nat.{ℕ, zero, suc}
 use mathlib.Core.Bool.{cond, _&&_}
 use mathlib.Core.List.{List, [], _∷_}
+use mathlib.Core.Option.{Option, none, some}
 use lib.Dec.{leb}
 use lib.ListN.{length}
 use Rattle.ascii.specs.Bytes.{isAscii}
 use Rattle.ascii.specs.Trim.{trim}
-use Rattle.words.specs.Find.{Entry, nameIn}
-use Rattle.words.specs.declared.Match.{Match}
-use Rattle.words.specs.declared.Match.the-variants.{Word, Nothing}
+use Rattle.words.specs.Find.{Name, meaning}
 use Rattle.refusals.specs.Numbers.{unknownDialect}
 use Rattle.refusals.specs.Answer.{Answer, done, refused, numbered}
-use Rattle.tables.specs.Spelling.{_is_}
+use Rattle.tables.specs.Spelling.{_means_}
 use Rattle.tables.specs.declared.dialect.Dialect.{Dialect}
 use Rattle.tables.specs.declared.dialect.Dialect.the-variants.{Auto, BasicV2, Tsb}
 use Rattle.tables.specs.declared.dialect.Named.{Named}
 use Rattle.tables.specs.declared.dialect.Named.the-variants.{Known, Refused}
 
--- the dialects by number
-abbrev pub dialectOf : ℕ → Dialect
-dialectOf zero = Auto
-dialectOf (suc zero) = BasicV2
-dialectOf (suc (suc n)) = Tsb
-
 -- the dialect of a number: there are three
 unfoldable pub byNumber : ℕ → Answer Dialect
-byNumber n = cond (leb n 2) (done (dialectOf n)) (refused unknownDialect)
+byNumber zero = done Auto
+byNumber (suc zero) = done BasicV2
+byNumber (suc (suc zero)) = done Tsb
+byNumber (suc (suc (suc n))) = refused unknownDialect
 
-unfoldable pub dialectNames : List Entry
+unfoldable pub dialectNames : List (Name Dialect)
 dialectNames =
-    "auto" is 0 ∷ "basic2" is 1 ∷ "basicv2" is 1 ∷ "v2" is 1 ∷ "basic-v2" is 1 ∷ "tsb" is 2 ∷ "simons" is 2 ∷ "ext" is 2 ∷ []
+    "auto" means Auto ∷
+    "basic2" means BasicV2 ∷
+    "basicv2" means BasicV2 ∷
+    "v2" means BasicV2 ∷
+    "basic-v2" means BasicV2 ∷
+    "tsb" means Tsb ∷
+    "simons" means Tsb ∷
+    "ext" means Tsb ∷
+    []
 
-abbrev pub dialectFound : Match → Answer Dialect
-dialectFound (Word index used token) = done (dialectOf token)
-dialectFound Nothing = refused unknownDialect
+-- a name that is none of these is unknown
+abbrev pub dialectFound : Option Dialect → Answer Dialect
+dialectFound (some d) = done d
+dialectFound none = refused unknownDialect
 
 -- the dialect that a word names
 unfoldable pub named : List ℕ → Answer Dialect
-unfolding dialectNames nameIn trim
-named w = cond (leb (length w) 64 && isAscii w) (dialectFound (nameIn dialectNames (trim w))) (refused unknownDialect)
+unfolding dialectNames meaning trim
+named w = cond (leb (length w) 64 && isAscii w) (dialectFound (meaning dialectNames (trim w))) (refused unknownDialect)
 
 -- the enum's cases as document 01 numbers them
 abbrev pub namedAnswer : Named → Answer Dialect

@@ -4,6 +4,7 @@ pub mod dialect;
 pub mod keys;
 pub mod matching;
 pub mod petscii;
+pub mod sets;
 pub mod spellings;
 pub mod texts;
 pub mod tsb;

@@ -1,6 +1,5 @@
 pub mod Comparing
-pub mod Initials
+pub mod Order
 pub mod Sameness
 pub mod Search
-pub mod Sections
-pub mod Order
+pub mod Storing

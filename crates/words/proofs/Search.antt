@@ -1,19 +1,15 @@
--- The loop over a stored list: what its starts say of each word, its invariant, a turn, and its ends; for every test of a word.
+-- The search over a stored list: its loop's invariant, a turn, and its ends; for every test of a word.
 -- Assumes nothing.
 use Prim.Native.Nat.{ℕ, zero, suc, _+_, _-_, _≤_, _<_}
-use mathlib.Core.Path.{_≡_, refl, sym, ap, _∙_, subst}
-use mathlib.Core.Bool.{Bool, true, false, _&&_, and-eq-true-iff}
-use mathlib.Core.List.{List, [], _∷_}
-use native.Mathlib.Nat.{add-zero}
+use mathlib.Core.Path.{_≡_, refl, sym, ap, _∙_}
+use mathlib.Core.Bool.{Bool, true, false, _&&_}
+use mathlib.Core.List.{List}
 use native.Mathlib.Numerals.{add-one}
 use native.Mathlib.Omega.{arith}
-use lib.ListN.{length, getD, take, drop, drop-of-length-le, length-drop}
-use lib.Seq.{drop-cons, drop-drop, getD-drop}
-use lib.Dec.{T, leb, leb→le}
-use Rattle.words.specs.Find.{Entry, firstThat}
-use Rattle.words.specs.Run.{Lies, wordOf, spelled, rising}
-use Rattle.words.specs.declared.Match.{Match}
-use Rattle.words.specs.declared.Match.the-variants.{Word, Nothing}
+use lib.Dec.{T}
+use Rattle.words.specs.Compare.{passes}
+use Rattle.words.specs.Run.{Lies, Stored, wordOf, passesAt, firstFrom}
+use Rattle.words.specs.declared.Test.{Test}
 
 pub and-left : (a b : Bool) → T (a && b) → T a
 and-left true b t = tt
@@ -23,60 +19,90 @@ pub and-right : (a b : Bool) → T (a && b) → T b
 and-right true b t = t
 and-right false b t = absurd t
 
-module _ (b s ts : List ℕ) (i : ℕ) (h : i < length ts) where
-  pub spelled-cons : spelled b (drop i s) (drop i ts) ≡ record { word = wordOf b s i; token = getD ts i 0 } ∷ spelled b (drop (i + 1) s) (drop (i + 1) ts)
-  unfolding spelled wordOf
-  spelled-cons = rw (drop-cons ts i 0) (simp (getD-drop, drop-drop, add-zero, add-one))
+-- ---- the first place that passes
 
-  rising-cons : rising (length b) (drop i s) (drop i ts)
-      ≡ leb 2 (length s - i) && (leb (getD s i 0) (getD s (i + 1) 0) && (leb (getD s (i + 1) 0) (length b) && rising (length b) (drop (i + 1) s) (drop (i + 1) ts)))
-  unfolding rising
-  rising-cons = rw (drop-cons ts i 0) (simp (length-drop, getD-drop, drop-drop, add-zero, add-one))
+module _ (p : ℕ → Bool) where
+  -- at a place that passes, at one that does not, and at the end
+  pub first-here : (i to : ℕ) → i < to → p i ≡ true → firstFrom p i (to - i) ≡ i
+  unfolding firstFrom
+  first-here i to h e = let n : to - i ≡ suc (to - (i + 1)) = omega arith in rw (n, firstFrom, e)
 
-  -- what the test of the starts says of word i, and of the words behind it
-  stored-cons : T (rising (length b) (drop i s) (drop i ts)) → Lies b s i × T (rising (length b) (drop (i + 1) s) (drop (i + 1) ts))
-  stored-cons t =
-      let here? = leb 2 (length s - i) in
-      let up? = leb (getD s i 0) (getD s (i + 1) 0) in
-      let within? = leb (getD s (i + 1) 0) (length b) in
-      let t₀ = subst T rising-cons t in
-      let t₁ = and-right here? _ t₀ in
-      let t₂ = and-right up? _ t₁ in (
-        record {
-          here = omega (arith, leb→le 2 (length s - i) (and-left here? _ t₀));
-          up = leb→le _ _ (and-left up? _ t₁);
-          within = leb→le _ _ (and-left within? _ t₂);
-        },
-        and-right within? _ t₂,
-      )
+  pub first-next : (i to : ℕ) → i < to → p i ≡ false → firstFrom p i (to - i) ≡ firstFrom p (i + 1) (to - (i + 1))
+  unfolding firstFrom
+  first-next i to h e = let n : to - i ≡ suc (to - (i + 1)) = omega arith in rw (n, firstFrom, e, add-one)
 
--- i words passed, none of which the test takes: what is found among the rest is the answer w
-pub record Sought (p : ℕ → List ℕ → Bool) (b s ts : List ℕ) (w : Match) (i : ℕ) : Type 0 where
-  pub within : i ≤ length ts
-  pub stored : T (rising (length b) (drop i s) (drop i ts))
-  pub gives : firstThat p (spelled b (drop i s) (drop i ts)) i ≡ w
+  pub first-none : (i to : ℕ) → to ≤ i → firstFrom p i (to - i) ≡ i
+  unfolding firstFrom
+  first-none i to h = let n : to - i ≡ 0 = omega arith in rw n
 
-pub sought-start : (p : ℕ → List ℕ → Bool) (b s ts : List ℕ) → T (rising (length b) s ts) → Sought p b s ts (firstThat p (spelled b s ts) 0) 0
-sought-start p b s ts t = record { within = omega arith; stored = t; gives = refl }
+  -- it stands within the places that are gone through
+  pub first-from : (i n : ℕ) → i ≤ firstFrom p i n
+  unfolding firstFrom
+  first-from i zero = omega arith
+  first-from i (suc n) = go (p i) (first-from (suc i) n)
+    where
+      go : (b : Bool) → suc i ≤ firstFrom p (suc i) n → i ≤ elim b [ true ↦ i | false ↦ firstFrom p (suc i) n ]
+      go true h = omega arith
+      go false h = omega arith
 
-module _ {p : ℕ → List ℕ → Bool} {b s ts : List ℕ} {w : Match} {i : ℕ} (k : Sought p b s ts w i) where
-  pub sought-end : length ts ≤ i → Nothing ≡ w
-  unfolding firstThat spelled
-  sought-end h = rw (drop-of-length-le ts h) at (k .gives)
+  pub first-to : (i n : ℕ) → firstFrom p i n ≤ i + n
+  unfolding firstFrom
+  first-to i zero = omega arith
+  first-to i (suc n) = go (p i) (first-to (suc i) n)
+    where
+      go : (b : Bool) → firstFrom p (suc i) n ≤ suc i + n → elim b [ true ↦ i | false ↦ firstFrom p (suc i) n ] ≤ i + suc n
+      go true h = omega arith
+      go false h = omega arith
 
-  module _ (h : i < length ts) where
-    pub sought-lies : Lies b s i
-    sought-lies = stored-cons b s ts i h (k .stored) .0
+  -- where it is one of them, it passes
+  pub first-passes : (i n : ℕ) → firstFrom p i n < i + n → p (firstFrom p i n) ≡ true
+  unfolding firstFrom
+  first-passes i zero h = absurd (omega arith)
+  first-passes i (suc n) h = go (p i) refl h (first-passes (suc i) n)
+    where
+      go : (b : Bool) → p i ≡ b → elim b [ true ↦ i | false ↦ firstFrom p (suc i) n ] < i + suc n
+          → (firstFrom p (suc i) n < suc i + n → p (firstFrom p (suc i) n) ≡ true) → p (elim b [ true ↦ i | false ↦ firstFrom p (suc i) n ]) ≡ true
+      go true e l f = e
+      go false e l f = f (omega arith)
 
-    module _ {x : List ℕ} {r : Bool} (is : x ≡ wordOf b s i) (q : r ≡ p i x) where
-      pub sought-found : r ≡ true → Word i (length x) (getD ts i 0) ≡ w
-      unfolding firstThat
-      sought-found t =
-          rw is (sym (rw (spelled-cons b s ts i h, ← is, sym q ∙ t, firstThat, is)) ∙ k .gives)
+  -- a stricter test finds the same from the first place on that passes the other
+  pub first-skip : (q : ℕ → Bool) → ((k : ℕ) → p k ≡ false → q k ≡ false) → (i n : ℕ) → firstFrom q i n ≡ firstFrom q (firstFrom p i n) (i + n - firstFrom p i n)
+  unfolding firstFrom
+  first-skip q s i zero = let e : i + 0 - i ≡ 0 = omega arith in rw e
+  first-skip q s i (suc n) = go (p i) refl (first-skip q s (suc i) n)
+    where
+      end : suc i + n ≡ i + suc n
+      end = omega arith
 
-      pub sought-turn : r ≡ false → Sought p b s ts w (i + 1)
-      unfolding firstThat
-      sought-turn t =
-          let e : firstThat p (spelled b (drop i s) (drop i ts)) i ≡ firstThat p (spelled b (drop (i + 1) s) (drop (i + 1) ts)) (i + 1) =
-          rw (spelled-cons b s ts i h, ← is, sym q ∙ t, firstThat, add-one) in
-          record { within = omega arith; stored = stored-cons b s ts i h (k .stored) .1; gives = sym e ∙ k .gives }
+      go : (b : Bool) → p i ≡ b → firstFrom q (suc i) n ≡ firstFrom q (firstFrom p (suc i) n) (suc i + n - firstFrom p (suc i) n)
+          → firstFrom q i (suc n) ≡ firstFrom q (elim b [ true ↦ i | false ↦ firstFrom p (suc i) n ]) (i + suc n - elim b [ true ↦ i | false ↦ firstFrom p (suc i) n ])
+      go true e h = let m : i + suc n - i ≡ suc n = omega arith in rw m
+      go false e h = rw (firstFrom, s i e) (h ∙ ap (λ (m : ℕ). firstFrom q (firstFrom p (suc i) n) (m - firstFrom p (suc i) n)) end)
+
+-- ---- the loop: the places passed do not pass the test
+
+pub record Sought (p : ℕ → Bool) (from to i : ℕ) : Type 0 where
+  pub up : from ≤ i
+  pub within : i ≤ to
+  pub gives : firstFrom p i (to - i) ≡ firstFrom p from (to - from)
+
+module _ {b s : List ℕ} {from to : ℕ} where
+  pub sought-start : (p : ℕ → Bool) → Stored b s from to → Sought p from to from
+  sought-start p k = record { up = omega arith; within = k .up; gives = refl }
+
+  pub sought-lies : {p : ℕ → Bool} {i : ℕ} → i < to → Sought p from to i → Stored b s from to → Lies b s i
+  sought-lies h k st = st .lie _ (k .up) h
+
+pub sought-end : {p : ℕ → Bool} {from to i : ℕ} → to ≤ i → Sought p from to i → i ≡ firstFrom p from (to - from)
+sought-end h k = sym (first-none _ _ _ h) ∙ k .gives
+
+module _ (test : Test) (text b s : List ℕ) {x : List ℕ} {r : Bool} {from to i : ℕ} where
+  pub sought-found : r ≡ true → r ≡ passes test x text → x ≡ wordOf b s i → i < to → Sought (passesAt test text b s) from to i → i ≡ firstFrom (passesAt test text b s) from (to - from)
+  unfolding passesAt
+  sought-found t q e h k = sym (first-here (passesAt test text b s) i to h (ap (λ (w : List ℕ). passes test w text) (sym e) ∙ sym q ∙ t)) ∙ k .gives
+
+  pub sought-turn : r ≡ false → r ≡ passes test x text → x ≡ wordOf b s i → i < to → Sought (passesAt test text b s) from to i → Sought (passesAt test text b s) from to (i + 1)
+  unfolding passesAt
+  sought-turn t q e h k =
+      let n = first-next (passesAt test text b s) i to h (ap (λ (w : List ℕ). passes test w text) (sym e) ∙ sym q ∙ t) in
+      record { up = omega arith; within = omega arith; gives = sym n ∙ k .gives }

@@ -7,6 +7,8 @@ use mathlib.Core.List.{List, [], _∷_}
 use lib.ListN.{length}
 use lib.Dec.{eqb}
 use Rattle.ascii.specs.Bytes.{upper}
+use Rattle.words.specs.declared.Test.{Test}
+use Rattle.words.specs.declared.Test.the-variants.{Begins, Alike, Same}
 
 -- the word is a beginning of the text
 unfoldable pub begins : List ℕ → List ℕ → Bool
@@ -31,3 +33,9 @@ unfoldable pub member : List ℕ → List (List ℕ) → Bool
 unfolding same
 member t [] = false
 member t (w ∷ ws) = elim (same w t) [ true ↦ true | false ↦ member t ws ]
+
+-- the word passes a test of the text
+unfoldable pub passes : Test → List ℕ → List ℕ → Bool
+passes Begins w t = begins w t
+passes Alike w t = alike w t
+passes Same w t = same w t

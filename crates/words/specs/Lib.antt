@@ -1,5 +1,4 @@
 pub mod Compare
 pub mod Find
-pub mod Initials
 pub mod Order
 pub mod Run

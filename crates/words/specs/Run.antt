@@ -1,12 +1,12 @@
--- A list of words as it is stored: one run of bytes, a start for each word and one behind the last, a token for each
--- (document 01, "Crunching one body": "one run of bytes, several hundred long, with starts and tokens beside it").
+-- A list of words as it is stored: one run of bytes, with a start for each word and one behind the last (document 01, "Crunching one
+-- body": "one run of bytes, several hundred long, with starts and tokens beside it"). Only contracts of helpers cite this page.
 -- Assumes nothing.
-use Prim.Native.Nat.{ℕ, _+_, _-_, _≤_, _<_}
-use mathlib.Core.Bool.{Bool, true, _&&_}
-use mathlib.Core.List.{List, [], _∷_}
+use Prim.Native.Nat.{ℕ, zero, suc, _+_, _-_, _≤_, _<_}
+use mathlib.Core.Bool.{Bool, true, false}
+use mathlib.Core.List.{List}
 use lib.ListN.{length, getD, take, drop}
-use lib.Dec.{leb}
-use Rattle.words.specs.Find.{Entry}
+use Rattle.words.specs.Compare.{passes}
+use Rattle.words.specs.declared.Test.{Test}
 
 -- word k: the bytes from its start up to the next one
 unfoldable pub wordOf : List ℕ → List ℕ → ℕ → List ℕ
@@ -18,14 +18,16 @@ pub record Lies (bytes starts : List ℕ) (k : ℕ) : Type 0 where
   pub up : getD starts k 0 ≤ getD starts (k + 1) 0
   pub within : getD starts (k + 1) 0 ≤ length bytes
 
--- the words that a run spells, one for each token
-unfoldable pub spelled : List ℕ → List ℕ → List ℕ → List Entry
-unfolding wordOf
-spelled bytes starts [] = []
-spelled bytes starts (t ∷ ts) = record { word = wordOf bytes starts 0; token = t } ∷ spelled bytes (drop 1 starts) ts
+-- the words from a place up to another lie in the run
+pub record Stored (bytes starts : List ℕ) (from to : ℕ) : Type 0 where
+  pub up : from ≤ to
+  pub lie : (k : ℕ) → from ≤ k → k < to → Lies bytes starts k
 
--- the starts rise and stay within n bytes: one for each token, and one behind the last
-unfoldable pub rising : ℕ → List ℕ → List ℕ → Bool
-rising n starts [] = leb 1 (length starts)
-rising n starts (t ∷ ts) =
-    leb 2 (length starts) && (leb (getD starts 0 0) (getD starts 1 0) && (leb (getD starts 1 0) n && rising n (drop 1 starts) ts))
+-- word k passes a test of the text
+unfoldable pub passesAt : Test → List ℕ → List ℕ → List ℕ → ℕ → Bool
+passesAt test text bytes starts k = passes test (wordOf bytes starts k) text
+
+-- the first of n places, from k on, that passes a test; the place behind them where none does
+unfoldable pub firstFrom : (ℕ → Bool) → ℕ → ℕ → ℕ
+firstFrom p k zero = k
+firstFrom p k (suc n) = elim (p k) [ true ↦ k | false ↦ firstFrom p (suc k) n ]

@@ -1,75 +1,42 @@
 -- `tables::dialect::dialect_by_name` meets its contract: the stored names are the definition's, and each way out is a case of it.
 -- Assumes nothing.
-use mathlib.Core.Path.{_≡_, refl, ap, sym, _∙_}
-use borrow.Author.Tests.{not-true, not-false}
-use Rattle.words.specs.Run.{rising, spelled, wordOf}
-use Rattle.refusals.specs.Answer.{done}
-use Rattle.tables.specs.Dialects.{dialectNames, dialectFound}
-use Rattle.tables.proofs.Naming.{named-long, named-high, named-found}
+use native.Mathlib.Omega.{arith}
+use Rattle.words.proofs.Storing.{allBelow, liesAt, stored-below, spellsNames}
+use Rattle.tables.specs.Dialects.{dialectNames}
+use Rattle.tables.proofs.Naming.{named-long, named-high, named-known, named-unknown}
 use borrow.Author.Needs.{needs}
 use Rattle.tables.proofs.dialect.dialect_by_name.Statement.{statement}
 use Rattle.tables.proofs.dialect.dialect_by_name.Tie as tie
 
 returns : tie.Need-returns
-returns c = named-long _ (c .if1 .taken)
-
-is-ascii-requires : tie.Need-is-ascii-requires
-is-ascii-requires c κs = search needs
+returns c = search named-long
 
 returns-2 : tie.Need-returns-2
-returns-2 c = named-high _ (c .before .before .if1 .left) (sym (c .before .is-ascii .ensures) ∙ not-true _ (c .if2 .taken))
+returns-2 c = search named-high
 
-trim-requires : tie.Need-trim-requires
-trim-requires c κs = search needs
-
-slice-aggregate-first-name : tie.Need-slice-aggregate-first-name
-slice-aggregate-first-name c = search needs
-
-slice-aggregate-first-name-2 : tie.Need-slice-aggregate-first-name-2
-slice-aggregate-first-name-2 c = search needs
-
-slice-aggregate-first-name-3 : tie.Need-slice-aggregate-first-name-3
-slice-aggregate-first-name-3 c = search needs
-
-first-name-requires : tie.Need-first-name-requires
-unfolding rising
-first-name-requires c κs = tt
-
-enum-known-token : tie.Need-enum-known-token
-enum-known-token c = search needs
-
-dialect-of-requires : tie.Need-dialect-of-requires
-dialect-of-requires c κs = search needs
-
-enum-told : tie.Need-enum-told
-enum-told c = search needs
+first-passing-requires : tie.Need-first-passing-requires
+unfolding allBelow liesAt
+first-passing-requires c κs = stored-below _ _ 8 tt 0 8 (omega arith) (omega arith)
 
 returns-3 : tie.Need-returns-3
-unfolding spelled wordOf dialectNames
-returns-3 c =
-    ap done (c .dialect-of .ensures) ∙ ap dialectFound (sym (c .before .before .token .given .1))
-    ∙ named-found _ (c .before .before .before .before .before .before .before .before .before .before .before .if1 .left) (sym (c .before .before .before .before .before .before .before .before .before .before .is-ascii .ensures) ∙ not-false _ (c .before .before .before .before .before .before .before .before .before .if2 .left)) (c .before .before .before .before .before .before .before .before .trim .ensures) (c .before .before .before .before .first-name .ensures)
+unfolding spellsNames dialectNames
+returns-3 c = search (named-known, tt)
 
 returns-4 : tie.Need-returns-4
-unfolding spelled wordOf dialectNames
-returns-4 c =
-    ap dialectFound (sym (c .enum-told .given .1))
-    ∙ named-found _ (c .before .before .before .before .before .before .before .before .before .if1 .left) (sym (c .before .before .before .before .before .before .before .before .is-ascii .ensures) ∙ not-false _ (c .before .before .before .before .before .before .before .if2 .left)) (c .before .before .before .before .before .before .trim .ensures) (c .before .before .first-name .ensures)
+unfolding spellsNames dialectNames
+returns-4 c = search (named-unknown, tt)
 
 pub dialect-by-name-spec : {M : Type 1} → statement M
 dialect-by-name-spec =
     tie.close
     (tie.spec
     returns
-    is-ascii-requires
+    (λ c κs. search needs)
     returns-2
-    trim-requires
-    slice-aggregate-first-name
-    slice-aggregate-first-name-2
-    slice-aggregate-first-name-3
-    first-name-requires
-    enum-known-token
-    dialect-of-requires
-    enum-told
+    (λ c κs. search needs)
+    (λ c. search needs)
+    (λ c. search needs)
+    first-passing-requires
+    (λ c. search needs)
     returns-3
     returns-4)

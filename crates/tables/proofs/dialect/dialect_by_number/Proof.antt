@@ -1,21 +1,25 @@
 -- `tables::dialect::dialect_by_number` meets its contract.
 -- Assumes nothing.
-use borrow.Author.Tests.{le-leb, lt-leb}
 use Rattle.tables.specs.Dialects.{byNumber}
+use Rattle.tables.proofs.Naming.{by-other}
 use borrow.Author.Needs.{needs}
 use Rattle.tables.proofs.dialect.dialect_by_number.Statement.{statement}
 use Rattle.tables.proofs.dialect.dialect_by_number.Tie as tie
 
 returns : tie.Need-returns
 unfolding byNumber
-returns c = simp (lt-leb _ _ (c .if1 .taken))
-
-dialect-of-requires : tie.Need-dialect-of-requires
-dialect-of-requires c κs = search needs
+returns c = cc
 
 returns-2 : tie.Need-returns-2
 unfolding byNumber
-returns-2 c = rw (c .dialect-of .ensures) (simp (le-leb _ _ (c .before .if1 .left)))
+returns-2 c = cc
+
+returns-3 : tie.Need-returns-3
+unfolding byNumber
+returns-3 c = cc
+
+returns-4 : tie.Need-returns-4
+returns-4 c = by-other _ (c .match .rest .0 .0 .1) (c .match .rest .0 .1) (c .match .rest .1)
 
 pub dialect-by-number-spec : {M : Type 1} → statement M
-dialect-by-number-spec = tie.close (tie.spec returns dialect-of-requires returns-2)
+dialect-by-number-spec = tie.close (tie.spec returns returns-2 returns-3 returns-4)

@@ -1,49 +1,13 @@
--- `tables::matching::match_tsb` meets its contract: the search in the section of 123 words from place 76 on.
+-- `tables::matching::match_tsb` meets its contract.
 -- Assumes nothing.
-use mathlib.Core.Path.{ap, _∙_}
-use mathlib.Core.List.{List}
-use denote.Ref.{now}
-use native.Mathlib.Omega.{arith}
-use Rattle.words.specs.Find.{Entry, wordIn}
-use Rattle.tables.proofs.Sections.{tokens-long, starts-long, part-stored, part-raised, part-spells, tsb-section}
-use Rattle.tables.proofs.Lists.{tsb-raised}
+use Rattle.words.specs.Find.{wordIn}
 use borrow.Author.Needs.{needs}
 use Rattle.tables.proofs.matching.match_tsb.Statement.{statement}
 use Rattle.tables.proofs.matching.match_tsb.Tie as tie
 
-sub-first-word : tie.Need-sub-first-word
-sub-first-word c = omega (arith, starts-long (c .before .before .before .before .pre))
-
-part-first-word-start : tie.Need-part-first-word-start
-part-first-word-start c = omega (arith, starts-long (c .before .before .before .before .pre))
-
-part-first-word-end : tie.Need-part-first-word-end
-part-first-word-end c = search needs
-
-sub-first-word-2 : tie.Need-sub-first-word-2
-sub-first-word-2 c = search needs
-
-part-first-word-start-2 : tie.Need-part-first-word-start-2
-part-first-word-start-2 c = search needs
-
-part-first-word-end-2 : tie.Need-part-first-word-end-2
-part-first-word-end-2 c = omega (arith, tokens-long (c .before .before .before .before .before .pre))
-
-first-word-requires : tie.Need-first-word-requires
-first-word-requires c κs = (part-stored (c .before .before .before .before .before .before .pre) 76 123 (omega arith), part-raised (c .before .before .before .before .before .before .pre) 76 123 tsb-section tsb-raised)
-
 returns : tie.Need-returns
-returns c = c .first-word .ensures ∙ ap (λ (es : List Entry). wordIn es (now (c .before .before .before .before .before .before .before .args .text))) (part-spells (c .before .before .before .before .before .before .before .pre) 76 123 ∙ tsb-section)
+unfolding wordIn
+returns c = search needs
 
 pub match-tsb-spec : {M : Type 1} → statement M
-match-tsb-spec =
-    tie.close
-    (tie.spec
-    sub-first-word
-    part-first-word-start
-    part-first-word-end
-    sub-first-word-2
-    part-first-word-start-2
-    part-first-word-end-2
-    first-word-requires
-    returns)
+match-tsb-spec = tie.close (tie.spec (λ c κs. search needs) returns)

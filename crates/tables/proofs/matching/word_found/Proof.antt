@@ -1,0 +1,15 @@
+-- `tables::matching::word_found` meets its contract.
+-- Assumes nothing.
+use mathlib.Core.Path.{ap}
+use lib.ListN.{length}
+use borrow.Author.Needs.{needs}
+use Rattle.tables.proofs.matching.word_found.Statement.{statement}
+use Rattle.tables.proofs.matching.word_found.Tie as tie
+
+returns : tie.Need-returns
+returns c = cc
+
+pub word-found-spec : {M : Type 1} → statement M
+word-found-spec =
+    tie.close
+    (tie.spec (λ c κs. search needs) (λ c. search needs) (λ c. search needs) (λ c. search needs) returns)
