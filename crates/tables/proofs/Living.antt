@@ -9,14 +9,14 @@ use lib.ListN.{length, getD}
 use borrow.Author.Tests.{not-true, not-false}
 use Rattle.words.specs.Compare.{begins, passes}
 use Rattle.words.specs.Find.{Entry, firstThat, amongIn, wordIn}
-use Rattle.words.specs.Run.{Stored, wordOf, passesAt, firstFrom}
+use Rattle.words.specs.RunHelpers.{Stored, wordOf, passesAt, firstFrom}
 use Rattle.words.specs.declared.Match.{Match}
 use Rattle.words.specs.declared.Match.the-variants.{Word, Nothing}
 use Rattle.words.specs.declared.Test.the-variants.{Begins}
 use Rattle.words.proofs.Search.{first-here, first-next, first-none, first-from, first-to, first-passes, first-skip}
 use Rattle.tables.specs.Sets.{isDemoted, isLive, liveWord}
 use Rattle.tables.specs.Tsb.{tsbWords}
-use Rattle.tables.specs.Words.{SpellsWords, Held, wordFound}
+use Rattle.tables.specs.WordsHelpers.{SpellsWords, Held, wordFound}
 use Rattle.tables.specs.declared.sets.Sets.{Sets}
 use Rattle.tables.specs.declared.matching.WordList.the-variants.{Tsb}
 use Rattle.tables.proofs.Storage.{found-stored, none-stored, match-held, match-stored}

@@ -10,7 +10,7 @@ use borrow.Author.Tests.{le-leb, lt-leb, not-true, not-false}
 use Rattle.ascii.specs.Bytes.{isAscii}
 use Rattle.ascii.specs.Trim.{trim}
 use Rattle.words.specs.Find.{meaning}
-use Rattle.words.specs.Run.{passesAt, firstFrom}
+use Rattle.words.specs.RunHelpers.{passesAt, firstFrom}
 use Rattle.words.specs.declared.Test.the-variants.{Alike}
 use Rattle.words.proofs.Storing.{spellsNames, name-means, name-unknown}
 use Rattle.refusals.specs.Numbers.{unknownDialect}

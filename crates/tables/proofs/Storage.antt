@@ -10,7 +10,7 @@ use lib.ListN.{length, getD}
 use borrow.Author.Tests.{lt-ltb, le-ltb}
 use Rattle.words.specs.Compare.{same, passes}
 use Rattle.words.specs.Find.{Entry, firstThat, matchIn}
-use Rattle.words.specs.Run.{Lies, Stored, wordOf, passesAt, firstFrom}
+use Rattle.words.specs.RunHelpers.{Lies, Stored, wordOf, passesAt, firstFrom}
 use Rattle.words.specs.declared.Match.{Match}
 use Rattle.words.specs.declared.Match.the-variants.{Word, Nothing}
 use Rattle.words.specs.declared.Test.{Test}
@@ -20,7 +20,7 @@ use Rattle.words.proofs.Storing.{allBelow, liesAt, stored-below}
 use Rattle.tables.specs.Rom.{v2Words, operators}
 use Rattle.tables.specs.Tsb.{tsbWords}
 use Rattle.tables.specs.Escapes.{escapeNames}
-use Rattle.tables.specs.Words.{Placed, placed, storedWords, wordFound, Held, wordsOf, sectionOf, SpellsWords}
+use Rattle.tables.specs.WordsHelpers.{Placed, placed, storedWords, wordFound, Held, wordsOf, sectionOf, SpellsWords}
 use Rattle.tables.specs.declared.matching.Section.{Section}
 use Rattle.tables.specs.declared.matching.WordList.{WordList}
 use Rattle.tables.specs.declared.matching.WordList.the-variants.{V2, Operators, Tsb, Escapes}

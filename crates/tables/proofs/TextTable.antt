@@ -9,7 +9,7 @@ use lib.ListN.{length, getD}
 use native.Mathlib.Nat.{not-suc-le-zero, eq-or-lt-of-le, le-of-suc-le-suc}
 use mathlib.Core.Logic.{_⊎_, inl, inr}
 use Rattle.words.specs.Compare.{same}
-use Rattle.words.specs.Run.{Lies, wordOf}
+use Rattle.words.specs.RunHelpers.{Lies, wordOf}
 use Rattle.words.proofs.Search.{and-left, and-right}
 use Rattle.words.proofs.Sameness.{same-eq, T-true}
 use Rattle.tables.specs.Texts.{textOf, SpellsTexts}

@@ -5,4 +5,4 @@ pub mod Sets
 pub mod Spelling
 pub mod Texts
 pub mod Tsb
-pub mod Words
+pub mod WordsHelpers

@@ -8,7 +8,7 @@ use lib.Dec.{eqb, ltb}
 use lib.ListN.{length, getD, replicate}
 use lib.Seq.{sets}
 use Rattle.ascii.specs.Bytes.{between}
-use Rattle.words.specs.Run.{Lies, wordOf}
+use Rattle.words.specs.RunHelpers.{Lies, wordOf}
 use Rattle.tables.specs.Spelling.{bytesOf}
 use Rattle.tables.specs.Rom.{romWords}
 use Rattle.tables.specs.Tsb.{tsbWords, withToken}

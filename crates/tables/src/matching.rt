@@ -9,7 +9,7 @@ ghost use Rattle.tables.specs.Rom.{v2Words, operators};
 ghost use Rattle.tables.specs.Tsb.{tsbWords};
 ghost use Rattle.tables.specs.Escapes.{escapeNames};
 ghost use Rattle.tables.specs.Sets.{liveWord};
-ghost use Rattle.tables.specs.Words.{SpellsWords, Held, wordsOf, sectionOf, wordFound};
+ghost use Rattle.tables.specs.WordsHelpers.{SpellsWords, Held, wordsOf, sectionOf, wordFound};
 
 pub enum WordList {
     V2,

@@ -8,7 +8,7 @@ use native.Mathlib.Numerals.{add-one}
 use native.Mathlib.Omega.{arith}
 use lib.Dec.{T}
 use Rattle.words.specs.Compare.{passes}
-use Rattle.words.specs.Run.{Lies, Stored, wordOf, passesAt, firstFrom}
+use Rattle.words.specs.RunHelpers.{Lies, Stored, wordOf, passesAt, firstFrom}
 use Rattle.words.specs.declared.Test.{Test}
 
 pub and-left : (a b : Bool) → T (a && b) → T a

@@ -12,7 +12,7 @@ use lib.Dec.{T, leb, ltb, leb→le, ltb→lt}
 use lib.ListN.{length, getD}
 use Rattle.words.specs.Compare.{same, alike, passes}
 use Rattle.words.specs.Find.{Name, meaning}
-use Rattle.words.specs.Run.{Lies, Stored, wordOf, passesAt, firstFrom}
+use Rattle.words.specs.RunHelpers.{Lies, Stored, wordOf, passesAt, firstFrom}
 use Rattle.words.specs.declared.Test.the-variants.{Alike}
 use Rattle.words.proofs.Search.{and-left, and-right, first-from}
 use Rattle.words.proofs.Sameness.{same-eq, T-true}

@@ -1,4 +1,4 @@
 pub mod Compare
 pub mod Find
 pub mod Order
-pub mod Run
+pub mod RunHelpers

@@ -2,7 +2,7 @@
 ghost use mathlib.Core.Path.{_≡_};
 ghost use Prim.Native.Nat.{_-_};
 ghost use Rattle.words.specs.Compare.{begins as beginsOf, alike as alikeOf, same as sameOf, passes as passesOf};
-ghost use Rattle.words.specs.Run.{Lies, Stored, wordOf, passesAt, firstFrom};
+ghost use Rattle.words.specs.RunHelpers.{Lies, Stored, wordOf, passesAt, firstFrom};
 
 pub enum Match {
     // The word's place in its list, how many bytes of the text it takes, and its token.
@@ -71,19 +71,13 @@ fn passes(test: Test, word: &[u8], text: &[u8]) -> bool
     }
 }
 
-fn wide(x: u16) -> usize
-    ensures { λ r. ⌜ r ≡ x ⌝ }
-{
-    x as usize
-}
-
 // Word k of a run.
 pub fn word_at<'a>(bytes: &'a [u8], starts: &[u16], k: usize) -> &'a [u8]
     requires { ⌜ Lies (now bytes) (now starts) k ⌝ }
     ensures { λ r. ⌜ now r ≡ wordOf (now (bytes .entry)) (now (starts .entry)) k ⌝ }
 {
-    let from = wide(starts[k]);
-    let to = wide(starts[k + 1]);
+    let from = ascii::wide16(starts[k]);
+    let to = ascii::wide16(starts[k + 1]);
     &bytes[from..to]
 }
 

@@ -1,7 +1,7 @@
 -- `words::first_passing` meets its contract.
 -- Assumes nothing.
 use Prim.Native.Nat.{_-_}
-use Rattle.words.specs.Run.{passesAt}
+use Rattle.words.specs.RunHelpers.{passesAt}
 use Rattle.words.proofs.Search.{Sought, sought-start, sought-lies, sought-found, sought-turn, sought-end}
 use borrow.Author.Needs.{needs}
 use Rattle.words.proofs.first_passing.Statement.{statement}

@@ -1,4 +1,4 @@
--- The two tables of words that are lent to crunching, and what makes them document 01's lists. Only contracts of helpers cite this page.
+-- For the helpers that are lent the two tables of words, and for no promise of a public call: what makes the tables document 01's lists.
 -- Assumes nothing.
 use Prim.Native.Nat.{ℕ, zero, suc, _+_, _-_, _≤_, _<_}
 use mathlib.Core.Path.{_≡_}
@@ -7,7 +7,7 @@ use lib.ListN.{length, getD}
 use Rattle.words.specs.Find.{Entry}
 use Rattle.words.specs.declared.Match.{Match}
 use Rattle.words.specs.declared.Match.the-variants.{Word}
-use Rattle.words.specs.Run.{Lies, Stored, wordOf}
+use Rattle.words.specs.RunHelpers.{Lies, Stored, wordOf}
 use Rattle.tables.specs.Rom.{v2Words, operators}
 use Rattle.tables.specs.Tsb.{tsbWords}
 use Rattle.tables.specs.Escapes.{escapeNames}

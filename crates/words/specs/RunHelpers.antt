@@ -1,5 +1,6 @@
--- A list of words as it is stored: one run of bytes, with a start for each word and one behind the last (document 01, "Crunching one
--- body": "one run of bytes, several hundred long, with starts and tokens beside it"). Only contracts of helpers cite this page.
+-- For the helpers that search stored words, and for no promise of a public call: a list of words as one run of bytes, with a start for
+-- each word and one behind the last (document 01, "Crunching one body": "one run of bytes, several hundred long, with starts and tokens
+-- beside it").
 -- Assumes nothing.
 use Prim.Native.Nat.{ℕ, zero, suc, _+_, _-_, _≤_, _<_}
 use mathlib.Core.Bool.{Bool, true, false}
