@@ -11,10 +11,10 @@ use borrow.Author.Tests.{le-ltb}
 use Rattle.ascii.specs.Bytes.{between, isDigit, isLetter, isSpace, upper}
 use Rattle.ascii.specs.Trim.{trim, leading, solid, countsWith}
 use Rattle.ascii.proofs.Ranges.{between-in}
-use Rattle.escapes.specs.Numbers.{digitOf, numberAfter, numberOf, unsigned, countOf, lastFrom, lastOf, countable}
+use Rattle.escapes.specs.Numbers.{digitOf, numberAfter, numberOf, unsigned, countOf}
+use Rattle.escapes.specs.NumbersHelpers.{lastFrom, lastOf, countable}
 use Rattle.escapes.specs.declared.numbers.Number.the-variants.{Missing}
-use Rattle.escapes.proofs.Numbering.{digit-letter, digit-none}
-use Rattle.escapes.proofs.Placing.{tail-is}
+use Rattle.escapes.proofs.Numbering.{digit-letter, digit-none, tail-is}
 
 -- ---- the last byte
 
@@ -42,8 +42,8 @@ no-digit : (b : ℕ) → isDigit b ≡ false → 10 ≤ digitOf b
 no-digit b e = go (isLetter b) refl
   where
     go : (r : Bool) → isLetter b ≡ r → 10 ≤ digitOf b
-    go true f = omega (arith, between-in 65 90 (upper b) f, digit-letter b e f)
-    go false f = omega (arith, digit-none b e f)
+    go true f = omega (arith, between-in 65 90 (upper b) f, digit-letter b refl f refl e refl)
+    go false f = omega (arith, digit-none b f refl e refl)
 
 unended : (limit n b : ℕ) (s : List ℕ) → isDigit (lastFrom b s) ≡ false → numberAfter 10 limit n (b ∷ s) ≡ Missing
 unfolding numberAfter lastFrom
@@ -77,9 +77,9 @@ last-unsigned (b ∷ s) e = go (eqb b 43)
     go true = last-drop isDigit zero-no-digit 1 (b ∷ s) e
     go false = e
 
-no-count : (s : List ℕ) → isDigit (lastOf s) ≡ false → countOf s ≡ 0
+no-count : (s : List ℕ) → isDigit (lastOf s) ≡ false → countOf s ≡ Missing
 unfolding countOf
-no-count s e = rw (countOf, no-number (2 ^ 64 - 1) (unsigned s) (last-unsigned s e))
+no-count s e = no-number (2 ^ 64 - 1) (unsigned s) (last-unsigned s e)
 
 -- ---- no white space at the end to trim
 
@@ -99,7 +99,7 @@ neither : (a b : Bool) → (a || b) ≡ false → (a ≡ false) × (b ≡ false)
 neither true b e = absurd (false≢true (sym e))
 neither false b e = (refl, e)
 
-pub uncounted : (t : List ℕ) → countable t ≡ false → (k : ℕ) → countOf (trim (drop k t)) ≡ 0
+pub uncounted : (t : List ℕ) → countable t ≡ false → (k : ℕ) → countOf (trim (drop k t)) ≡ Missing
 unfolding countable
 uncounted t u k =
     let n = neither (isDigit (lastOf t)) (isSpace (lastOf t)) u in
@@ -115,14 +115,14 @@ unfolding countable lastOf between
 countable-empty [] e = refl
 countable-empty (b ∷ t) e = absurd (omega arith)
 
-module _ (t : List ℕ) {d : Bool} (p : d ≡ isDigit (getD t (length t - 1) 0)) where
-  is-digit : d ≡ isDigit (lastOf t)
-  is-digit = p ∙ ap isDigit (last-is t)
+module _ (t : List ℕ) {d : Bool} where
+  is-digit : d ≡ isDigit (getD t (length t - 1) 0) → d ≡ isDigit (lastOf t)
+  is-digit p = p ∙ ap isDigit (last-is t)
 
-  pub countable-digit : d ≡ true → true ≡ countable t
+  pub countable-digit : d ≡ true → d ≡ isDigit (getD t (length t - 1) 0) → true ≡ countable t
   unfolding countable
-  countable-digit e = rw (sym is-digit ∙ e)
+  countable-digit e p = rw (sym (is-digit p) ∙ e)
 
-  pub countable-space : d ≡ false → {r : Bool} → r ≡ isSpace (getD t (length t - 1) 0) → r ≡ countable t
+  pub countable-space : {r : Bool} → r ≡ isSpace (getD t (length t - 1) 0) → d ≡ false → d ≡ isDigit (getD t (length t - 1) 0) → r ≡ countable t
   unfolding countable
-  countable-space e q = rw (sym is-digit ∙ e) (q ∙ ap isSpace (last-is t))
+  countable-space q e p = rw (sym (is-digit p) ∙ e) (q ∙ ap isSpace (last-is t))

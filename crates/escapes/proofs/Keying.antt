@@ -2,65 +2,76 @@
 -- Assumes nothing.
 use Prim.Native.Nat.{ℕ, zero, suc, _+_, _-_, _%_, _≤_, _<_, min}
 use mathlib.Core.Path.{_≡_, refl, sym, ap, _∙_}
-use mathlib.Core.Bool.{Bool, true, false, _&&_}
-use mathlib.Core.List.{List, [], _∷_}
+use mathlib.Core.Bool.{Bool, true, false, not, _&&_}
+use mathlib.Core.List.{List, [], _∷_, map}
+use mathlib.Core.Option.{Option, none, some}
 use native.Mathlib.Decide.{decLe}
 use native.Mathlib.Numerals.{add-one}
 use native.Mathlib.Omega.{arith}
 use lib.ListN.{length, getD, take, drop, drop-of-length-le}
 use lib.Seq.{length-take-le}
 use lib.Dec.{T, eqb, ltb, ltb→lt}
-use borrow.Author.Tests.{ne-eqb}
+use borrow.Author.Tests.{ne-eqb, not-true, not-false}
 use Rattle.ascii.specs.Bytes.{isDigit, isLetter, upper}
+use Rattle.ascii.specs.Search.{isMark, before}
+use Rattle.ascii.proofs.Searching.{before-le, before-take}
 use Rattle.ascii.specs.Trim.{trim, leading, solid}
 use Rattle.words.specs.Compare.{alike}
-use Rattle.words.specs.Find.{Entry, firstThat, nameIn}
-use Rattle.words.specs.declared.Match.{Match}
-use Rattle.words.specs.declared.Match.the-variants.{Word, Nothing}
+use Rattle.words.specs.Find.{Name, meaning}
+use Rattle.words.specs.RunHelpers.{passesAt, firstFrom}
+use Rattle.words.specs.declared.Test.the-variants.{Alike}
+use Rattle.words.proofs.Storing.{spellsNames, name-means, name-unknown}
 use Rattle.words.proofs.Search.{and-left, and-right}
 use Rattle.tables.specs.Escapes.{cbmLetters, ctrlDigits}
-use Rattle.escapes.specs.Places.{isMark, before}
 use Rattle.escapes.specs.Keys.{keyNames, controlByte, keyWith, keyed, keyEscape}
+use Rattle.escapes.specs.declared.keys.Key.{Key}
+use Rattle.escapes.specs.declared.keys.Key.the-variants.{Control, Commodore, Shift}
+use Rattle.escapes.specs.declared.Escape.{Escape}
 use Rattle.escapes.specs.declared.Escape.the-variants.{Byte, Unknown}
-use Rattle.escapes.proofs.Placing.{tail-is, before-le, before-within, before-beyond}
+use Rattle.escapes.proofs.Numbering.{tail-is}
 
 -- ---- what a key gives with a byte
 
+module _ (b : ℕ) {d : Bool} where
+  pub control-digit : {k w : ℕ} → k ≡ getD ctrlDigits w 0 → w ≡ b - 48 → d ≡ true → d ≡ isDigit b → k ≡ controlByte b
+  unfolding controlByte
+  control-digit q v e p = q ∙ rw v (simp (sym p ∙ e))
+
+  module _ {l : Bool} where
+    pub control-letter : {u : ℕ} → u ≡ upper b → l ≡ true → l ≡ isLetter b → d ≡ false → d ≡ isDigit b → u - 64 ≡ controlByte b
+    unfolding controlByte
+    control-letter v f q e p = simp (sym p ∙ e, sym q ∙ f, v)
+
+    pub control-other : l ≡ false → l ≡ isLetter b → d ≡ false → d ≡ isDigit b → b % 32 ≡ controlByte b
+    unfolding controlByte
+    control-other f q e p = simp (sym p ∙ e, sym q ∙ f)
+
 module _ (b : ℕ) where
-  pub control-digit : isDigit b ≡ true → getD ctrlDigits (b - 48) 0 ≡ controlByte b
-  unfolding controlByte
-  control-digit e = simp e
-
-  pub control-letter : isDigit b ≡ false → isLetter b ≡ true → upper b - 64 ≡ controlByte b
-  unfolding controlByte
-  control-letter e f = simp (e, f)
-
-  pub control-other : isDigit b ≡ false → isLetter b ≡ false → b % 32 ≡ controlByte b
-  unfolding controlByte
-  control-other e f = simp (e, f)
-
-  module _ (count : ℕ) where
-    pub with-control : (key : ℕ) → key ≡ 0 → Byte (controlByte b) count ≡ keyWith key b count
+  module _ (count : ℕ) {r : Bool} where
+    pub commodore-other : not r ≡ true → r ≡ isLetter b → Unknown ≡ keyWith Commodore b count
     unfolding keyWith
-    with-control key e = rw e
+    commodore-other n e = rw (keyWith, sym e ∙ not-true r n)
 
-    pub with-other : (key : ℕ) → (key ≡ 0 → ⊥) → isLetter b ≡ false → Unknown ≡ keyWith key b count
+    pub commodore-letter : {k u w : ℕ} → k ≡ getD cbmLetters w 0 → w ≡ u - 65 → u ≡ upper b → not r ≡ false → r ≡ isLetter b → Byte k count ≡ keyWith Commodore b count
     unfolding keyWith
-    with-other zero n e = absurd (n refl)
-    with-other (suc zero) n e = rw (keyWith, e)
-    with-other (suc (suc k)) n e = rw (keyWith, e)
+    commodore-letter p q v n e = rw (keyWith, sym e ∙ not-false r n, p, q, v)
 
-    pub with-commodore : (key : ℕ) → key ≡ 1 → isLetter b ≡ true → Byte (getD cbmLetters (upper b - 65) 0) count ≡ keyWith key b count
+    pub shift-other : not r ≡ true → r ≡ isLetter b → Unknown ≡ keyWith Shift b count
     unfolding keyWith
-    with-commodore key k e = rw (k, keyWith, e)
+    shift-other n e = rw (keyWith, sym e ∙ not-true r n)
 
-    pub with-shift : (key : ℕ) → (key ≡ 0 → ⊥) → (key ≡ 1 → ⊥) → isLetter b ≡ true → Byte (0xC0 + (upper b - 64)) count ≡ keyWith key b count
+    pub shift-letter : {u : ℕ} → u ≡ upper b → not r ≡ false → r ≡ isLetter b → Byte (0xC0 + (u - 64)) count ≡ keyWith Shift b count
     unfolding keyWith
-    with-shift zero n m e = absurd (n refl)
-    with-shift (suc zero) n m e = absurd (m refl)
-    with-shift (suc (suc k)) n m e = rw (keyWith, e)
+    shift-letter v n e = rw (keyWith, sym e ∙ not-false r n, v)
 
 -- ---- a name split at its first mark
+
+-- the parts of a name that are lent are as long as they must be
+pub reach-taken : (name : List ℕ) {reach : ℕ} → reach ≡ min (length name) 8 → reach ≡ length (take reach name)
+reach-taken name {reach} r = sym (length-take-le reach name (omega arith))
+
+pub mark-taken : (name : List ℕ) {mark reach : ℕ} → mark < reach → reach ≡ min (length name) 8 → mark ≡ length (take mark name)
+mark-taken name {mark} h r = sym (length-take-le mark name (omega arith))
 
 keyed-other : (prefix arg : List ℕ) (count : ℕ) → (length arg ≡ 1 → ⊥) → Unknown ≡ keyed prefix arg count
 unfolding keyed
@@ -68,28 +79,32 @@ keyed-other prefix [] count n = refl
 keyed-other prefix (b ∷ []) count n = absurd (n refl)
 keyed-other prefix (b ∷ c ∷ s) count n = refl
 
+keyed-none : (prefix rest : List ℕ) (count : ℕ) → rest ≡ [] → Unknown ≡ keyed prefix (trim rest) count
+unfolding keyed trim leading solid
+keyed-none prefix rest count e = rw e
+
 keyed-one : (prefix arg : List ℕ) (count : ℕ) → length arg ≡ 1 → keyed prefix arg count ≡ keyed prefix (getD arg 0 0 ∷ []) count
 keyed-one prefix [] count e = absurd (omega arith)
 keyed-one prefix (b ∷ []) count e = refl
 keyed-one prefix (b ∷ c ∷ s) count e = absurd (omega arith)
 
--- a text that has more bytes than each word of a list is none of them
-shorter : ℕ → List Entry → Bool
+-- a text that has more bytes than each name of a list is none of them
+shorter : {A : Type 0} → ℕ → List (Name A) → Bool
 shorter n [] = true
-shorter n (e ∷ es) = ltb (length (e .word)) n && shorter n es
+shorter n (x ∷ ns) = ltb (length (x .name)) n && shorter n ns
 
-long-unnamed : (t : List ℕ) (n : ℕ) → n ≤ length t → (es : List Entry) (k : ℕ) → T (shorter n es) → firstThat (λ i w. alike w t) es k ≡ Nothing
-unfolding firstThat alike shorter
-long-unnamed t n h [] k s = refl
-long-unnamed t n h (e ∷ es) k s =
-    let less : length (e .word) < n = ltb→lt _ _ (and-left (ltb (length (e .word)) n) _ s) in
-    let other : eqb (length (e .word)) (length t) ≡ false = ne-eqb (length (e .word)) (length t) (λ (q : length (e .word) ≡ length t). omega arith) in
-    rw (firstThat, other) (long-unnamed t n h es (suc k) (and-right (ltb (length (e .word)) n) _ s))
+long-unnamed : {A : Type 0} (t : List ℕ) (n : ℕ) → n ≤ length t → (ns : List (Name A)) → T (shorter n ns) → meaning ns t ≡ none
+unfolding meaning alike shorter
+long-unnamed t n h [] s = refl
+long-unnamed t n h (x ∷ ns) s =
+    let less : length (x .name) < n = ltb→lt _ _ (and-left (ltb (length (x .name)) n) _ s) in
+    let other : eqb (length (x .name)) (length t) ≡ false = ne-eqb (length (x .name)) (length t) (λ (q : length (x .name) ≡ length t). omega arith) in
+    rw (meaning, other) (long-unnamed t n h ns (and-right (ltb (length (x .name)) n) _ s))
 
 -- no prefix has more than seven bytes
-long-prefix : (prefix : List ℕ) → 8 ≤ length prefix → nameIn keyNames prefix ≡ Nothing
-unfolding nameIn shorter keyNames
-long-prefix prefix h = long-unnamed prefix 8 h keyNames 0 tt
+long-prefix : (prefix : List ℕ) → 8 ≤ length prefix → meaning keyNames prefix ≡ none
+unfolding shorter keyNames
+long-prefix prefix h = long-unnamed prefix 8 h keyNames tt
 
 keyed-long : (prefix arg : List ℕ) (count : ℕ) → 8 ≤ length prefix → Unknown ≡ keyed prefix arg count
 unfolding keyed
@@ -97,58 +112,55 @@ keyed-long prefix [] count h = refl
 keyed-long prefix (b ∷ []) count h = rw (keyed, long-prefix prefix h)
 keyed-long prefix (b ∷ c ∷ s) count h = refl
 
-module _ (name : List ℕ) (count : ℕ) {mark : ℕ} (m : mark ≡ before isMark name) where
-  split : keyed (take mark name) (trim (drop (mark + 1) name)) count ≡ keyEscape name count
-  unfolding keyEscape
-  split = rw (add-one, m)
-
-  pub key-unmarked : length name ≤ mark → Unknown ≡ keyEscape name count
-  unfolding keyed trim leading solid
-  key-unmarked h =
-      let e : drop (mark + 1) name ≡ [] = drop-of-length-le name {i = mark + 1} (omega arith) in
-      keyed-other (take mark name) (trim (drop (mark + 1) name)) count (λ z. absurd (omega (arith, z, rw e at z))) ∙ split
-
-  module _ {arg : List ℕ} (t : arg ≡ trim (take (length name - (mark + 1)) (drop (mark + 1) name))) where
-    whole : arg ≡ trim (drop (mark + 1) name)
-    whole = t ∙ ap trim (tail-is (mark + 1) name)
-
-    pub key-long : (length arg ≡ 1 → ⊥) → Unknown ≡ keyEscape name count
-    key-long n = keyed-other (take mark name) arg count n ∙ ap (λ (a : List ℕ). keyed (take mark name) a count) whole ∙ split
-
-    module _ {r : Match} (one : length arg ≡ 1) (f : r ≡ nameIn keyNames (take mark name)) where
-      found : keyed (take mark name) (getD arg 0 0 ∷ []) count ≡ keyEscape name count
-      found = sym (keyed-one (take mark name) arg count one) ∙ ap (λ (a : List ℕ). keyed (take mark name) a count) whole ∙ split
-
-      pub key-found : {i u key : ℕ} → r ≡ Word i u key → keyWith key (getD arg 0 0) count ≡ keyEscape name count
-      unfolding keyed
-      key-found {i} {u} {key} e =
-          let g : keyed (take mark name) (getD arg 0 0 ∷ []) count ≡ keyWith key (getD arg 0 0) count = rw (keyed, sym f ∙ e) in
-          sym g ∙ found
-
-      pub key-missing : r ≡ Nothing → Unknown ≡ keyEscape name count
-      unfolding keyed
-      key-missing e =
-          let g : keyed (take mark name) (getD arg 0 0 ∷ []) count ≡ Unknown = rw (keyed, sym f ∙ e) in
-          sym g ∙ found
-
-module _ (name : List ℕ) (count : ℕ) {mark reach : ℕ} (r : reach ≡ min (length name) 8) (m : mark ≡ before isMark (take reach name)) where
-  reached : length (take reach name) ≡ reach
-  reached = length-take-le reach name (omega arith)
-
+module _ (name : List ℕ) (count : ℕ) {mark reach : ℕ} where
   -- the mark that is found among the first eight bytes is the first one
-  pub key-marked : mark < reach → mark ≡ before isMark name
-  key-marked h = m ∙ before-within isMark reach name (omega (arith, reached))
+  marked : mark < reach → mark ≡ before isMark (take reach name) → mark ≡ before isMark name
+  marked h m = omega (arith, before-take isMark reach name)
 
   -- where there is none among them, the prefix is too long, or there is no mark
-  pub key-unreached : reach ≤ mark → Unknown ≡ keyEscape name count
+  pub key-unreached : reach ≤ mark → mark ≡ before isMark (take reach name) → reach ≡ min (length name) 8 → Unknown ≡ keyEscape name count
   unfolding keyEscape
-  key-unreached h = go (decLe (length name) 7)
+  key-unreached h m r = go (decLe (length name) 7)
     where
       beyond : reach ≤ before isMark name
-      beyond = before-beyond isMark reach name (omega arith)
+      beyond = omega (arith, before-take isMark reach name)
 
       go : Dec (length name ≤ 7) → Unknown ≡ keyEscape name count
-      go (yes s) = key-unmarked name count refl (omega (arith, beyond))
+      go (yes s) =
+          keyed-none (take (before isMark name) name) (drop (suc (before isMark name)) name) count
+          (drop-of-length-le name {i = suc (before isMark name)} (omega (arith, beyond)))
       go (no l) =
           keyed-long (take (before isMark name) name) (trim (drop (suc (before isMark name)) name)) count
           (omega (arith, beyond, length-take-le (before isMark name) name (before-le isMark name)))
+
+  module _ {arg : List ℕ} where
+    -- a prefix of a name that is split at its mark, and what follows the mark, trimmed
+    split : arg ≡ trim (take (length name - (mark + 1)) (drop (mark + 1) name)) → mark < reach → mark ≡ before isMark (take reach name)
+        → keyed (take mark name) arg count ≡ keyEscape name count
+    unfolding keyEscape
+    split a h m = rw (a, tail-is (mark + 1) name, add-one, marked h m)
+
+    pub key-long : (length arg ≡ 1 → ⊥) → arg ≡ trim (take (length name - (mark + 1)) (drop (mark + 1) name)) → mark < reach → mark ≡ before isMark (take reach name)
+        → Unknown ≡ keyEscape name count
+    key-long n a h m = keyed-other (take mark name) arg count n ∙ split a h m
+
+    -- the prefix is looked for among those stored
+    module _ (b s : List ℕ) {r : ℕ} where
+      pub key-known : {e : Escape} → e ≡ keyWith (getD (map (λ k. k .means) keyNames) r Control) (getD arg 0 0) count → r < 7
+          → r ≡ firstFrom (passesAt Alike (take mark name) b s) 0 (7 - 0) → length arg ≡ 1
+          → arg ≡ trim (take (length name - (mark + 1)) (drop (mark + 1) name)) → mark < reach → mark ≡ before isMark (take reach name)
+          → T (spellsNames b s 0 keyNames) → e ≡ keyEscape name count
+      unfolding keyed keyNames
+      key-known e h f one a l m spelt =
+          e ∙ sym (ap (λ (k : Option Key). elim k as (λ _. Escape) [ some key ↦ keyWith key (getD arg 0 0) count | none ↦ Unknown ])
+          (sym (name-means b s (take mark name) keyNames spelt f Control h)))
+          ∙ sym (keyed-one (take mark name) arg count one) ∙ split a l m
+
+      pub key-unknown : 7 ≤ r → r ≡ firstFrom (passesAt Alike (take mark name) b s) 0 (7 - 0) → length arg ≡ 1
+          → arg ≡ trim (take (length name - (mark + 1)) (drop (mark + 1) name)) → mark < reach → mark ≡ before isMark (take reach name)
+          → T (spellsNames b s 0 keyNames) → Unknown ≡ keyEscape name count
+      unfolding keyed keyNames
+      key-unknown h f one a l m spelt =
+          ap (λ (k : Option Key). elim k as (λ _. Escape) [ some key ↦ keyWith key (getD arg 0 0) count | none ↦ Unknown ])
+          (name-unknown b s (take mark name) keyNames spelt f h)
+          ∙ sym (keyed-one (take mark name) arg count one) ∙ split a l m

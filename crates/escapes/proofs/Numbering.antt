@@ -7,30 +7,40 @@ use mathlib.Core.List.{List, [], _∷_}
 use native.Mathlib.Nat.{le-mul-of-pos-right, le-div-iff-mul-le, div-lt-iff-lt-mul}
 use native.Mathlib.Numerals.{add-one}
 use native.Mathlib.Omega.{arith}
-use lib.ListN.{length, getD, take, drop, drop-of-length-le}
-use lib.Seq.{drop-cons}
+use lib.ListN.{length, getD, take, drop, drop-of-length-le, length-drop}
+use lib.Seq.{drop-cons, take-all}
 use lib.Dec.{leb, ltb, eqb}
 use borrow.Author.Tests.{lt-ltb, le-ltb, le-leb, lt-leb, leb-true, eq-eqb, ne-eqb}
+use mir.Syntax.{w8}
+use mir.Val.{Fits}
 use Rattle.ascii.specs.Bytes.{isDigit, isLetter, upper}
 use Rattle.escapes.specs.Numbers.{digitOf, numberAfter, numberOf, hexOf, unsigned, countOf}
 use Rattle.escapes.specs.declared.numbers.Number.{Number}
 use Rattle.escapes.specs.declared.numbers.Number.the-variants.{Value, Missing}
-use Rattle.escapes.proofs.Placing.{tail-is}
+
+-- a place of a function, named by its type
+abbrev pub the : (A : Type 0) → A → A
+the A a = a
+
+-- the part of a text from a place up to its end, as it is lent
+pub tail-is : (a : ℕ) (s : List ℕ) → take (length s - a) (drop a s) ≡ drop a s
+tail-is a s = take-all (length s - a) (drop a s) (omega (arith, length-drop a s))
 
 -- ---- a digit
 
-module _ (b : ℕ) where
-  pub digit-decimal : isDigit b ≡ true → b - 48 ≡ digitOf b
+module _ (b : ℕ) {d : Bool} where
+  pub digit-decimal : d ≡ true → d ≡ isDigit b → b - 48 ≡ digitOf b
   unfolding digitOf
-  digit-decimal e = simp e
+  digit-decimal e p = simp (sym p ∙ e)
 
-  pub digit-letter : isDigit b ≡ false → isLetter b ≡ true → upper b - 55 ≡ digitOf b
-  unfolding digitOf
-  digit-letter e f = simp (e, f)
+  module _ {l : Bool} where
+    pub digit-letter : {u : ℕ} → u ≡ upper b → l ≡ true → l ≡ isLetter b → d ≡ false → d ≡ isDigit b → u - 55 ≡ digitOf b
+    unfolding digitOf
+    digit-letter v f q e p = simp (sym p ∙ e, sym q ∙ f, v)
 
-  pub digit-none : isDigit b ≡ false → isLetter b ≡ false → 36 ≡ digitOf b
-  unfolding digitOf
-  digit-none e f = simp (e, f)
+    pub digit-none : l ≡ false → l ≡ isLetter b → d ≡ false → d ≡ isDigit b → 36 ≡ digitOf b
+    unfolding digitOf
+    digit-none f q e p = simp (sym p ∙ e, sym q ∙ f)
 
 -- ---- digits one after the other
 
@@ -62,40 +72,40 @@ unfolding numberOf
 number-empty base limit [] h = refl
 number-empty base limit (b ∷ s) h = absurd (omega arith)
 
-module _ {base limit : ℕ} {s : List ℕ} {w : Number} {n i : ℕ} (k : Made base limit s w n i) where
-  pub made-end : length s ≤ i → Value n ≡ w
+pub made-fits : {base limit n d : ℕ} → n ≤ (limit - d) / base → d < base → (0 < base) × (base ≤ limit) → n * base + d ≤ limit
+made-fits {base} {limit} {n} {d} o l p = let f : n * base ≤ limit - d = le-div-iff-mul-le (p .0) .0 o in omega (arith, p .1)
+
+module _ {base limit : ℕ} {s : List ℕ} {w : Number} {n i : ℕ} where
+  pub made-end : length s ≤ i → Made base limit s w n i → Value n ≡ w
   unfolding numberAfter
-  made-end h =
+  made-end h k =
       let e : numberAfter base limit n (drop i s) ≡ Value n = rw (drop-of-length-le s h, numberAfter, le-leb _ _ (k .low)) in
       sym e ∙ k .gives
 
-  module _ {d : ℕ} (h : i < length s) (q : d ≡ digitOf (getD s i 0)) where
-    pub made-other : base ≤ d → Missing ≡ w
+  module _ {d : ℕ} where
+    pub made-other : base ≤ d → d ≡ digitOf (getD s i 0) → i < length s → Made base limit s w n i → Missing ≡ w
     unfolding numberAfter
-    made-other l =
+    made-other l q h k =
         let f : base ≤ digitOf (getD s i 0) = rw q at l in
         let e : numberAfter base limit n (drop i s) ≡ Missing = rw (drop-cons s i 0 h, numberAfter, le-ltb _ _ f) in
         sym e ∙ k .gives
 
-    next : d < base → numberAfter base limit (n * base + d) (drop (i + 1) s) ≡ w
+    next : d < base → d ≡ digitOf (getD s i 0) → i < length s → Made base limit s w n i → numberAfter base limit (n * base + d) (drop (i + 1) s) ≡ w
     unfolding numberAfter
-    next l =
+    next l q h k =
         let f : digitOf (getD s i 0) < base = rw q at l in
         let e : numberAfter base limit n (drop i s) ≡ numberAfter base limit (n * base + d) (drop (i + 1) s) =
         rw (add-one, drop-cons s i 0 h, numberAfter, lt-ltb _ _ f, q) in
         sym e ∙ k .gives
 
-    module _ (p : 0 < base) (m : base ≤ limit) (l : d < base) where
-      pub made-over : (limit - d) / base < n → Missing ≡ w
-      made-over o =
-          let f : limit - d < n * base = div-lt-iff-lt-mul p .0 o in
-          sym (over base limit p (drop (i + 1) s) (n * base + d) (omega arith)) ∙ next l
+    pub made-over : (limit - d) / base < n → d < base → d ≡ digitOf (getD s i 0) → i < length s → Made base limit s w n i → (0 < base) × (base ≤ limit) → Missing ≡ w
+    made-over o l q h k p =
+        let f : limit - d < n * base = div-lt-iff-lt-mul (p .0) .0 o in
+        sym (over base limit (p .0) (drop (i + 1) s) (n * base + d) (omega (arith, p .1))) ∙ next l q h k
 
-      pub made-fits : n ≤ (limit - d) / base → n * base + d ≤ limit
-      made-fits o = let f : n * base ≤ limit - d = le-div-iff-mul-le p .0 o in omega arith
-
-      pub made-turn : n ≤ (limit - d) / base → Made base limit s w (n * base + d) (i + 1)
-      made-turn o = record { within = omega arith; low = made-fits o; gives = next l }
+    pub made-turn : n ≤ (limit - d) / base → d < base → d ≡ digitOf (getD s i 0) → i < length s → Made base limit s w n i → (0 < base) × (base ≤ limit)
+        → Made base limit s w (n * base + d) (i + 1)
+    made-turn o l q h k p = record { within = omega arith; low = made-fits o l p; gives = next l q h k }
 
 -- a number that was found is within the limit
 within-after : (base limit : ℕ) (s : List ℕ) (n v : ℕ) → numberAfter base limit n s ≡ Value v → v ≤ limit
@@ -112,10 +122,14 @@ within-after base limit (b ∷ s) n v e = go (ltb (digitOf b) base) e (within-af
     go true g f = f g
     go false g f = let z : _≡_ {A = ℕ} 0 1 = cc in absurd (omega arith)
 
-pub number-within : (base limit : ℕ) (s : List ℕ) {v : ℕ} → Value v ≡ numberOf base limit s → v ≤ limit
+number-within : (base limit : ℕ) (s : List ℕ) {v : ℕ} → Value v ≡ numberOf base limit s → v ≤ limit
 unfolding numberOf
 number-within base limit [] e = let z : _≡_ {A = ℕ} 0 1 = cc in absurd (omega arith)
 number-within base limit (b ∷ s) {v} e = within-after base limit (b ∷ s) 0 v (sym e)
+
+-- so the byte that a name of digits gives is one
+pub decimal-byte : (s : List ℕ) {v : ℕ} {r : Number} → r ≡ Value v → r ≡ numberOf 10 255 s → Fits w8 v
+decimal-byte s f e = record { fits = omega (arith, number-within 10 255 s (sym f ∙ e)) }
 
 -- ---- a $ in front
 
@@ -129,12 +143,12 @@ unfolding hexOf
 hex-other [] h = refl
 hex-other (b ∷ s) h = rw (hexOf, ne-eqb b 36 h)
 
-pub hex-digits : (s : List ℕ) (r : Number) → 0 < length s → getD s 0 0 ≡ 36 → r ≡ numberOf 16 255 (take (length s - 1) (drop 1 s)) → r ≡ hexOf s
+pub hex-digits : (s : List ℕ) {r : Number} → r ≡ numberOf 16 255 (take (length s - 1) (drop 1 s)) → getD s 0 0 ≡ 36 → (length s ≡ 0 → ⊥) → r ≡ hexOf s
 unfolding hexOf
-hex-digits [] r l h e = absurd (omega arith)
-hex-digits (b ∷ s) r l h e = rw (hexOf, eq-eqb b 36 h) (e ∙ ap (numberOf 16 255) (tail-is 1 (b ∷ s)))
+hex-digits [] e h l = absurd (l refl)
+hex-digits (b ∷ s) e h l = rw (hexOf, eq-eqb b 36 h) (e ∙ ap (numberOf 16 255) (tail-is 1 (b ∷ s)))
 
-pub hex-within : (s : List ℕ) {v : ℕ} → Value v ≡ hexOf s → v ≤ 255
+hex-within : (s : List ℕ) {v : ℕ} → Value v ≡ hexOf s → v ≤ 255
 unfolding hexOf
 hex-within [] e = let z : _≡_ {A = ℕ} 0 1 = cc in absurd (omega arith)
 hex-within (b ∷ s) {v} e = go (eqb b 36) e
@@ -142,6 +156,9 @@ hex-within (b ∷ s) {v} e = go (eqb b 36) e
     go : (r : Bool) → Value v ≡ elim r [ true ↦ numberOf 16 255 s | false ↦ Missing ] → v ≤ 255
     go true f = number-within 16 255 s f
     go false f = let z : _≡_ {A = ℕ} 0 1 = cc in absurd (omega arith)
+
+pub hex-byte : (s : List ℕ) {v : ℕ} {r : Number} → r ≡ Value v → r ≡ hexOf s → Fits w8 v
+hex-byte s f e = record { fits = omega (arith, hex-within s (sym f ∙ e)) }
 
 -- ---- a + in front
 
@@ -155,18 +172,13 @@ unfolding unsigned
 plus-other [] h = refl
 plus-other (b ∷ s) h = rw (unsigned, ne-eqb b 43 h)
 
-pub plus-left-out : (s : List ℕ) → 0 < length s → getD s 0 0 ≡ 43 → take (length s - 1) (drop 1 s) ≡ unsigned s
+pub plus-left-out : (s : List ℕ) → getD s 0 0 ≡ 43 → (length s ≡ 0 → ⊥) → take (length s - 1) (drop 1 s) ≡ unsigned s
 unfolding unsigned
-plus-left-out [] l h = absurd (omega arith)
-plus-left-out (b ∷ s) l h = rw (unsigned, eq-eqb b 43 h) (tail-is 1 (b ∷ s))
+plus-left-out [] h l = absurd (l refl)
+plus-left-out (b ∷ s) h l = rw (unsigned, eq-eqb b 43 h) (tail-is 1 (b ∷ s))
 
 -- ---- a count
 
-module _ (s : List ℕ) {t : List ℕ} {r : Number} (u : t ≡ unsigned s) (e : r ≡ numberOf 10 (2 ^ 64 - 1) t) where
-  pub count-found : {n : ℕ} → r ≡ Value n → n ≡ countOf s
-  unfolding countOf
-  count-found f = rw (countOf, ← u, sym e ∙ f)
-
-  pub count-missing : r ≡ Missing → 0 ≡ countOf s
-  unfolding countOf
-  count-missing f = rw (countOf, ← u, sym e ∙ f)
+pub count-is : (s : List ℕ) {t : List ℕ} {r : Number} → r ≡ numberOf 10 (2 ^ 64 - 1) t → t ≡ unsigned s → r ≡ countOf s
+unfolding countOf
+count-is s e u = e ∙ ap (numberOf 10 (2 ^ 64 - 1)) u

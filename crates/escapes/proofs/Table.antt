@@ -3,15 +3,15 @@
 use Prim.Native.String.{String}
 use mathlib.Core.Path.{_≡_, refl}
 use Rattle.ascii.specs.Bytes.{between, upper}
+use Rattle.ascii.specs.Search.{before, last}
 use Rattle.ascii.specs.Trim.{trim, leading, solid, countsWith}
 use Rattle.words.specs.Compare.{begins, alike}
-use Rattle.words.specs.Find.{firstThat, nameIn}
+use Rattle.words.specs.Find.{firstThat, nameIn, meaning}
 use Rattle.tables.specs.Spelling.{bytesOf}
 use Rattle.tables.specs.Escapes.{escapeNames, cbmLetters, ctrlDigits}
-use Rattle.escapes.specs.Places.{before, further, behindLast}
 use Rattle.escapes.specs.Numbers.{digitOf, numberAfter, numberOf, hexOf, unsigned, countOf}
 use Rattle.escapes.specs.Keys.{keyNames, controlByte, keyWith, keyed, keyEscape}
-use Rattle.escapes.specs.Escape.{nameEscape, repeated, starred, escapeOf}
+use Rattle.escapes.specs.Escape.{nameEscape, repeated, starred, countedName, escapeOf}
 use Rattle.escapes.specs.declared.Escape.{Escape}
 use Rattle.escapes.specs.declared.Escape.the-variants.{Byte, Unknown}
 
@@ -59,5 +59,5 @@ pub escape-table :
     × ("light_red" gives Unknown)
     × ("re\"d" gives Unknown)
     × ("foo{red" gives Unknown)
-unfolding escapeOf starred repeated nameEscape keyEscape keyed keyWith controlByte keyNames countOf unsigned hexOf numberOf numberAfter digitOf behindLast further before escapeNames cbmLetters ctrlDigits nameIn firstThat alike begins trim leading solid countsWith upper between
+unfolding escapeOf countedName starred repeated nameEscape keyEscape keyed keyWith controlByte keyNames countOf unsigned hexOf numberOf numberAfter digitOf last before escapeNames cbmLetters ctrlDigits nameIn firstThat meaning alike begins trim leading solid countsWith upper between
 escape-table = (refl, refl, refl, refl, refl, refl, refl, refl, refl, refl, refl, refl, refl, refl, refl, refl, refl, refl, refl, refl, refl, refl, refl, refl, refl, refl, refl, refl, refl, refl, refl, refl, refl, refl, refl)

@@ -4,12 +4,14 @@ use Prim.Native.Nat.{ℕ, zero, suc}
 use mathlib.Core.List.{List, [], _∷_}
 use lib.ListN.{take, drop}
 use Rattle.ascii.specs.Trim.{trim}
+use Rattle.ascii.specs.Search.{equals, last}
+use Rattle.ascii.specs.declared.search.Found.the-variants.{At, Nowhere}
 use Rattle.words.specs.Find.{nameIn}
 use Rattle.words.specs.declared.Match.the-variants.{Word, Nothing}
 use Rattle.tables.specs.Escapes.{escapeNames}
-use Rattle.escapes.specs.Places.{equals, behindLast}
 use Rattle.escapes.specs.Numbers.{numberOf, hexOf, countOf}
 use Rattle.escapes.specs.Keys.{keyEscape}
+use Rattle.escapes.specs.declared.numbers.Number.{Number}
 use Rattle.escapes.specs.declared.numbers.Number.the-variants.{Value, Missing}
 use Rattle.escapes.specs.declared.Escape.{Escape}
 use Rattle.escapes.specs.declared.Escape.the-variants.{Byte, Unknown}
@@ -26,16 +28,28 @@ nameEscape (b ∷ s) count =
       ]
     ]
 
--- a text whose last * is its byte n, and the count behind that: without a count the whole is the name
-unfoldable pub repeated : List ℕ → ℕ → ℕ → Escape
-repeated t n zero = nameEscape t 1
-repeated t n (suc k) = nameEscape (trim (take n t)) (suc k)
+-- a name, and how often its byte is repeated
+pub record Counted : Type 0 where
+  pub name : List ℕ
+  pub count : ℕ
 
--- a text, and the place behind its last *
-unfoldable pub starred : List ℕ → ℕ → Escape
-starred t zero = nameEscape t 1
-starred t (suc n) = repeated t n (countOf (trim (drop (suc n) t)))
+-- a text with a * at place n, and the number behind it: a count above 0 repeats the trimmed name before the *, else the whole is the name
+unfoldable pub repeated : List ℕ → ℕ → Number → Counted
+repeated t n (Value zero) = record { name = t; count = 1 }
+repeated t n (Value (suc k)) = record { name = trim (take n t); count = suc k }
+repeated t n Missing = record { name = t; count = 1 }
+
+-- a text with a * at place n
+unfoldable pub starred : List ℕ → ℕ → Counted
+starred t n = repeated t n (countOf (trim (drop (suc n) t)))
+
+-- a trimmed text as a name and its count: it is split at its last *
+unfoldable pub countedName : List ℕ → Counted
+countedName t = elim (last (equals 42) t) [ At n ↦ starred t n | Nowhere ↦ record { name = t; count = 1 } ]
+
+abbrev pub countedEscape : Counted → Escape
+countedEscape c = nameEscape (c .name) (c .count)
 
 -- the inside of the braces
 unfoldable pub escapeOf : List ℕ → Escape
-escapeOf inside = starred (trim inside) (behindLast (equals 42) (trim inside))
+escapeOf inside = countedEscape (countedName (trim inside))

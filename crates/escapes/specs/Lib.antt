@@ -1,4 +1,4 @@
-pub mod Places
-pub mod Numbers
-pub mod Keys
 pub mod Escape
+pub mod Keys
+pub mod Numbers
+pub mod NumbersHelpers

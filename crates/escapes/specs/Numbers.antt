@@ -2,10 +2,10 @@
 -- up to 255"; "a count above 0 that fits 64 bits (a leading `+` is allowed)"). A number is taken by its value: leading zeros are free.
 -- Assumes nothing.
 use Prim.Native.Nat.{ℕ, _+_, _-_, _*_, _^_}
-use mathlib.Core.Bool.{Bool, true, false, cond, _||_}
+use mathlib.Core.Bool.{true, false, cond}
 use mathlib.Core.List.{List, [], _∷_}
 use lib.Dec.{leb, ltb, eqb}
-use Rattle.ascii.specs.Bytes.{isDigit, isLetter, isSpace, upper}
+use Rattle.ascii.specs.Bytes.{isDigit, isLetter, upper}
 use Rattle.escapes.specs.declared.numbers.Number.{Number}
 use Rattle.escapes.specs.declared.numbers.Number.the-variants.{Value, Missing}
 
@@ -34,22 +34,6 @@ unfoldable pub unsigned : List ℕ → List ℕ
 unsigned [] = []
 unsigned (b ∷ s) = elim (eqb b 43) [ true ↦ s | false ↦ b ∷ s ]
 
--- the count that a text is, where it is one above 0 that fits 64 bits; else 0
-unfoldable pub countOf : List ℕ → ℕ
-countOf t = elim (numberOf 10 (2 ^ 64 - 1) (unsigned t)) [ Value n ↦ n | Missing ↦ 0 ]
-
--- the last byte of one and those that follow it
-unfoldable pub lastFrom : ℕ → List ℕ → ℕ
-lastFrom b [] = b
-lastFrom b (c ∷ s) = lastFrom c s
-
--- the last byte of a text; 0 where it is empty
-unfoldable pub lastOf : List ℕ → ℕ
-unfolding lastFrom
-lastOf [] = 0
-lastOf (b ∷ s) = lastFrom b s
-
--- a count can stand at the end of a text: its last byte is a digit or white space
-unfoldable pub countable : List ℕ → Bool
-unfolding lastOf
-countable t = isDigit (lastOf t) || isSpace (lastOf t)
+-- a count: digits that fit 64 bits, a leading + allowed
+unfoldable pub countOf : List ℕ → Number
+countOf t = numberOf 10 (2 ^ 64 - 1) (unsigned t)

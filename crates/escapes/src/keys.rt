@@ -1,31 +1,41 @@
 // Escapes that name a key to be held, and one byte.
 use crate::Escape;
-use crate::places;
+use ascii::search;
+use ascii::search::Kind;
 use tables::keys;
-use words::Match;
+use words::Test;
 ghost use mathlib.Core.Path.{_≡_};
 ghost use Prim.Native.Nat.{_<_, min};
 ghost use Rattle.escapes.specs.Keys.{controlByte, keyWith, keyEscape};
+ghost use Rattle.escapes.specs.declared.keys.Key.the-variants.{Commodore, Shift};
+
+// A key that is held while another is pressed.
+pub enum Key {
+    Control,
+    Commodore,
+    Shift,
+}
 
 const KEY_BYTES: [u8; 28] = *b"ctrlcntrlcontrolcmcbmshshift";
 
 const KEY_STARTS: [u16; 8] = [0, 4, 9, 16, 18, 21, 23, 28];
 
-// 0 for the control key, 1 for the Commodore key, 2 for the shift key.
-const KEY_NUMBERS: [u8; 7] = *b"\x00\x00\x00\x01\x01\x02\x02";
-
-fn wide(b: u8) -> usize
-    ensures { λ r. ⌜ r ≡ b ⌝ }
-{
-    b as usize
-}
+const KEYS: [Key; 7] = [
+    Key::Control,
+    Key::Control,
+    Key::Control,
+    Key::Commodore,
+    Key::Commodore,
+    Key::Shift,
+    Key::Shift,
+];
 
 // What the control key gives with a byte.
 fn control_byte(b: u8) -> u8
     ensures { λ r. ⌜ r ≡ controlByte b ⌝ }
 {
     if ascii::is_digit(b) {
-        return keys::ctrl_digit_byte(wide(b - 48));
+        return keys::ctrl_digit_byte(ascii::wide(b - 48));
     }
     if ascii::is_letter(b) {
         return ascii::upper(b) - 64;
@@ -33,29 +43,43 @@ fn control_byte(b: u8) -> u8
     b % 32
 }
 
-// What a key gives with a byte.
-fn key_with(key: u8, b: u8, count: u64) -> Escape
-    ensures { λ r. ⌜ r ≡ keyWith key b count ⌝ }
+// What the Commodore key gives with a byte.
+fn commodore_with(b: u8, count: u64) -> Escape
+    ensures { λ r. ⌜ r ≡ keyWith Commodore b count ⌝ }
 {
-    if key == 0 {
-        return Escape::Byte {
-            byte: control_byte(b),
-            count,
-        };
-    }
     if !ascii::is_letter(b) {
         return Escape::Unknown;
     }
-    let letter = ascii::upper(b);
-    if key == 1 {
-        return Escape::Byte {
-            byte: keys::cbm_letter_byte(wide(letter - 65)),
-            count,
-        };
+    Escape::Byte {
+        byte: keys::cbm_letter_byte(ascii::wide(ascii::upper(b) - 65)),
+        count,
+    }
+}
+
+// What the shift key gives with a byte.
+fn shift_with(b: u8, count: u64) -> Escape
+    ensures { λ r. ⌜ r ≡ keyWith Shift b count ⌝ }
+{
+    if !ascii::is_letter(b) {
+        return Escape::Unknown;
     }
     Escape::Byte {
-        byte: 0xC0 + (letter - 64),
+        byte: 0xC0 + (ascii::upper(b) - 64),
         count,
+    }
+}
+
+// What a key gives with a byte.
+fn key_with(key: Key, b: u8, count: u64) -> Escape
+    ensures { λ r. ⌜ r ≡ keyWith key b count ⌝ }
+{
+    match key {
+        Key::Control => Escape::Byte {
+            byte: control_byte(b),
+            count,
+        },
+        Key::Commodore => commodore_with(b, count),
+        Key::Shift => shift_with(b, count),
     }
 }
 
@@ -74,7 +98,7 @@ pub fn key_escape(name: &[u8], count: u64) -> Escape
     ensures { λ r. ⌜ r ≡ keyEscape (now (name .entry)) count ⌝ }
 {
     let reach = at_most_eight(name.len());
-    let mark = places::before_mark(&name[..reach]);
+    let mark = search::before(&name[..reach], Kind::Mark);
     if reach <= mark {
         return Escape::Unknown;
     }
@@ -84,12 +108,9 @@ pub fn key_escape(name: &[u8], count: u64) -> Escape
         return Escape::Unknown;
     }
     let b = argument[0];
-    match words::first_name(&KEY_BYTES, &KEY_STARTS, &KEY_NUMBERS, &name[..mark]) {
-        Match::Word {
-            index: _,
-            used: _,
-            token,
-        } => key_with(token, b, count),
-        Match::Nothing => Escape::Unknown,
+    let k = words::first_passing(Test::Alike, &name[..mark], &KEY_BYTES, &KEY_STARTS, 0, 7);
+    if k < 7 {
+        return key_with(KEYS[k], b, count);
     }
+    Escape::Unknown
 }

@@ -1,15 +1,19 @@
 // What stands between braces in a string: a byte and how often it is repeated, or nothing known.
 use crate::numbers::Number;
+use ascii::search;
+use ascii::search::Found;
+use ascii::search::Kind;
 use tables::matching;
 use tables::spellings;
 use words::Match;
 ghost use mathlib.Core.Path.{_≡_};
-ghost use Rattle.tables.specs.Words.{SpellsWords};
-ghost use Rattle.escapes.specs.Escape.{escapeOf, nameEscape};
+ghost use Prim.Native.Nat.{_<_};
+ghost use lib.ListN.{length};
+ghost use Rattle.tables.specs.WordsHelpers.{SpellsWords};
+ghost use Rattle.escapes.specs.Escape.{escapeOf, nameEscape, countedEscape, starred};
 
 mod keys;
 mod numbers;
-pub mod places;
 
 pub enum Escape {
     Byte { byte: u8, count: u64 },
@@ -20,39 +24,45 @@ pub enum Escape {
 pub fn petscii_escape(inside: &[u8]) -> Escape
     ensures { λ r. ⌜ r ≡ escapeOf (now (inside .entry)) ⌝ }
 {
-    resolve_petscii_escape(
-        inside,
-        &spellings::WORD_BYTES,
-        &spellings::WORD_STARTS,
-        &spellings::WORD_TOKENS,
-    )
+    resolve_petscii_escape(inside, &spellings::WORD_BYTES, &spellings::WORD_INDEX)
 }
 
 // The same, with the tables lent.
-pub fn resolve_petscii_escape(inside: &[u8], bytes: &[u8], starts: &[u16], tokens: &[u8]) -> Escape
-    requires { ⌜ SpellsWords (now bytes) (now starts) (now tokens) ⌝ }
+pub fn resolve_petscii_escape(inside: &[u8], bytes: &[u8], index: &[u16]) -> Escape
+    requires { ⌜ SpellsWords (now bytes) (now index) ⌝ }
     ensures { λ r. ⌜ r ≡ escapeOf (now (inside .entry)) ⌝ }
 {
     let text = ascii::trim(inside);
     // A count ends in a digit: most escapes have none, and no `*` is looked for.
     if !numbers::may_end_in_count(text) {
-        return resolve_name(text, 1, bytes, starts, tokens);
+        return resolve_name(text, 1, bytes, index);
     }
-    let star = places::behind_last(text, b'*');
-    if star == 0 {
-        return resolve_name(text, 1, bytes, starts, tokens);
+    match search::last(text, Kind::Is(b'*')) {
+        Found::At(star) => resolve_starred(text, star, bytes, index),
+        Found::Nowhere => resolve_name(text, 1, bytes, index),
     }
-    let count = numbers::count_of(ascii::trim(&text[star..]));
-    if count == 0 {
-        return resolve_name(text, 1, bytes, starts, tokens);
+}
+
+// The escape of a text whose last `*` stands at a place.
+fn resolve_starred(text: &[u8], star: usize, bytes: &[u8], index: &[u16]) -> Escape
+    requires { ⌜ (star < length (now text)) × SpellsWords (now bytes) (now index) ⌝ }
+    ensures { λ r. ⌜ r ≡ countedEscape (starred (now (text .entry)) star) ⌝ }
+{
+    let from = star + 1;
+    match numbers::count_of(ascii::trim(&text[from..])) {
+        Number::Value(count) => {
+            if count == 0 {
+                return resolve_name(text, 1, bytes, index);
+            }
+            resolve_name(ascii::trim(&text[..star]), count, bytes, index)
+        }
+        Number::Missing => resolve_name(text, 1, bytes, index),
     }
-    let end = star - 1;
-    resolve_name(ascii::trim(&text[..end]), count, bytes, starts, tokens)
 }
 
 // The escape of a name without its count.
-fn resolve_name(name: &[u8], count: u64, bytes: &[u8], starts: &[u16], tokens: &[u8]) -> Escape
-    requires { ⌜ SpellsWords (now bytes) (now starts) (now tokens) ⌝ }
+fn resolve_name(name: &[u8], count: u64, bytes: &[u8], index: &[u16]) -> Escape
+    requires { ⌜ SpellsWords (now bytes) (now index) ⌝ }
     ensures { λ r. ⌜ r ≡ nameEscape (now (name .entry)) count ⌝ }
 {
     if name.len() == 0 {
@@ -68,7 +78,7 @@ fn resolve_name(name: &[u8], count: u64, bytes: &[u8], starts: &[u16], tokens: &
                 byte: v as u8,
                 count,
             },
-            Number::Missing => match matching::match_escape(bytes, starts, tokens, name) {
+            Number::Missing => match matching::match_escape(name, bytes, index) {
                 Match::Word {
                     index: _,
                     used: _,

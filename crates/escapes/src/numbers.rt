@@ -1,7 +1,8 @@
 // Numbers in an escape. A number that passes its limit is none, however many digits follow.
 ghost use mathlib.Core.Path.{_≡_};
 ghost use Prim.Native.Nat.{_≤_, _<_};
-ghost use Rattle.escapes.specs.Numbers.{digitOf, numberOf, hexOf, countOf, unsigned, countable};
+ghost use Rattle.escapes.specs.Numbers.{digitOf, numberOf, hexOf, countOf, unsigned};
+ghost use Rattle.escapes.specs.NumbersHelpers.{countable};
 
 pub enum Number {
     Value(u64),
@@ -13,18 +14,12 @@ fn digit_of(b: u8) -> u64
     ensures { λ r. ⌜ r ≡ digitOf b ⌝ }
 {
     if ascii::is_digit(b) {
-        return wide(b - 48);
+        return (b - 48) as u64;
     }
     if ascii::is_letter(b) {
-        return wide(ascii::upper(b) - 55);
+        return (ascii::upper(b) - 55) as u64;
     }
     36
-}
-
-fn wide(b: u8) -> u64
-    ensures { λ r. ⌜ r ≡ b ⌝ }
-{
-    b as u64
 }
 
 // The number that one or more digits make, if it is within the limit.
@@ -74,14 +69,11 @@ fn without_plus(s: &[u8]) -> &[u8]
     if s[0] == b'+' { &s[1..] } else { s }
 }
 
-// The count that a text is; 0 where it is none.
-pub fn count_of(s: &[u8]) -> u64
+// The count that a text is.
+pub fn count_of(s: &[u8]) -> Number
     ensures { λ r. ⌜ r ≡ countOf (now (s .entry)) ⌝ }
 {
-    match number_in(without_plus(s), 10, 0xFFFF_FFFF_FFFF_FFFF) {
-        Number::Value(n) => n,
-        Number::Missing => 0,
-    }
+    number_in(without_plus(s), 10, 0xFFFF_FFFF_FFFF_FFFF)
 }
 
 // Whether a count can stand at the end of a text: only where the last byte is a digit or white space.

@@ -4,7 +4,7 @@ use Prim.Native.Nat.{_-_}
 use native.Mathlib.Omega.{arith}
 use lib.ListN.{length}
 use Rattle.escapes.specs.Numbers.{numberOf}
-use Rattle.escapes.proofs.Numbering.{number-empty, Made, made-start, made-other, made-over, made-fits, made-turn, made-end}
+use Rattle.escapes.proofs.Numbering.{the, number-empty, Made, made-start, made-other, made-over, made-fits, made-turn, made-end}
 use borrow.Author.Needs.{needs}
 use Rattle.escapes.proofs.numbers.number_in.Statement.{statement}
 use Rattle.escapes.proofs.numbers.number_in.Tie as tie
@@ -16,10 +16,10 @@ abbrev μ-loop : tie.MeasureT-loop
 μ-loop s base limit n₀ i₀ n i = length s - i
 
 returns : tie.Need-returns Inv-loop μ-loop
-returns c = number-empty _ _ _ (c .if1 .taken)
+returns c = search number-empty
 
 loop-holds : tie.Need-loop-holds Inv-loop μ-loop
-loop-holds c = made-start _ _ _ (c .if1 .left)
+loop-holds c = search (made-start, c .if1 .left)
 
 shared-slice-read-digit-of : tie.Need-shared-slice-read-digit-of Inv-loop μ-loop
 shared-slice-read-digit-of c = search needs
@@ -28,7 +28,7 @@ digit-of-requires : tie.Need-digit-of-requires Inv-loop μ-loop
 digit-of-requires c κs = search needs
 
 returns-2 : tie.Need-returns-2 Inv-loop μ-loop
-returns-2 c = made-other (c .before .before .before .before .loop .inv) (c .before .before .before .loop-test .taken) (c .before .digit-of .ensures) (c .if2 .taken)
+returns-2 c = search made-other
 
 sub-if3 : tie.Need-sub-if3 Inv-loop μ-loop
 sub-if3 c = search needs
@@ -37,25 +37,19 @@ div-if3 : tie.Need-div-if3 Inv-loop μ-loop
 div-if3 c = search needs
 
 returns-3 : tie.Need-returns-3 Inv-loop μ-loop
-returns-3 c = made-over (c .before .before .before .before .before .loop .inv) (c .before .before .before .before .loop-test .taken) (c .before .before .digit-of .ensures) (c .before .before .before .before .before .before .before .before .pre .0) (c .before .before .before .before .before .before .before .before .pre .1) (c .before .if2 .left) (c .if3 .taken)
+returns-3 c = search made-over
 
 mul-n : tie.Need-mul-n Inv-loop μ-loop
-mul-n c = omega (arith, made-fits (c .before .before .before .before .before .loop .inv) (c .before .before .before .before .loop-test .taken) (c .before .before .digit-of .ensures) (c .before .before .before .before .before .before .before .before .pre .0) (c .before .before .before .before .before .before .before .before .pre .1) (c .before .if2 .left) (c .if3 .left))
+mul-n c = omega (arith, made-fits (c .if3 .left) (c .before .if2 .left) (the (tie.Start Inv-loop μ-loop) (search) .pre))
 
 add-n : tie.Need-add-n Inv-loop μ-loop
-add-n c = omega (arith, made-fits (c .before .before .before .before .before .loop .inv) (c .before .before .before .before .loop-test .taken) (c .before .before .digit-of .ensures) (c .before .before .before .before .before .before .before .before .pre .0) (c .before .before .before .before .before .before .before .before .pre .1) (c .before .if2 .left) (c .if3 .left))
-
-add-i : tie.Need-add-i Inv-loop μ-loop
-add-i c = search needs
-
-loop-less : tie.Need-loop-less Inv-loop μ-loop
-loop-less c = search needs
+add-n c = omega (arith, made-fits (c .if3 .left) (c .before .if2 .left) (the (tie.Start Inv-loop μ-loop) (search) .pre))
 
 loop-again : tie.Need-loop-again Inv-loop μ-loop
-loop-again c = made-turn (c .before .before .before .before .before .loop .inv) (c .before .before .before .before .loop-test .taken) (c .before .before .digit-of .ensures) (c .before .before .before .before .before .before .before .before .pre .0) (c .before .before .before .before .before .before .before .before .pre .1) (c .before .if2 .left) (c .if3 .left)
+loop-again c = search made-turn
 
 returns-4 : tie.Need-returns-4 Inv-loop μ-loop
-returns-4 c = made-end (c .before .loop .inv) (c .loop-test .left)
+returns-4 c = search made-end
 
 pub number-in-spec : {M : Type 1} → statement M
 number-in-spec =
@@ -73,7 +67,7 @@ number-in-spec =
     returns-3
     mul-n
     add-n
-    add-i
-    loop-less
+    (λ c. search needs)
+    (λ c. search needs)
     loop-again
     returns-4)
