@@ -1,3 +1,4 @@
 pub mod Laws
+pub mod Named
 pub mod Ranges
 pub mod Searching

@@ -6,9 +6,9 @@ use mathlib.Core.Bool.{Bool, true, false, not, cond, false≢true}
 use mathlib.Core.List.{List, [], _∷_, _++_, reverse, reverse-append, reverse-reverse}
 use native.Mathlib.Numerals.{add-one}
 use native.Mathlib.Omega.{arith}
-use lib.ListN.{length, getD, take, drop, drop-of-length-le, length-append, take-append-drop}
+use lib.ListN.{length, getD, take, drop, drop-of-length-le, length-drop, length-append, take-append-drop}
 use lib.Dec.{eqb}
-use lib.Seq.{drop-cons, take-suc, take-length, length-take-le, take-append-seam}
+use lib.Seq.{drop-cons, take-suc, take-all, take-length, length-take-le, take-append-seam}
 use borrow.Author.Tests.{not-true, not-false}
 use Rattle.ascii.specs.Search.{other, ofKind, startsWith, front, before, past, last, pastEnd}
 use Rattle.ascii.specs.declared.search.Kind.{Kind}
@@ -52,6 +52,10 @@ module _ {f : List ℕ → ℕ} {s : List ℕ} {from i : ℕ} (o : Onward f s fr
 
   pub onward-end : f (drop i s) ≡ 0 → i ≡ from + f (drop from s)
   onward-end e = omega arith
+
+-- what is left from a place on, as it is lent
+pub tail : (s : List ℕ) (i : ℕ) → take (length s - i) (drop i s) ≡ drop i s
+tail s i = take-all (length s - i) (drop i s) (omega (arith, length-drop i s))
 
 -- the byte at a place, and what is left behind it
 pub here : (s : List ℕ) (i : ℕ) → i < length s → drop i s ≡ getD s i 0 ∷ drop (i + 1) s
@@ -127,6 +131,38 @@ front-le p (b ∷ s) = go (p b) (front-le p s)
     go : (r : Bool) → front p s ≤ length s → elim r [ true ↦ suc (front p s) | false ↦ 0 ] ≤ suc (length s)
     go true h = omega arith
     go false h = omega arith
+
+pub front-within : (p : ℕ → Bool) (s : List ℕ) {n : ℕ} → n ≡ front p s → n ≤ length s
+front-within p s e = omega (arith, front-le p s)
+
+-- a place among those that pass
+pub front-drop : (p : ℕ → Bool) (n : ℕ) (s : List ℕ) → n ≤ front p s → n + front p (drop n s) ≡ front p s
+unfolding front
+front-drop p zero s h = omega arith
+front-drop p (suc n) [] h = absurd (omega arith)
+front-drop p (suc n) (b ∷ s) h = go (p b) h (front-drop p n s)
+  where
+    go : (r : Bool) → suc n ≤ elim r [ true ↦ suc (front p s) | false ↦ 0 ] → (n ≤ front p s → n + front p (drop n s) ≡ front p s)
+        → suc n + front p (drop n s) ≡ elim r [ true ↦ suc (front p s) | false ↦ 0 ]
+    go true l f = let m : n + front p (drop n s) ≡ front p s = f (omega arith) in omega arith
+    go false l f = absurd (omega arith)
+
+-- one more that passes
+pub front-step : (p : ℕ → Bool) (s : List ℕ) (i : ℕ) → i ≤ front p s → i < length s → p (getD s i 0) ≡ true → i + 1 ≤ front p s
+front-step p s i h l t =
+    let e : front p (drop i s) ≡ suc (front p (drop (i + 1) s)) = rw (here s i l) (front-more p _ _ t) in
+    omega (arith, front-drop p i s h)
+
+-- where each byte of a kind is of another, too
+pub front-wider : (p q : ℕ → Bool) → ((b : ℕ) → q b ≡ true → p b ≡ true) → (s : List ℕ) → front q s ≤ front p s
+unfolding front
+front-wider p q w [] = omega arith
+front-wider p q w (b ∷ s) = go (q b) (p b) (w b) (front-wider p q w s)
+  where
+    go : (x y : Bool) → (x ≡ true → y ≡ true) → front q s ≤ front p s → elim x [ true ↦ suc (front q s) | false ↦ 0 ] ≤ elim y [ true ↦ suc (front p s) | false ↦ 0 ]
+    go true true f h = omega arith
+    go true false f h = absurd (false≢true (f refl))
+    go false y f h = omega arith
 
 -- looked for among the first n bytes alone
 pub front-take : (p : ℕ → Bool) (n : ℕ) (s : List ℕ) → front p (take n s) ≡ min n (front p s)
@@ -279,3 +315,18 @@ pub end-take : (p : ℕ → Bool) (s : List ℕ) → take (length (pastEnd p s))
 end-take p s =
     let rest = reverse (take (front p (reverse s)) (reverse s)) in
     ap (take (length (pastEnd p s))) (sym (end-split p s)) ∙ take-append-seam (pastEnd p s) rest
+
+pub end-within : (p : ℕ → Bool) (s : List ℕ) {n : ℕ} → n ≡ length (pastEnd p s) → n ≤ length s
+end-within p s e = omega (arith, end-le p s)
+
+pub end-count : (p : ℕ → Bool) (s : List ℕ) {n : ℕ} → n ≡ length (pastEnd p s) → n ≡ length (take n s)
+end-count p s {n} e = sym (length-take-le n s (end-within p s e))
+
+-- a text whose last byte does not pass is whole
+pub end-whole : (p : ℕ → Bool) (s : List ℕ) → p (getD s (length s - 1) 0) ≡ false → pastEnd p s ≡ s
+unfolding pastEnd
+end-whole p [] e = refl
+end-whole p (b ∷ s) e =
+    let n = suc (length s) in
+    let u : b ∷ s ≡ take (n - 1) (b ∷ s) ++ (getD (b ∷ s) (n - 1) 0 ∷ []) = sym (take-length (b ∷ s)) ∙ up-to (b ∷ s) n (omega arith) (omega arith) in
+    ap (pastEnd p) u ∙ end-none p _ e (take (n - 1) (b ∷ s)) ∙ sym u

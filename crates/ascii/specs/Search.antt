@@ -8,7 +8,7 @@ use lib.Dec.{eqb}
 use lib.ListN.{drop}
 use Rattle.ascii.specs.Bytes.{between, isDigit, isSpace}
 use Rattle.ascii.specs.declared.search.Kind.{Kind}
-use Rattle.ascii.specs.declared.search.Kind.the-variants.{Is, Digit, Space, Trimmed, White, Mark}
+use Rattle.ascii.specs.declared.search.Kind.the-variants.{Is, Digit, Space, Trimmed, White, Blank, Mark}
 use Rattle.ascii.specs.declared.search.Found.{Found}
 use Rattle.ascii.specs.declared.search.Found.the-variants.{At, Nowhere}
 
@@ -26,6 +26,10 @@ other p b = not (p b)
 abbrev pub isWhite : ℕ → Bool
 isWhite b = eqb b 0x20 || (between 0x09 0x0A b || between 0x0C 0x0D b)
 
+-- white space of trimming and of the dialect guess alike, that ends no line
+abbrev pub isBlank : ℕ → Bool
+isBlank b = eqb b 0x20 || (eqb b 0x09 || eqb b 0x0C)
+
 -- document 01, "Escapes": "the part before the first space, `-` or `_`"
 abbrev pub isMark : ℕ → Bool
 isMark b = eqb b 0x20 || (eqb b 0x2D || eqb b 0x5F)
@@ -36,6 +40,7 @@ ofKind Digit = isDigit
 ofKind Space = equals 0x20
 ofKind Trimmed = isSpace
 ofKind White = isWhite
+ofKind Blank = isBlank
 ofKind Mark = isMark
 
 -- ---- from the front

@@ -5,6 +5,7 @@ use mathlib.Core.Bool.{Bool, true, false}
 use mathlib.Core.List.{List, [], _∷_}
 use lib.ListN.{take, drop}
 use Rattle.ascii.specs.Bytes.{isSpace}
+use Rattle.ascii.specs.Search.{front, past, pastEnd}
 
 -- how many bytes of white space stand in front
 unfoldable pub leading : List ℕ → ℕ
@@ -22,6 +23,7 @@ unfolding countsWith
 solid [] = 0
 solid (b ∷ s) = countsWith b (solid s)
 
+-- without the white space in front, and then without that at the end
 unfoldable pub trim : List ℕ → List ℕ
-unfolding leading solid
-trim s = take (solid s - leading s) (drop (leading s) s)
+unfolding front pastEnd
+trim s = pastEnd isSpace (past isSpace s)

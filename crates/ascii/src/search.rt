@@ -1,7 +1,7 @@
 // Searches in bytes, from the front and from the end. What is looked for goes in as data.
 ghost use mathlib.Core.Path.{_≡_};
 ghost use lib.ListN.{length};
-ghost use Rattle.ascii.specs.Search.{isWhite, isMark, ofKind, startsWith, front as frontOf, before as beforeOf, last as lastOf, pastEnd};
+ghost use Rattle.ascii.specs.Search.{isWhite, isBlank, isMark, ofKind, startsWith, front as frontOf, before as beforeOf, last as lastOf, pastEnd};
 
 // What is looked for: a byte of a kind.
 pub enum Kind {
@@ -15,6 +15,8 @@ pub enum Kind {
     Trimmed,
     // White space as the dialect guess knows it: 09, 0A, 0C, 0D and 20. The vertical tab, 0B, is none.
     White,
+    // White space of both, that ends no line: 09, 0C and 20.
+    Blank,
     // What ends the prefix of an escape: a space, - or _.
     Mark,
 }
@@ -35,6 +37,18 @@ fn is_white(b: u8) -> bool
         return true;
     }
     crate::between(0x0C, 0x0D, b)
+}
+
+fn is_blank(b: u8) -> bool
+    ensures { λ r. ⌜ r ≡ isBlank b ⌝ }
+{
+    if b == 0x20 {
+        return true;
+    }
+    if b == 0x09 {
+        return true;
+    }
+    b == 0x0C
 }
 
 fn is_mark(b: u8) -> bool
@@ -59,6 +73,7 @@ pub fn is_kind(b: u8, kind: Kind) -> bool
         Kind::Space => b == 0x20,
         Kind::Trimmed => crate::is_space(b),
         Kind::White => is_white(b),
+        Kind::Blank => is_blank(b),
         Kind::Mark => is_mark(b),
     }
 }

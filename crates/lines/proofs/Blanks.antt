@@ -1,40 +1,25 @@
--- Blanks in front of a text: which bytes they are, the loop over them, and what they do not change.
+-- Blanks in front of a text: which bytes they are, how they are passed, and what they do not change.
 -- Assumes nothing.
 use Prim.Native.Nat.{ℕ, zero, suc, _+_, _-_, _≤_, _<_}
 use mathlib.Core.Path.{_≡_, refl, sym, ap, _∙_, subst}
-use mathlib.Core.Bool.{Bool, true, false, _||_}
+use mathlib.Core.Bool.{Bool, true, false, not, _||_}
 use mathlib.Core.List.{List, [], _∷_}
-use native.Mathlib.Numerals.{add-one}
 use native.Mathlib.Omega.{arith}
+use mir.Syntax.{w64}
+use mir.Val.{Fits}
+use mir.Facts.{fits-le}
 use lib.Dec.{eqb}
-use lib.ListN.{length, getD, take, drop, drop-of-length-le}
-use lib.Seq.{drop-cons}
-use borrow.Author.Tests.{eq-eqb, ne-eqb, eqb-true}
+use lib.ListN.{length, getD, take, drop, length-drop}
+use lib.Seq.{drop-drop}
+use borrow.Author.Tests.{eqb-true, not-false}
 use Rattle.ascii.specs.Bytes.{between, isSpace}
-use Rattle.lines.specs.Front.{ofKind}
-use Rattle.lines.specs.TextLines.{isBlank, blanksIn, Skipped}
-use Rattle.lines.specs.declared.front.Kind.the-variants.{White}
-use Rattle.lines.proofs.Parts.{taken, left}
+use Rattle.ascii.specs.Search.{equals, isWhite, isBlank, front}
+use Rattle.ascii.proofs.Searching.{onward-start, from-end, from-found, tail, front-nil, front-more, front-none, front-le, front-drop, front-wider}
 
 -- ---- one byte
 
-module _ (b : ℕ) where
-  pub blank-space : b ≡ 0x20 → true ≡ isBlank b
-  unfolding isBlank
-  blank-space e = simp (eq-eqb _ _ e)
-
-  module _ (n : b ≡ 0x20 → ⊥) where
-    pub blank-tab : b ≡ 0x09 → true ≡ isBlank b
-    unfolding isBlank
-    blank-tab e = simp (ne-eqb _ _ n, eq-eqb _ _ e)
-
-    pub blank-feed : (b ≡ 0x09 → ⊥) → eqb b 0x0C ≡ isBlank b
-    unfolding isBlank
-    blank-feed m = simp (ne-eqb _ _ n, ne-eqb _ _ m)
-
 -- what holds of each of the three holds of a blank
 blank-each : (P : ℕ → Type 0) → P 0x20 → P 0x09 → P 0x0C → (b : ℕ) → isBlank b ≡ true → P b
-unfolding isBlank
 blank-each P x y z b e = go (eqb b 0x20) refl (eqb b 0x09) refl e
   where
     go : (r : Bool) → eqb b 0x20 ≡ r → (s : Bool) → eqb b 0x09 ≡ s → (r || (s || eqb b 0x0C)) ≡ true → P b
@@ -53,63 +38,58 @@ pub blank-trimmed : (b : ℕ) → isBlank b ≡ true → isSpace b ≡ true
 unfolding between
 blank-trimmed = blank-each (λ b. isSpace b ≡ true) refl refl refl
 
-pub blank-white : (b : ℕ) → isBlank b ≡ true → ofKind White b ≡ true
-unfolding ofKind between
-blank-white = blank-each (λ b. ofKind White b ≡ true) refl refl refl
+pub blank-white : (b : ℕ) → isBlank b ≡ true → isWhite b ≡ true
+unfolding between
+blank-white = blank-each (λ b. isWhite b ≡ true) refl refl refl
 
--- ---- blanks in front
+-- ---- from a place on
 
-pub blanks-more : (b : ℕ) (s : List ℕ) → isBlank b ≡ true → blanksIn (b ∷ s) ≡ suc (blanksIn s)
-unfolding blanksIn
-blanks-more b s t = taken _ _ t
+module _ (t : List ℕ) (from : ℕ) where
+  pub blanks-beyond : length t ≤ from → from ≡ from + front isBlank (drop from t)
+  blanks-beyond h = from-end isBlank h (onward-start (front isBlank) t from)
 
-pub blanks-none : (b : ℕ) (s : List ℕ) → isBlank b ≡ false → blanksIn (b ∷ s) ≡ 0
-unfolding blanksIn
-blanks-none b s t = left _ _ t
+  pub blanks-none : {r : Bool} → not r ≡ true → r ≡ isBlank (getD t from 0) → from < length t → from ≡ from + front isBlank (drop from t)
+  blanks-none e q h = from-found isBlank e q h (onward-start (front isBlank) t from)
 
-pub blanks-nil : blanksIn [] ≡ 0
-unfolding blanksIn
-blanks-nil = refl
+  -- a run of one byte, then all blanks
+  module _ (b : ℕ) {n : ℕ} (run : n ≡ front (equals b) (take (length t - from) (drop from t))) where
+    is-run : n ≡ front (equals b) (drop from t)
+    is-run = run ∙ ap (front (equals b)) (tail t from)
 
--- ---- the loops over them
+    pub run-within : from < length t → from + n ≤ length t
+    run-within h = omega (arith, is-run, front-le (equals b) (drop from t), length-drop from t)
 
-pub skipped-none : (t : List ℕ) (from : ℕ) → Skipped t from from
-skipped-none t from = record { gives = refl }
+    pub run-fits : from < length t → Fits w64 (length t) → Fits w64 (from + n)
+    run-fits h = fits-le (run-within h)
 
-module _ {t : List ℕ} {from i : ℕ} (k : Skipped t from i) where
-  pub skipped-end : length t ≤ i → i ≡ from + blanksIn (drop from t)
-  skipped-end h = let e : blanksIn (drop i t) ≡ 0 = rw (drop-of-length-le t h) blanks-nil in omega arith
+    module _ {m : ℕ} (more : m ≡ front isBlank (take (length t - (from + n)) (drop (from + n) t))) where
+      is-more : m ≡ front isBlank (drop n (drop from t))
+      is-more = more ∙ ap (front isBlank) (tail t (from + n) ∙ sym (drop-drop n from t))
 
-  module _ {r : Bool} (h : i < length t) (q : r ≡ isBlank (getD t i 0)) where
-    here : drop i t ≡ getD t i 0 ∷ drop (i + 1) t
-    here = rw add-one (drop-cons t i 0 h)
+      pub blanks-fit : from < length t → Fits w64 (length t) → Fits w64 (from + n + m)
+      blanks-fit h =
+          fits-le (omega (arith, run-within h, is-more, front-le isBlank (drop n (drop from t)), length-drop n (drop from t), length-drop from t))
 
-    pub skipped-turn : r ≡ true → Skipped t from (i + 1)
-    skipped-turn e =
-        let s : blanksIn (drop i t) ≡ suc (blanksIn (drop (i + 1) t)) = rw here (blanks-more _ _ (sym q ∙ e)) in
-        record { gives = omega arith }
-
-    pub skipped-found : r ≡ false → i ≡ from + blanksIn (drop from t)
-    skipped-found e = let s : blanksIn (drop i t) ≡ 0 = rw here (blanks-none _ _ (sym q ∙ e)) in omega arith
-
--- a byte that is one more of a run of blanks
-pub skipped-run : {t : List ℕ} {from i : ℕ} {b : ℕ} → Skipped t from i → i < length t → isBlank b ≡ true → getD t i 0 ≡ b → Skipped t from (i + 1)
-skipped-run k h q e = skipped-turn k h refl (ap isBlank e ∙ q)
+      pub blanks-run : {r : Bool} → not r ≡ false → r ≡ isBlank b → from + n + m ≡ from + front isBlank (drop from t)
+      blanks-run {r} e q =
+          let blank : isBlank b ≡ true = sym q ∙ not-false r e in
+          let wider = front-wider isBlank (equals b) (λ x p. ap isBlank (eqb-true x b p) ∙ blank) (drop from t) in
+          omega (arith, is-more, front-drop isBlank n (drop from t) (omega (arith, is-run, wider)))
 
 -- ---- what one blank in front does not change, all of them in front of a line do not
 
 module _ {A : Type 0} (P : List ℕ → A) (same : (b : ℕ) (l : List ℕ) → isBlank b ≡ true → P (b ∷ l) ≡ P l) where
-  pub past-blanks : (s : List ℕ) (n : ℕ) → blanksIn s ≤ n → P (take (n - blanksIn s) (drop (blanksIn s) s)) ≡ P (take n s)
-  past-blanks [] n h = rw blanks-nil (let e : n - 0 ≡ n = omega arith in ap (λ (m : ℕ). P (take m [])) e)
+  pub past-blanks : (s : List ℕ) (n : ℕ) → front isBlank s ≤ n → P (take (n - front isBlank s) (drop (front isBlank s) s)) ≡ P (take n s)
+  past-blanks [] n h = rw front-nil (let e : n - 0 ≡ n = omega arith in ap (λ (m : ℕ). P (take m [])) e)
   past-blanks (b ∷ s) n h = go (isBlank b) refl n h (past-blanks s)
     where
-      go : (r : Bool) → isBlank b ≡ r → (n : ℕ) → blanksIn (b ∷ s) ≤ n
-          → ((m : ℕ) → blanksIn s ≤ m → P (take (m - blanksIn s) (drop (blanksIn s) s)) ≡ P (take m s))
-          → P (take (n - blanksIn (b ∷ s)) (drop (blanksIn (b ∷ s)) (b ∷ s))) ≡ P (take n (b ∷ s))
-      go true q zero h f = absurd (omega (arith, blanks-more b s q))
+      go : (r : Bool) → isBlank b ≡ r → (n : ℕ) → front isBlank (b ∷ s) ≤ n
+          → ((m : ℕ) → front isBlank s ≤ m → P (take (m - front isBlank s) (drop (front isBlank s) s)) ≡ P (take m s))
+          → P (take (n - front isBlank (b ∷ s)) (drop (front isBlank (b ∷ s)) (b ∷ s))) ≡ P (take n (b ∷ s))
+      go true q zero h f = absurd (omega (arith, front-more isBlank b s q))
       go true q (suc m) h f =
-          let e : suc m - suc (blanksIn s) ≡ m - blanksIn s = omega arith in
-          rw (blanks-more b s q) (rw e (f m (omega (arith, blanks-more b s q)) ∙ sym (same b (take m s) q)))
+          let e : suc m - suc (front isBlank s) ≡ m - front isBlank s = omega arith in
+          rw (front-more isBlank b s q) (rw e (f m (omega (arith, front-more isBlank b s q)) ∙ sym (same b (take m s) q)))
       go false q n h f =
           let e : n - 0 ≡ n = omega arith in
-          rw (blanks-none b s q) (ap (λ (m : ℕ). P (take m (b ∷ s))) e)
+          rw (front-none isBlank b s q) (ap (λ (m : ℕ). P (take m (b ∷ s))) e)

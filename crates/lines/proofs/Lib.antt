@@ -4,3 +4,4 @@ pub mod Limits
 pub mod Numbers
 pub mod Parts
 pub mod Splitting
+pub mod Tight

@@ -1,20 +1,21 @@
 -- The domain of a text: the loop over its bytes, and what is answered.
 -- Assumes nothing.
-use Prim.Native.Nat.{ℕ, suc, _+_, _-_, _≤_, _<_}
-use mathlib.Core.Path.{_≡_, refl, sym, ap, _∙_, subst}
-use mathlib.Core.Bool.{Bool, true, false, _&&_, false≢true}
+use Prim.Native.Nat.{ℕ, zero, suc, _+_, _-_, _≤_, _<_}
+use mathlib.Core.Path.{_≡_, refl, sym, ap, _∙_}
+use mathlib.Core.Bool.{Bool, true, false, not, _&&_, false≢true}
 use mathlib.Core.List.{List, [], _∷_}
-use native.Mathlib.Numerals.{add-one}
 use native.Mathlib.Omega.{arith}
 use lib.Dec.{eqb, ltb}
-use lib.ListN.{length, getD, take, drop, drop-of-length-le, length-drop}
-use lib.Seq.{drop-cons, drop-drop}
-use borrow.Author.Tests.{lt-ltb, le-ltb, le-leb, lt-leb, eqb-true}
+use lib.ListN.{length, getD, take, drop, drop-of-length-le}
+use lib.Seq.{drop-drop}
+use borrow.Author.Tests.{lt-ltb, le-ltb, le-leb, lt-leb, ltb-true, not-true, not-false}
+use Rattle.ascii.specs.Search.{startsWith, front}
+use Rattle.ascii.proofs.Searching.{Onward, onward-by, onward-end, tail, here, front-le, front-step, starts-long}
 use Rattle.refusals.specs.Numbers.{textTooLong, badByte}
 use Rattle.refusals.specs.Answer.{Answer, done, refused}
-use Rattle.lines.specs.Front.{startsWith}
-use Rattle.lines.specs.Domain.{isPi, domainLength, Passed, Tops, checkedText}
-use Rattle.lines.proofs.Parts.{tail, taken, left}
+use Rattle.lines.specs.Domain.{isPi, domainLength, checkedText}
+use Rattle.lines.specs.DomainHelpers.{isLow, Tops}
+use Rattle.lines.proofs.Parts.{taken, left}
 
 -- ---- one character of the domain in front
 
@@ -39,14 +40,17 @@ pi-long (b ∷ []) p = go (eqb b 0xCF) p
     go false e = absurd (false≢true e)
 pi-long (b ∷ c ∷ s) p = omega arith
 
-module _ (t : List ℕ) {x : Bool} (p : x ≡ startsWith 0xCF t) where
-  pub pi-no : x ≡ false → false ≡ isPi t
+module _ (t : List ℕ) {x : Bool} where
+  pub pi-no : not x ≡ true → x ≡ startsWith 0xCF t → false ≡ isPi t
   unfolding isPi
-  pi-no e = ap (λ (r : Bool). r && startsWith 0x80 (drop 1 t)) (sym e ∙ p)
+  pi-no e p = ap (λ (r : Bool). r && startsWith 0x80 (drop 1 t)) (sym (not-true x e) ∙ p)
 
-  pub pi-first : {y : Bool} → x ≡ true → y ≡ startsWith 0x80 (take (length t - 1) (drop 1 t)) → y ≡ isPi t
+  pub pi-some : not x ≡ false → x ≡ startsWith 0xCF t → 1 ≤ length t
+  pi-some e p = starts-long 0xCF t (sym p ∙ not-false x e)
+
+  pub pi-first : {y : Bool} → y ≡ startsWith 0x80 (take (length t - 1) (drop 1 t)) → not x ≡ false → x ≡ startsWith 0xCF t → y ≡ isPi t
   unfolding isPi
-  pi-first e q = q ∙ ap (startsWith 0x80) (tail t 1) ∙ ap (λ (r : Bool). r && startsWith 0x80 (drop 1 t)) (sym e ∙ p)
+  pi-first q e p = q ∙ ap (startsWith 0x80) (tail t 1) ∙ ap (λ (r : Bool). r && startsWith 0x80 (drop 1 t)) (sym (not-false x e) ∙ p)
 
 pair : (b : ℕ) (s : List ℕ) → 0x80 ≤ b → isPi (b ∷ s) ≡ true → domainLength (b ∷ s) ≡ suc (suc (domainLength (drop 1 s)))
 unfolding domainLength
@@ -55,43 +59,37 @@ pair b (c ∷ s) h p = left _ _ (le-ltb _ _ h) ∙ taken _ _ p
 
 -- ---- the loop
 
-pub passed-start : (s : List ℕ) → Passed s 0
-passed-start s = record { within = omega arith; gives = omega arith }
+pi-at : (s : List ℕ) (i : ℕ) {r : Bool} → r ≡ isPi (take (length s - i) (drop i s)) → i < length s → isPi (getD s i 0 ∷ drop (i + 1) s) ≡ r
+pi-at s i q h = sym (q ∙ ap isPi (tail s i ∙ here s i h))
 
-module _ {s : List ℕ} {i : ℕ} (k : Passed s i) where
-  pub passed-end : length s ≤ i → i ≡ domainLength s
+module _ {s : List ℕ} {i : ℕ} where
+  pub domain-end : length s ≤ i → Onward domainLength s 0 i → i ≡ domainLength s
   unfolding domainLength
-  passed-end h = let e : domainLength (drop i s) ≡ 0 = rw (drop-of-length-le s h) in omega arith
+  domain-end h o = let e : domainLength (drop i s) ≡ 0 = rw (drop-of-length-le s h) in omega (arith, onward-end o e)
 
-  module _ (h : i < length s) where
-    here : drop i s ≡ getD s i 0 ∷ drop (i + 1) s
-    here = rw add-one (drop-cons s i 0 h)
+  pub domain-byte : getD s i 0 < 0x80 → i < length s → Onward domainLength s 0 i → Onward domainLength s 0 (i + 1)
+  domain-byte l h o = let e : domainLength (drop i s) ≡ suc (domainLength (drop (i + 1) s)) = rw (here s i h) (below _ _ l) in onward-by o 1 (omega arith)
 
-    pub passed-byte : getD s i 0 < 0x80 → Passed s (i + 1)
-    passed-byte l =
-        let e : domainLength (drop i s) ≡ suc (domainLength (drop (i + 1) s)) = rw here (below _ _ l) in
-        record { within = omega arith; gives = omega arith }
+  module _ {r : Bool} where
+    pub domain-pi : not r ≡ false → r ≡ isPi (take (length s - i) (drop i s)) → 0x80 ≤ getD s i 0 → i < length s → Onward domainLength s 0 i → Onward domainLength s 0 (i + 2)
+    domain-pi t q l h o =
+        let two : i + 1 + 1 ≡ i + 2 = omega arith in
+        let n : drop 1 (drop (i + 1) s) ≡ drop (i + 2) s = drop-drop 1 (i + 1) s ∙ ap (λ (j : ℕ). drop j s) two in
+        let e : domainLength (drop i s) ≡ suc (suc (domainLength (drop (i + 2) s))) = rw (here s i h, ← n) (pair _ _ l (pi-at s i q h ∙ not-false r t)) in
+        onward-by o 2 (omega arith)
 
-    module _ {r : Bool} (l : 0x80 ≤ getD s i 0) (q : r ≡ isPi (take (length s - i) (drop i s))) where
-      told : isPi (getD s i 0 ∷ drop (i + 1) s) ≡ r
-      told = sym (q ∙ ap isPi (tail s i ∙ here))
+    pub domain-stop : not r ≡ true → r ≡ isPi (take (length s - i) (drop i s)) → 0x80 ≤ getD s i 0 → i < length s → Onward domainLength s 0 i → i ≡ domainLength s
+    domain-stop t q l h o =
+        let e : domainLength (drop i s) ≡ 0 = rw (here s i h) (outside _ _ l (pi-at s i q h ∙ not-true r t)) in omega (arith, onward-end o e)
 
-      pub passed-pi : r ≡ true → Passed s (i + 2)
-      passed-pi t =
-          let two : i + 1 + 1 ≡ i + 2 = omega arith in
-          let n : drop 1 (drop (i + 1) s) ≡ drop (i + 2) s = drop-drop 1 (i + 1) s ∙ ap (λ (j : ℕ). drop j s) two in
-          let e : domainLength (drop i s) ≡ suc (suc (domainLength (drop (i + 2) s))) = rw (here, ← n) (pair _ _ l (told ∙ t)) in
-          record {
-            within = omega (arith, pi-long _ (told ∙ t), length-drop (i + 1) s);
-            gives = omega arith;
-          }
+-- ---- bytes below 80 in front
 
-      pub passed-stop : r ≡ false → i ≡ domainLength s
-      passed-stop t = let e : domainLength (drop i s) ≡ 0 = rw here (outside _ _ l (told ∙ t)) in omega arith
+low-byte : (s : List ℕ) (i : ℕ) → i ≤ front isLow s → i < length s → getD s i 0 < 0x80 → i + 1 ≤ front isLow s
+low-byte s i f h l = front-step isLow s i f h (lt-ltb _ _ l)
 
--- eight bytes, none above one that is below 80
-passed-eight : {s : List ℕ} {i r : ℕ} → Passed s i → 8 ≤ length s - i → Tops s i r → r < 0x80 → Passed s (i + 8)
-passed-eight {s} {i} {r} k h t l =
+-- eight, none above one that is below 80
+low-eight : {s : List ℕ} {i r : ℕ} → i ≤ front isLow s → 8 ≤ length s - i → Tops s i r → r < 0x80 → i + 8 ≤ front isLow s
+low-eight {s} {i} {r} f h t l =
     on 7 (omega arith) (omega (arith, t .eighth))
     (on 6 (omega arith) (omega (arith, t .seventh))
     (on 5 (omega arith) (omega (arith, t .sixth))
@@ -99,15 +97,33 @@ passed-eight {s} {i} {r} k h t l =
     (on 3 (omega arith) (omega (arith, t .fourth))
     (on 2 (omega arith) (omega (arith, t .third))
     (on 1 (omega arith) (omega (arith, t .second))
-    (passed-byte k (omega arith) (omega (arith, t .first)))))))))
+    (low-byte s i f (omega arith) (omega (arith, t .first)))))))))
   where
-    on : (n : ℕ) → n < 8 → getD s (i + n) 0 < 0x80 → Passed s (i + n) → Passed s (i + suc n)
-    on n m b p = let e : i + n + 1 ≡ i + suc n = omega arith in subst (Passed s) e (passed-byte p (omega arith) b)
+    on : (n : ℕ) → n < 8 → getD s (i + n) 0 < 0x80 → i + n ≤ front isLow s → i + suc n ≤ front isLow s
+    on n m b p = omega (arith, low-byte s (i + n) p (omega arith) b)
 
-pub passed-sixteen : {s : List ℕ} {i a b r : ℕ} → Passed s i → 16 ≤ length s - i → Tops s i a → Tops s (i + 8) b → (a ≤ r) × (b ≤ r) → r < 0x80 → Passed s (i + 16)
-passed-sixteen {s} {i} k h t u m l =
-    let e : i + 8 + 8 ≡ i + 16 = omega arith in
-    subst (Passed s) e (passed-eight (passed-eight k (omega arith) t (omega arith)) (omega arith) u (omega arith))
+pub low-sixteen : {s : List ℕ} {i a b r : ℕ} → r < 0x80 → (a ≤ r) × (b ≤ r) → Tops s i a → Tops s (i + 8) b → 16 ≤ length s - i → i ≤ front isLow s → i + 16 ≤ front isLow s
+low-sixteen l m t u h f = omega (arith, low-eight (low-eight f (omega arith) t (omega arith)) (omega arith) u (omega arith))
+
+pub low-within : (s : List ℕ) {i : ℕ} → i ≤ front isLow s → i ≤ length s
+low-within s f = omega (arith, front-le isLow s)
+
+-- they lie in the domain
+low-length : (s : List ℕ) (i : ℕ) → i ≤ front isLow s → i + domainLength (drop i s) ≡ domainLength s
+unfolding front
+low-length s zero f = omega arith
+low-length [] (suc i) f = absurd (omega arith)
+low-length (b ∷ s) (suc i) f = by (isLow b) refl f (low-length s i)
+  where
+    by : (r : Bool) → isLow b ≡ r → suc i ≤ elim r [ true ↦ suc (front isLow s) | false ↦ 0 ] → (i ≤ front isLow s → i + domainLength (drop i s) ≡ domainLength s)
+        → suc i + domainLength (drop i s) ≡ domainLength (b ∷ s)
+    by true q g w =
+        let m : i + domainLength (drop i s) ≡ domainLength s = w (omega arith) in
+        omega (arith, below b s (ltb-true b 0x80 q))
+    by false q g w = absurd (omega arith)
+
+pub domain-low : (s : List ℕ) {i : ℕ} → i ≤ front isLow s → Onward domainLength s 0 i
+domain-low s {i} f = record { gives = omega (arith, low-length s i f) }
 
 -- ---- the answer
 

@@ -2,26 +2,27 @@
 -- Assumes nothing.
 use Prim.Native.Nat.{ℕ, zero, suc, _+_, _-_, _*_, _≤_, _<_, min}
 use mathlib.Core.Path.{_≡_, refl, sym, ap, _∙_}
-use mathlib.Core.Bool.{Bool, true, false}
+use mathlib.Core.Bool.{Bool, true, false, not}
 use mathlib.Core.List.{List, [], _∷_}
-use native.Mathlib.Decide.{decLt}
-use native.Mathlib.Numerals.{add-one}
 use native.Mathlib.Omega.{arith}
-use lib.ListN.{length, getD, take, drop, drop-of-length-le, length-take, length-drop}
-use lib.Seq.{drop-cons, drop-drop, drop-nil, take-nil, length-take-le}
+use mir.Syntax.{w64}
+use mir.Val.{Fits}
+use mir.Facts.{fits-le}
+use lib.ListN.{length, getD, take, drop, drop-of-length-le, length-drop}
+use lib.Seq.{drop-drop, take-nil}
 use lib.Dec.{leb}
-use borrow.Author.Tests.{le-leb, lt-leb}
-use Rattle.ascii.specs.Bytes.{isDigit, isSpace, between}
-use Rattle.ascii.specs.Trim.{leading, countsWith, solid, trim}
-use Rattle.ascii.proofs.Laws.{trim-part, solid-le}
+use borrow.Author.Tests.{le-leb, lt-leb, leb-true, not-true, not-false}
+use Rattle.ascii.specs.Bytes.{isDigit, isSpace}
+use Rattle.ascii.specs.Search.{equals, front, past}
+use Rattle.ascii.specs.Trim.{trim}
+use Rattle.ascii.proofs.Laws.{trim-space, trim-within, trim-stands}
 use Rattle.ascii.proofs.Ranges.{between-in}
-use Rattle.lines.specs.Front.{ofKind, frontOf}
-use Rattle.lines.specs.Numbering.{decimalFrom, digitsIn, withDigits, trimmedLine, numbering}
-use Rattle.lines.specs.declared.front.Kind.the-variants.{Digit, Space}
+use Rattle.ascii.proofs.Searching.{Onward, onward-start, front-turn, front-found, front-end, front-more, front-none, front-le, tail, here}
+use Rattle.lines.specs.Numbering.{ReadLine, blankLine, missingNumber, numberTooHigh, numberedText, decimalFrom, digitsRead, trimmedRead, readLine}
+use Rattle.lines.specs.NumberHelpers.{digitsIn, placed, told, trimmedEnd, numbering}
 use Rattle.lines.specs.declared.number.Digits.{Digits}
 use Rattle.lines.specs.declared.number.Numbering.{Numbering}
 use Rattle.lines.specs.declared.number.Numbering.the-variants.{Blank, Missing, OutOfRange, Numbered}
-use Rattle.lines.proofs.Fronts.{Counted, counted-start, counted-turn, counted-found, counted-end, front-le}
 use Rattle.lines.proofs.Parts.{taken, left}
 
 -- ---- a value that is cut at 32 bits, digit by digit
@@ -57,50 +58,176 @@ cut-early (b ∷ s) v = go (isDigit b) refl (cut-early s)
 
 -- i digits passed, of the value v
 pub record Valued (s : List ℕ) (i v : ℕ) : Type 0 where
-  pub counted : Counted Digit s i
+  pub counted : Onward (front isDigit) s 0 i
   pub small : v ≤ most
   pub gives : min (decimalFrom v (drop i s)) most ≡ min (decimalFrom 0 s) most
 
 pub valued-start : (s : List ℕ) → Valued s 0 0
-valued-start s = record { counted = counted-start Digit s; small = omega arith; gives = refl }
+valued-start s = record { counted = onward-start (front isDigit) s 0; small = omega arith; gives = refl }
 
-module _ {s : List ℕ} {i v : ℕ} (k : Valued s i v) where
-  valued-is : i ≡ frontOf Digit s → decimalFrom v (drop i s) ≡ v → record { count = i; value = v } ≡ digitsIn s
+module _ {s : List ℕ} {i v : ℕ} where
+  valued-is : i ≡ front isDigit s → decimalFrom v (drop i s) ≡ v → Valued s i v → record { count = i; value = v } ≡ digitsIn s
   unfolding digitsIn
-  valued-is n e =
+  valued-is n e k =
       let w : v ≡ min (decimalFrom 0 s) most = omega arith in
       cc
 
-  pub valued-end : length s ≤ i → record { count = i; value = v } ≡ digitsIn s
+  pub valued-end : length s ≤ i → Valued s i v → record { count = i; value = v } ≡ digitsIn s
   unfolding decimalFrom
-  valued-end h = valued-is (counted-end (k .counted) h) (rw (drop-of-length-le s h))
+  valued-end h k = valued-is (front-end isDigit h (k .counted)) (rw (drop-of-length-le s h)) k
 
-  module _ {r : Bool} (h : i < length s) (q : r ≡ isDigit (getD s i 0)) where
-    here : drop i s ≡ getD s i 0 ∷ drop (i + 1) s
-    here = rw add-one (drop-cons s i 0 h)
+  module _ {r : Bool} where
+    pub valued-stop : not r ≡ true → r ≡ isDigit (getD s i 0) → i < length s → Valued s i v → record { count = i; value = v } ≡ digitsIn s
+    valued-stop t q h k = valued-is (front-found isDigit t q h (k .counted)) (rw (here s i h) (digit-left _ _ _ (sym q ∙ not-true r t))) k
 
-    kind : r ≡ ofKind Digit (getD s i 0)
-    unfolding ofKind
-    kind = q
-
-    pub valued-stop : r ≡ false → record { count = i; value = v } ≡ digitsIn s
-    valued-stop t = valued-is (counted-found (k .counted) h kind t) (rw here (digit-left _ _ _ (sym q ∙ t)))
-
-    pub digit-low : r ≡ true → 48 ≤ getD s i 0
-    digit-low t = between-in 48 57 (getD s i 0) (sym q ∙ t) .0
-
-    pub valued-turn : {w : ℕ} → r ≡ true → w ≡ min (v * 10 + (getD s i 0 - 48)) most → Valued s (i + 1) w
-    valued-turn {w} t e =
+    pub valued-turn : {w : ℕ} → w ≡ min (v * 10 + (getD s i 0 - 48)) most → not r ≡ false → r ≡ isDigit (getD s i 0) → i < length s → Valued s i v → Valued s (i + 1) w
+    valued-turn {w} e t q h k =
         let d = getD s i 0 - 48 in
         record {
-          counted = counted-turn (k .counted) h kind t;
+          counted = front-turn isDigit t q h (k .counted);
           small = omega arith;
           gives =
               ap (λ (n : ℕ). min (decimalFrom n (drop (i + 1) s)) most) e ∙ cut-early (drop (i + 1) s) (v * 10 + d)
-              ∙ ap (λ (n : ℕ). min n most) (sym (ap (decimalFrom v) here ∙ digit-taken v _ _ (sym q ∙ t))) ∙ k .gives;
+              ∙ ap (λ (n : ℕ). min n most) (sym (ap (decimalFrom v) (here s i h) ∙ digit-taken v _ _ (sym q ∙ not-false r t))) ∙ k .gives;
         }
 
--- ---- what a line is
+pub digit-low : (b : ℕ) {r : Bool} → not r ≡ false → r ≡ isDigit b → 48 ≤ b
+digit-low b {r} t q = between-in 48 57 b (sym q ∙ not-false r t) .0
+
+-- ---- what a line is, by what the code finds
+
+pub line-blank : (l t : List ℕ) → length t ≡ 0 → t ≡ trim l → Blank ≡ numbering l
+unfolding numbering readLine trimmedRead
+line-blank l [] h e = ap (λ (x : List ℕ). placed l (trimmedRead x)) e
+line-blank l (b ∷ t) h e = absurd (omega arith)
+
+-- a line that is not blank, by how many digits stand in front
+trimmed-missing : (t : List ℕ) → (length t ≡ 0 → ⊥) → front isDigit t ≡ 0 → trimmedRead t ≡ missingNumber
+unfolding trimmedRead
+trimmed-missing [] n z = absurd (n refl)
+trimmed-missing (b ∷ t) n z = go (isDigit b) refl
+  where
+    go : (r : Bool) → isDigit b ≡ r → trimmedRead (b ∷ t) ≡ missingNumber
+    go true q = absurd (omega (arith, front-more isDigit b t q))
+    go false q = left _ _ q
+
+trimmed-digits : (t : List ℕ) → (front isDigit t ≡ 0 → ⊥) → trimmedRead t ≡ digitsRead t
+unfolding trimmedRead front
+trimmed-digits [] n = absurd (n refl)
+trimmed-digits (b ∷ t) n = go (isDigit b) refl
+  where
+    go : (r : Bool) → isDigit b ≡ r → trimmedRead (b ∷ t) ≡ digitsRead (b ∷ t)
+    go true q = taken _ _ q
+    go false q = absurd (n (front-none isDigit b t q))
+
+module _ (t : List ℕ) {d : Digits} (e : d ≡ digitsIn t) where
+  is-count : d .count ≡ front isDigit t
+  unfolding digitsIn
+  is-count = ap (λ (x : Digits). x .count) e
+
+  is-value : d .value ≡ min (decimalFrom 0 t) most
+  unfolding digitsIn
+  is-value = ap (λ (x : Digits). x .value) e
+
+  pub count-within : d .count ≤ length t
+  count-within = omega (arith, is-count, front-le isDigit t)
+
+  some : (d .count ≡ 0 → ⊥) → trimmedRead t ≡ digitsRead t
+  some n = trimmed-digits t (λ z. n (is-count ∙ z))
+
+by-read : (l t : List ℕ) {x : ReadLine} → t ≡ trim l → trimmedRead t ≡ x → placed l x ≡ numbering l
+unfolding numbering readLine
+by-read l t e q = ap (placed l) (sym q ∙ ap trimmedRead e)
+
+-- the trimmed line stands within the line
+pub end-fits : (l t : List ℕ) {a : ℕ} → a ≡ front isSpace l → t ≡ trim l → Fits w64 (length l) → Fits w64 (a + length t)
+end-fits l t from e f = fits-le (omega (arith, trim-within l, ap length e)) f
+
+pub count-fits : (l t : List ℕ) {d : Digits} {a : ℕ} → a ≡ front isSpace l → t ≡ trim l → d ≡ digitsIn t → Fits w64 (length l) → Fits w64 (a + d .count)
+count-fits l t from e q f = fits-le (omega (arith, trim-within l, ap length e, count-within t q)) f
+
+module _ (l t : List ℕ) {d : Digits} where
+  pub line-missing : d .count ≡ 0 → d ≡ digitsIn t → t ≡ trim l → (length t ≡ 0 → ⊥) → Missing ≡ numbering l
+  line-missing z q e n = by-read l t e (trimmed-missing t n (sym (is-count t q) ∙ z))
+
+  pub line-range : 65535 < d .value → d ≡ digitsIn t → t ≡ trim l → (d .count ≡ 0 → ⊥) → OutOfRange (d .value) ≡ numbering l
+  unfolding digitsRead
+  line-range h q e n =
+      let high : 65535 < decimalFrom 0 t = omega (arith, is-value t q) in
+      ap OutOfRange (is-value t q) ∙ by-read l t e (some t q n ∙ left _ _ (lt-leb _ _ high))
+
+  module _ {k a : ℕ} (from : a ≡ front isSpace l) (s : k ≡ front (equals 0x20) (take (length t - d .count) (drop (d .count) t))) (q : d ≡ digitsIn t) (e : t ≡ trim l) where
+    rest : take (length t - d .count) (drop (d .count) t) ≡ past isDigit t
+    rest = tail t (d .count) ∙ ap (λ (m : ℕ). drop m t) (is-count t q)
+
+    body-long : length (past (equals 0x20) (past isDigit t)) ≡ length t - (d .count + k)
+    body-long =
+        omega (arith, is-count t q, s ∙ ap (front (equals 0x20)) rest, length-drop (front (equals 0x20) (past isDigit t)) (past isDigit t), length-drop (front isDigit t) t)
+
+    -- the body stands within the line
+    body-low : d .count + k ≤ length t
+    body-low =
+        omega (arith, count-within t q, s, ap length rest, front-le (equals 0x20) (take (length t - d .count) (drop (d .count) t)), length-drop (front isDigit t) t, is-count t q)
+
+    pub body-fits : Fits w64 (length l) → Fits w64 (a + d .count + k)
+    body-fits f = fits-le (omega (arith, body-low, trim-within l, ap length e)) f
+
+    pub line-numbered : d .value ≤ 65535 → (d .count ≡ 0 → ⊥) → Numbered (d .value) (a + d .count + k) (a + length t) ≡ numbering l
+    unfolding digitsRead
+    line-numbered h n =
+        let low : decimalFrom 0 t ≤ 65535 = omega (arith, is-value t q) in
+        let v : d .value ≡ decimalFrom 0 t = omega (arith, is-value t q) in
+        let end : a + length t ≡ trimmedEnd l = omega (arith, ap length e) in
+        let start : a + d .count + k ≡ trimmedEnd l - length (past (equals 0x20) (past isDigit t)) = omega (arith, body-long, body-low) in
+        rw (v, start, end) (by-read l t e (some t q n ∙ taken _ _ (le-leb _ _ low)))
+
+-- ---- what was read of a line, by its numbering
+
+-- blanks in front change nothing
+pub read-space : (b : ℕ) (l : List ℕ) → isSpace b ≡ true → readLine (b ∷ l) ≡ readLine l
+unfolding readLine
+read-space b l q = ap trimmedRead (trim-space b l q)
+
+-- a number that was read fits 16 bits, and its text is the end of the trimmed line
+record Read (l : List ℕ) (n : ℕ) (text : List ℕ) : Type 0 where
+  small : n ≤ 65535
+  at : ℕ
+  low : at ≤ length (trim l)
+  is-end : drop at (trim l) ≡ text
+
+digits-read : (t : List ℕ) {n : ℕ} {text : List ℕ} → digitsRead t ≡ numberedText n text → (n ≤ 65535) × (drop (front isDigit t + front (equals 0x20) (past isDigit t)) t ≡ text)
+unfolding digitsRead
+digits-read t {n} {text} e = go (leb (decimalFrom 0 t) 65535) refl e
+  where
+    go : (r : Bool) → leb (decimalFrom 0 t) 65535 ≡ r
+        → elim r [ true ↦ numberedText (decimalFrom 0 t) (past (equals 0x20) (past isDigit t)) | false ↦ numberTooHigh (min (decimalFrom 0 t) most) ] ≡ numberedText n text
+        → (n ≤ 65535) × (drop (front isDigit t + front (equals 0x20) (past isDigit t)) t ≡ text)
+    go true h p =
+        let v : decimalFrom 0 t ≡ n = cc in
+        let x : past (equals 0x20) (past isDigit t) ≡ text = cc in
+        (omega (arith, leb-true (decimalFrom 0 t) 65535 h), sym (drop-drop (front (equals 0x20) (past isDigit t)) (front isDigit t) t) ∙ x)
+    go false h p = let z : _≡_ {A = ℕ} 0 1 = cc in absurd (omega arith)
+
+trimmed-read : (t : List ℕ) {n : ℕ} {text : List ℕ} → trimmedRead t ≡ numberedText n text → digitsRead t ≡ numberedText n text
+unfolding trimmedRead
+trimmed-read [] e = let z : _≡_ {A = ℕ} 0 1 = cc in absurd (omega arith)
+trimmed-read (b ∷ t) {n} {text} e = go (isDigit b) e
+  where
+    go : (r : Bool) → elim r [ true ↦ digitsRead (b ∷ t) | false ↦ missingNumber ] ≡ numberedText n text → digitsRead (b ∷ t) ≡ numberedText n text
+    go true p = p
+    go false p = let z : _≡_ {A = ℕ} 0 1 = cc in absurd (omega arith)
+
+is-read : (l : List ℕ) {n : ℕ} {text : List ℕ} → readLine l ≡ numberedText n text → Read l n text
+unfolding readLine
+is-read l e =
+    let r = digits-read (trim l) (trimmed-read (trim l) e) in
+    let t = trim l in
+    let low : front isDigit t + front (equals 0x20) (past isDigit t) ≤ length t =
+    omega (arith, front-le isDigit t, front-le (equals 0x20) (past isDigit t), length-drop (front isDigit t) t) in
+    record { small = r .0; at = front isDigit t + front (equals 0x20) (past isDigit t); low = low; is-end = r .1 }
+
+pub number-fits : (l : List ℕ) {n : ℕ} {text : List ℕ} → readLine l ≡ numberedText n text → n ≤ 65535
+number-fits l e = is-read l e .small
 
 drop-take : (k n : ℕ) (s : List ℕ) → drop k (take n s) ≡ take (n - k) (drop k s)
 drop-take zero n s = let e : n ≡ n - 0 = omega arith in ap (λ (m : ℕ). take m s) e
@@ -109,220 +236,40 @@ drop-take (suc k) (suc n) [] = sym (take-nil (suc n - suc k))
 drop-take (suc k) (suc n) (b ∷ s) =
     let e : n - k ≡ suc n - suc k = omega arith in drop-take k n s ∙ ap (λ (m : ℕ). take m (drop k s)) e
 
-front-some : (b : ℕ) (s : List ℕ) → isDigit b ≡ true → frontOf Digit (b ∷ s) ≡ suc (frontOf Digit s)
-unfolding frontOf ofKind
-front-some b s t = taken _ _ t
-
-front-none : (b : ℕ) (s : List ℕ) → isDigit b ≡ false → frontOf Digit (b ∷ s) ≡ 0
-unfolding frontOf ofKind
-front-none b s t = left _ _ t
-
--- of a trimmed line that is not empty, by how many digits stand in front
-trimmed-missing : (t : List ℕ) (a e : ℕ) → 0 < length t → frontOf Digit t ≡ 0 → Missing ≡ trimmedLine t a e
-unfolding trimmedLine
-trimmed-missing [] a e h z = absurd (omega arith)
-trimmed-missing (b ∷ t) a e h z = go (isDigit b) refl
-  where
-    go : (r : Bool) → isDigit b ≡ r → Missing ≡ trimmedLine (b ∷ t) a e
-    go true q = absurd (omega (arith, front-some b t q))
-    go false q = sym (left _ _ q)
-
-trimmed-digits : (t : List ℕ) (a e : ℕ) → 0 < length t → (frontOf Digit t ≡ 0 → ⊥) → withDigits t a e (digitsIn t) ≡ trimmedLine t a e
-unfolding trimmedLine
-trimmed-digits [] a e h n = absurd (omega arith)
-trimmed-digits (b ∷ t) a e h n = go (isDigit b) refl
-  where
-    go : (r : Bool) → isDigit b ≡ r → withDigits (b ∷ t) a e (digitsIn (b ∷ t)) ≡ trimmedLine (b ∷ t) a e
-    go true q = sym (taken _ _ q)
-    go false q = absurd (n (front-none b t q))
-
--- a byte in front of some that count is counted, and one that is no white space is counted in any case
-counts-more : (b n : ℕ) → 0 < n → countsWith b n ≡ suc n
-unfolding countsWith
-counts-more b zero h = absurd (omega arith)
-counts-more b (suc n) h = refl
-
-counts-most : (b n : ℕ) → isSpace b ≡ true → countsWith b n ≤ suc n
-unfolding countsWith
-counts-most b zero q = omega (arith, taken {A = ℕ} {r = isSpace b} 0 1 q)
-counts-most b (suc n) q = omega arith
-
-counts-some : (b n : ℕ) → isSpace b ≡ false → 0 < countsWith b n
-unfolding countsWith
-counts-some b zero q = omega (arith, left {A = ℕ} {r = isSpace b} 0 1 q)
-counts-some b (suc n) q = omega arith
-
--- a line with something on it ends behind the white space in front
-solid-above : (l : List ℕ) → leading l < length l → leading l < solid l
-unfolding leading solid
-solid-above [] h = absurd (omega arith)
-solid-above (b ∷ l) h = go (isSpace b) refl (solid-above l)
-  where
-    go : (r : Bool) → isSpace b ≡ r → (leading l < length l → leading l < solid l) → leading (b ∷ l) < solid (b ∷ l)
-    go true q f =
-        let s : leading (b ∷ l) ≡ suc (leading l) = taken _ _ q in
-        let m : leading l < solid l = f (omega arith) in
-        omega (arith, counts-more b (solid l) (omega arith))
-    go false q f =
-        let s : leading (b ∷ l) ≡ 0 = left _ _ q in
-        omega (arith, counts-some b (solid l) q)
-
-module _ (l : List ℕ) {a e : ℕ} (from : a ≡ leading l) (to : e ≡ solid l) where
-  abbrev text : List ℕ
-  text = take (e - a) (drop a l)
-
-  is-line : trimmedLine text a e ≡ numbering l
-  unfolding numbering
-  is-line = let t : text ≡ trim l = trim-part l from to in cc
-
-  none-left : e ≤ a → Blank ≡ numbering l
-  unfolding trimmedLine
-  none-left h = let z : e - a ≡ 0 = omega arith in ap (λ (n : ℕ). trimmedLine (take n (drop a l)) a e) (sym z) ∙ is-line
-
-  pub line-solid : a < length l → a < e
-  line-solid h = omega (arith, solid-above l (omega arith))
-
-  pub line-end : e ≤ length l
-  line-end = omega (arith, solid-le l)
-
-  module _ {d : Digits} (h : a < length l) (q : d ≡ digitsIn text) where
-    text-long : length text ≡ e - a
-    text-long = length-take-le (e - a) (drop a l) (omega (arith, solid-le l, length-drop a l))
-
-    count-is : d .count ≡ frontOf Digit text
-    unfolding digitsIn
-    count-is = ap (λ (x : Digits). x .count) q
-
-    pub line-missing : d .count ≡ 0 → Missing ≡ numbering l
-    line-missing z = trimmed-missing text a e (omega (arith, text-long, line-solid h)) (sym count-is ∙ z) ∙ is-line
-
-    -- the digits do not run past the line
-    pub digits-within : a + d .count ≤ e
-    digits-within = omega (arith, count-is, front-le Digit text, text-long, line-solid h)
-
-    module _ (n : d .count ≡ 0 → ⊥) where
-      with-digits : withDigits text a e d ≡ numbering l
-      with-digits = ap (withDigits text a e) q ∙ trimmed-digits text a e (omega (arith, text-long, line-solid h)) (λ z. n (count-is ∙ z)) ∙ is-line
-
-      pub line-range : 65535 < d .value → OutOfRange (d .value) ≡ numbering l
-      unfolding withDigits
-      line-range m = sym (left _ _ (lt-leb _ _ m)) ∙ with-digits
-
-      module _ {k : ℕ} (s : k ≡ frontOf Space (take (e - (a + d .count)) (drop (a + d .count) l))) where
-        behind : take (e - (a + d .count)) (drop (a + d .count) l) ≡ drop (d .count) text
-        behind =
-            let m : e - (a + d .count) ≡ e - a - d .count = omega arith in
-            ap (λ (x : ℕ). take x (drop (a + d .count) l)) m ∙ ap (take (e - a - d .count)) (sym (drop-drop (d .count) a l)) ∙ sym (drop-take (d .count) (e - a) (drop a l))
-
-        pub body-within : a + d .count + k ≤ e
-        body-within =
-            let f : length (take (e - (a + d .count)) (drop (a + d .count) l)) ≡ e - (a + d .count) =
-            length-take-le _ _ (omega (arith, solid-le l, length-drop (a + d .count) l)) in
-            omega (arith, front-le Space (take (e - (a + d .count)) (drop (a + d .count) l)), digits-within)
-
-        pub line-numbered : d .value ≤ 65535 → Numbered (d .value) (a + d .count + k) e ≡ numbering l
-        unfolding withDigits
-        line-numbered m =
-            ap (λ (x : ℕ). Numbered (d .value) (a + d .count + x) e) (s ∙ ap (frontOf Space) behind)
-            ∙ sym (taken _ _ (le-leb _ _ m)) ∙ with-digits
-
-pub line-blank : (l : List ℕ) {a : ℕ} → a ≡ leading l → length l ≤ a → Blank ≡ numbering l
-line-blank l from h = none-left l from refl (omega (arith, solid-le l))
-
--- ---- white space in front of a line moves its body, and changes nothing else
-
-abbrev pub moved : Numbering → Numbering
-moved Blank = Blank
-moved Missing = Missing
-moved (OutOfRange v) = OutOfRange v
-moved (Numbered n f t) = Numbered n (suc f) (suc t)
-
-moved-digits : (x : List ℕ) (a e : ℕ) (d : Digits) → withDigits x (suc a) (suc e) d ≡ moved (withDigits x a e d)
-unfolding withDigits
-moved-digits x a e d = go (leb (d .value) 65535) (frontOf Space (drop (d .count) x))
-  where
-    go : (r : Bool) (k : ℕ) → elim r [ true ↦ Numbered (d .value) (suc a + d .count + k) (suc e) | false ↦ OutOfRange (d .value) ]
-        ≡ moved (elim r [ true ↦ Numbered (d .value) (a + d .count + k) e | false ↦ OutOfRange (d .value) ])
-    go true k = let o : suc a + d .count + k ≡ suc (a + d .count + k) = omega arith in ap (λ (n : ℕ). Numbered (d .value) n (suc e)) o
-    go false k = refl
-
-moved-trimmed : (x : List ℕ) (a e : ℕ) → trimmedLine x (suc a) (suc e) ≡ moved (trimmedLine x a e)
-unfolding trimmedLine
-moved-trimmed [] a e = refl
-moved-trimmed (b ∷ x) a e = go (isDigit b)
-  where
-    go : (r : Bool) → elim r [ true ↦ withDigits (b ∷ x) (suc a) (suc e) (digitsIn (b ∷ x)) | false ↦ Missing ]
-        ≡ moved (elim r [ true ↦ withDigits (b ∷ x) a e (digitsIn (b ∷ x)) | false ↦ Missing ])
-    go true = moved-digits (b ∷ x) a e (digitsIn (b ∷ x))
-    go false = refl
-
-module _ (b : ℕ) (l : List ℕ) (q : isSpace b ≡ true) where
-  leading-more : leading (b ∷ l) ≡ suc (leading l)
-  unfolding leading
-  leading-more = taken _ _ q
-
-  solid-more : leading l < solid l → solid (b ∷ l) ≡ suc (solid l)
-  unfolding solid
-  solid-more h = counts-more b (solid l) (omega arith)
-
-  solid-most : solid (b ∷ l) ≤ suc (solid l)
-  unfolding solid
-  solid-most = counts-most b (solid l) q
-
-  pub moved-line : numbering (b ∷ l) ≡ moved (numbering l)
-  moved-line = go (decLt (leading l) (solid l))
-    where
-      go : Dec (leading l < solid l) → numbering (b ∷ l) ≡ moved (numbering l)
-      go (yes h) =
-          let e : suc (solid l) - suc (leading l) ≡ solid l - leading l = omega arith in
-          sym (is-line (b ∷ l) (sym leading-more) (sym (solid-more h)))
-          ∙ ap (λ (n : ℕ). trimmedLine (take n (drop (leading l) l)) (suc (leading l)) (suc (solid l))) e
-          ∙ moved-trimmed (take (solid l - leading l) (drop (leading l) l)) (leading l) (solid l)
-          ∙ ap moved (is-line l refl refl)
-      go (no n) = sym (none-left (b ∷ l) refl refl (omega (arith, leading-more, solid-most))) ∙ ap moved (none-left l refl refl (omega arith))
-
--- ---- where the body of a numbered line stands
-
+-- where the text of a numbered line stands
 pub record Placed (l : List ℕ) (f t : ℕ) : Type 0 where
   pub up : f ≤ t
   pub within : t ≤ length l
 
--- the same of a trimmed line
-record Shaped (x : List ℕ) (a e f t : ℕ) : Type 0 where
-  some : 0 < length x
-  ends : t ≡ e
-  starts : f ≤ a + length x
+module _ (l : List ℕ) where
+  read-part : {n : ℕ} {text : List ℕ} → readLine l ≡ numberedText n text → take (trimmedEnd l - (trimmedEnd l - length text)) (drop (trimmedEnd l - length text) l) ≡ text
+  read-part {n} {text} e =
+      let r = is-read l e in
+      let long : length text ≡ length (trim l) - r .at = sym (ap length (r .is-end)) ∙ length-drop (r .at) (trim l) in
+      let starts : trimmedEnd l - length text ≡ front isSpace l + r .at = omega (arith, r .low) in
+      let size : trimmedEnd l - (front isSpace l + r .at) ≡ length (trim l) - r .at = omega (arith, r .low) in
+      rw (starts, size, ← drop-drop (r .at) (front isSpace l) l, ← drop-take (r .at) (length (trim l)) (drop (front isSpace l) l), trim-stands l) (r .is-end)
 
-module _ (n f t : ℕ) where
-  shaped-digits : (x : List ℕ) (a e : ℕ) → 0 < length x → withDigits x a e (digitsIn x) ≡ Numbered n f t → Shaped x a e f t
-  unfolding withDigits digitsIn
-  shaped-digits x a e h q = go (leb (digitsIn x .value) 65535) q
+  told-placed : (r : ReadLine) → readLine l ≡ r → told l (placed l r) ≡ r
+  told-placed blankLine e = refl
+  told-placed missingNumber e = refl
+  told-placed (numberTooHigh v) e = refl
+  told-placed (numberedText n text) e = ap (numberedText n) (read-part e)
+
+  -- the numbering tells what was read
+  pub read-told : {m : Numbering} → m ≡ numbering l → told l m ≡ readLine l
+  unfolding numbering
+  read-told e = ap (told l) e ∙ told-placed (readLine l) refl
+
+  pub numbered-placed : {m : Numbering} {n f t : ℕ} → m ≡ Numbered n f t → m ≡ numbering l → Placed l f t
+  unfolding numbering
+  numbered-placed {m} {n} {f} {t} q e = go (readLine l) (sym e ∙ q)
     where
-      go : (r : Bool) → elim r [ true ↦ Numbered (digitsIn x .value) (a + frontOf Digit x + frontOf Space (drop (frontOf Digit x) x)) e | false ↦ OutOfRange (digitsIn x .value) ] ≡ Numbered n f t → Shaped x a e f t
-      go true p =
-          let ends : t ≡ e = cc in
-          let starts : f ≡ a + frontOf Digit x + frontOf Space (drop (frontOf Digit x) x) = cc in
-          record {
-            some = h;
-            ends = ends;
-            starts = omega (arith, front-le Digit x, front-le Space (drop (frontOf Digit x) x), length-drop (frontOf Digit x) x);
-          }
-      go false p = let z : _≡_ {A = ℕ} 0 1 = cc in absurd (omega arith)
-
-  shaped : (x : List ℕ) (a e : ℕ) → trimmedLine x a e ≡ Numbered n f t → Shaped x a e f t
-  unfolding trimmedLine
-  shaped [] a e q = let z : _≡_ {A = ℕ} 0 1 = cc in absurd (omega arith)
-  shaped (b ∷ x) a e q = go (isDigit b) q
-    where
-      go : (r : Bool) → elim r [ true ↦ withDigits (b ∷ x) a e (digitsIn (b ∷ x)) | false ↦ Missing ] ≡ Numbered n f t → Shaped (b ∷ x) a e f t
-      go true p = shaped-digits (b ∷ x) a e (omega arith) p
-      go false p = let z : _≡_ {A = ℕ} 0 1 = cc in absurd (omega arith)
-
-  pub numbered-placed : (l : List ℕ) → numbering l ≡ Numbered n f t → Placed l f t
-  unfolding numbering trim
-  numbered-placed l q =
-      let s = shaped (trim l) (leading l) (solid l) q in
-      record {
-        up = omega (arith, s .some, s .ends, s .starts, length-take (solid l - leading l) (drop (leading l) l));
-        within = omega (arith, s .ends, solid-le l);
-      }
+      go : (r : ReadLine) → placed l r ≡ Numbered n f t → Placed l f t
+      go (numberedText k text) p =
+          let to : trimmedEnd l ≡ t = cc in
+          let from : trimmedEnd l - length text ≡ f = cc in
+          record { up = omega arith; within = omega (arith, trim-within l) }
+      go blankLine p = let z : _≡_ {A = ℕ} 0 1 = cc in absurd (omega arith)
+      go missingNumber p = let z : _≡_ {A = ℕ} 0 1 = cc in absurd (omega arith)
+      go (numberTooHigh v) p = let z : _≡_ {A = ℕ} 0 1 = cc in absurd (omega arith)

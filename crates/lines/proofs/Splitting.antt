@@ -3,64 +3,80 @@
 -- Assumes nothing.
 use Prim.Native.Nat.{ℕ, zero, suc, _+_, _-_, _≤_, _<_}
 use mathlib.Core.Path.{_≡_, refl, sym, ap, _∙_, subst}
-use mathlib.Core.Bool.{Bool, true, false, _&&_, false≢true}
+use mathlib.Core.Bool.{Bool, true, false, not, cond, _&&_, false≢true}
 use mathlib.Core.List.{List, [], _∷_, map}
 use native.Mathlib.Decide.{decLt}
-use native.Mathlib.Numerals.{add-one}
 use native.Mathlib.Omega.{arith}
 use lib.Dec.{eqb, ltb}
 use lib.ListN.{length, getD, take, drop, drop-of-length-le, length-drop}
-use lib.Seq.{drop-cons, drop-drop}
-use borrow.Author.Tests.{eqb-true, ne-eqb, lt-ltb, le-ltb}
-use Rattle.lines.specs.Front.{startsWith}
-use Rattle.lines.specs.TextLines.{crLf, loneCr, onto, atLf, linesOf, endMark, lineLength, lineUsed, isBlank, blanksIn, lineFrom}
+use lib.Seq.{drop-drop}
+use borrow.Author.Tests.{eqb-true, ne-eqb, lt-ltb, le-ltb, not-true, not-false}
+use Rattle.ascii.specs.Search.{startsWith, isBlank, front}
+use Rattle.ascii.proofs.Searching.{Onward, onward-by, onward-end, tail, here, starts-long, front-nil, front-more, front-none}
+use Rattle.lines.specs.TextLines.{crLf, loneCr, onto, atLf, textLines}
+use Rattle.lines.specs.SplitHelpers.{endMark, lineLength, lineUsed, lineFrom}
 use Rattle.lines.specs.declared.split.LineRule.{LineRule}
 use Rattle.lines.specs.declared.split.LineRule.the-variants.{AsGiven, AfterCr}
 use Rattle.lines.specs.declared.split.TextLine.{TextLine}
-use Rattle.lines.proofs.Blanks.{blank-lf, blank-cr, blanks-more, blanks-none, blanks-nil, past-blanks}
-use Rattle.lines.proofs.Parts.{tail, taken, left}
+use Rattle.lines.proofs.Blanks.{blank-lf, blank-cr, past-blanks}
+use Rattle.lines.proofs.Parts.{taken, left}
 
 -- ---- the line end in front, by what the first bytes are
 
-module _ (rule : LineRule) (t : List ℕ) {x : Bool} (p : x ≡ startsWith 0x0A t) where
-  pub mark-lf : x ≡ true → 1 ≡ endMark rule t
+module _ (rule : LineRule) (t : List ℕ) {x : Bool} where
+  pub mark-lf : x ≡ true → x ≡ startsWith 0x0A t → 1 ≡ endMark rule t
   unfolding endMark
-  mark-lf e = rw (← p, e)
+  mark-lf e p = rw (← p, e)
 
-  module _ {y : Bool} (e : x ≡ false) (q : y ≡ startsWith 0x0D t) where
-    pub mark-none : y ≡ false → 0 ≡ endMark rule t
+  module _ {y : Bool} where
+    pub mark-none : not y ≡ true → y ≡ startsWith 0x0D t → x ≡ false → x ≡ startsWith 0x0A t → 0 ≡ endMark rule t
     unfolding endMark
-    mark-none f = rw (← p, e, ← q, f)
+    mark-none f q e p = rw (← p, e, ← q, not-true y f)
 
-    module _ {z : Bool} (f : y ≡ true) (w : z ≡ startsWith 0x0A (take (length t - 1) (drop 1 t))) where
-      second : startsWith 0x0A (drop 1 t) ≡ z
-      second = sym (w ∙ ap (startsWith 0x0A) (tail t 1))
-
-      pub mark-two : z ≡ true → 2 ≡ endMark rule t
+    -- a CR, and what follows it
+    module _ {z : Bool} where
+      behind-cr : not y ≡ false → y ≡ startsWith 0x0D t → x ≡ false → x ≡ startsWith 0x0A t → z ≡ startsWith 0x0A (take (length t - 1) (drop 1 t))
+          → endMark rule t ≡ cond z 2 (elim rule [ AsGiven ↦ 0 | AfterCr ↦ 1 ])
       unfolding endMark
-      mark-two g = rw (← p, e, ← q, f, second, g)
+      behind-cr f q e p w = rw (← p, e, ← q, not-false y f, ← tail t 1, ← w)
 
-      pub mark-given : z ≡ false → rule ≡ AsGiven → 0 ≡ endMark rule t
-      unfolding endMark
-      mark-given g k = rw (← p, e, ← q, f, second, g, k)
+      pub mark-two : z ≡ true → z ≡ startsWith 0x0A (take (length t - 1) (drop 1 t)) → not y ≡ false → y ≡ startsWith 0x0D t → x ≡ false → x ≡ startsWith 0x0A t → 2 ≡ endMark rule t
+      mark-two g w f q e p = rw (behind-cr f q e p w, g)
 
-      pub mark-lone : z ≡ false → rule ≡ AfterCr → 1 ≡ endMark rule t
-      unfolding endMark
-      mark-lone g k = rw (← p, e, ← q, f, second, g, k)
+      pub mark-given : rule ≡ AsGiven → z ≡ false → z ≡ startsWith 0x0A (take (length t - 1) (drop 1 t)) → not y ≡ false → y ≡ startsWith 0x0D t → x ≡ false → x ≡ startsWith 0x0A t → 0 ≡ endMark rule t
+      mark-given k g w f q e p = rw (behind-cr f q e p w, g, k)
+
+      pub mark-lone : rule ≡ AfterCr → z ≡ false → z ≡ startsWith 0x0A (take (length t - 1) (drop 1 t)) → not y ≡ false → y ≡ startsWith 0x0D t → x ≡ false → x ≡ startsWith 0x0A t → 1 ≡ endMark rule t
+      mark-lone k g w f q e p = rw (behind-cr f q e p w, g, k)
+
+-- it takes two bytes at most
+pub mark-small : (rule : LineRule) (t : List ℕ) {m : ℕ} → m ≡ endMark rule t → m ≤ 2
+unfolding endMark
+mark-small rule t e = rw e (go (startsWith 0x0A t) (startsWith 0x0D t) (startsWith 0x0A (drop 1 t)) rule)
+  where
+    go : (x y z : Bool) (rule : LineRule) → cond x 1 (cond y (cond z 2 (elim rule [ AsGiven ↦ 0 | AfterCr ↦ 1 ])) 0) ≤ 2
+    go true y z rule = omega arith
+    go false false z rule = omega arith
+    go false true true rule = omega arith
+    go false true false AsGiven = omega arith
+    go false true false AfterCr = omega arith
+
+pub cr-some : (t : List ℕ) {y : Bool} → not y ≡ false → y ≡ startsWith 0x0D t → 1 ≤ length t
+cr-some t {y} f q = starts-long 0x0D t (sym q ∙ not-false y f)
 
 -- ---- what is in front of a text: a byte of the first line, or a line end of n + 1 bytes
 
 data Ahead (rule : LineRule) (b : ℕ) (s : List ℕ) : Type 0 where
-  byte : endMark rule (b ∷ s) ≡ 0 → linesOf rule (b ∷ s) ≡ onto b (linesOf rule s) → Ahead rule b s
-  end : (n : ℕ) → n ≤ length s → endMark rule (b ∷ s) ≡ suc n → linesOf rule (b ∷ s) ≡ [] ∷ linesOf rule (drop n s) → Ahead rule b s
+  byte : endMark rule (b ∷ s) ≡ 0 → textLines rule (b ∷ s) ≡ onto b (textLines rule s) → Ahead rule b s
+  end : (n : ℕ) → n ≤ length s → endMark rule (b ∷ s) ≡ suc n → textLines rule (b ∷ s) ≡ [] ∷ textLines rule (drop n s) → Ahead rule b s
 
 lf : (rule : LineRule) (s : List ℕ) → Ahead rule 0x0A s
-unfolding endMark linesOf crLf loneCr atLf startsWith
+unfolding endMark textLines crLf loneCr atLf startsWith
 lf AsGiven s = end 0 (omega arith) refl refl
 lf AfterCr s = end 0 (omega arith) refl refl
 
 cr-lf : (rule : LineRule) (s : List ℕ) → startsWith 0x0A s ≡ true → Ahead rule 0x0D s
-unfolding endMark linesOf crLf loneCr atLf startsWith
+unfolding endMark textLines crLf loneCr atLf startsWith
 cr-lf rule [] z = absurd (false≢true z)
 cr-lf rule (b ∷ s) z = subst (λ (x : ℕ). Ahead rule 0x0D (x ∷ s)) (sym (eqb-true _ _ z)) (both rule)
   where
@@ -74,7 +90,7 @@ unfolding crLf
 kept s z = left _ _ z
 
 lone : (rule : LineRule) (s : List ℕ) → startsWith 0x0A s ≡ false → Ahead rule 0x0D s
-unfolding endMark linesOf loneCr atLf startsWith
+unfolding endMark textLines loneCr atLf startsWith
 lone AsGiven s z = byte (rw z) (ap (λ (l : List ℕ). atLf (map (loneCr AsGiven) l)) (kept s z))
 lone AfterCr s z = end 0 (omega arith) (rw z) (ap (λ (l : List ℕ). atLf (map (loneCr AfterCr) l)) (kept s z))
 
@@ -94,7 +110,7 @@ module _ (rule : LineRule) (b : ℕ) (s : List ℕ) (x : eqb b 0x0A ≡ false) (
   no-end = simp (x, y)
 
   plain : Ahead rule b s
-  unfolding linesOf atLf
+  unfolding textLines atLf
   plain =
       byte no-end
       (ap (λ (l : List ℕ). atLf (map (loneCr rule) l)) other
@@ -116,7 +132,7 @@ pub record First (rule : LineRule) (t : List ℕ) : Type 0 where
   pub size : lineLength rule t ≤ lineUsed rule t
   pub used : lineUsed rule t ≤ length t
   pub some : 0 < lineUsed rule t
-  pub lines : linesOf rule t ≡ take (lineLength rule t) t ∷ linesOf rule (drop (lineUsed rule t) t)
+  pub lines : textLines rule t ≡ take (lineLength rule t) t ∷ textLines rule (drop (lineUsed rule t) t)
 
 -- how long it is, by what is in front
 module _ (rule : LineRule) (b : ℕ) (s : List ℕ) where
@@ -141,39 +157,39 @@ record Led (rule : LineRule) (t : List ℕ) (n : ℕ) : Type 0 where
   size : n + lineLength rule (drop n t) ≡ lineLength rule t
   used : n + lineUsed rule (drop n t) ≡ lineUsed rule t
 
-led : (rule : LineRule) (t : List ℕ) → Led rule t (blanksIn t)
-led rule [] = rw blanks-nil (record { size = omega arith; used = omega arith })
+led : (rule : LineRule) (t : List ℕ) → Led rule t (front isBlank t)
+led rule [] = rw (front-nil isBlank) (record { size = omega arith; used = omega arith })
 led rule (b ∷ s) = go (isBlank b) refl (led rule s)
   where
-    go : (r : Bool) → isBlank b ≡ r → Led rule s (blanksIn s) → Led rule (b ∷ s) (blanksIn (b ∷ s))
+    go : (r : Bool) → isBlank b ≡ r → Led rule s (front isBlank s) → Led rule (b ∷ s) (front isBlank (b ∷ s))
     go true q f =
         let e : endMark rule (b ∷ s) ≡ 0 = no-end rule b s (blank-lf b q) (blank-cr b q) in
-        rw (blanks-more b s q)
+        rw (front-more isBlank b s q)
         (record { size = omega (arith, length-byte rule b s e, f .size); used = omega (arith, used-byte rule b s e, f .used) })
-    go false q f = rw (blanks-none b s q) (record { size = omega arith; used = omega arith })
+    go false q f = rw (front-none isBlank b s q) (record { size = omega arith; used = omega arith })
 
 -- a text that ends its first line at once
-first-empty : (rule : LineRule) (b : ℕ) (s : List ℕ) (n : ℕ) → n ≤ length s → endMark rule (b ∷ s) ≡ suc n → linesOf rule (b ∷ s) ≡ [] ∷ linesOf rule (drop n s) → First rule (b ∷ s)
+first-empty : (rule : LineRule) (b : ℕ) (s : List ℕ) (n : ℕ) → n ≤ length s → endMark rule (b ∷ s) ≡ suc n → textLines rule (b ∷ s) ≡ [] ∷ textLines rule (drop n s) → First rule (b ∷ s)
 first-empty rule b s n h e q =
     let z : lineLength rule (b ∷ s) ≡ 0 = length-end rule b s e in
     let u : lineUsed rule (b ∷ s) ≡ suc n = used-end rule b s e in
     record { size = omega arith; used = omega arith; some = omega arith; lines = rw (z, u) q }
 
 -- a byte in front of a text of which this is known
-first-longer : (rule : LineRule) (b : ℕ) (s : List ℕ) → endMark rule (b ∷ s) ≡ 0 → linesOf rule (b ∷ s) ≡ onto b (linesOf rule s) → First rule s → First rule (b ∷ s)
+first-longer : (rule : LineRule) (b : ℕ) (s : List ℕ) → endMark rule (b ∷ s) ≡ 0 → textLines rule (b ∷ s) ≡ onto b (textLines rule s) → First rule s → First rule (b ∷ s)
 unfolding onto
 first-longer rule b s e q f =
     let z : lineLength rule (b ∷ s) ≡ suc (lineLength rule s) = length-byte rule b s e in
     let u : lineUsed rule (b ∷ s) ≡ suc (lineUsed rule s) = used-byte rule b s e in
     record { size = omega (arith, f .size); used = omega (arith, f .used); some = omega arith; lines = rw (z, u) (q ∙ ap (onto b) (f .lines)) }
 
-pub lines-none : (rule : LineRule) → linesOf rule [] ≡ []
-unfolding linesOf crLf atLf
+pub lines-none : (rule : LineRule) → textLines rule [] ≡ []
+unfolding textLines crLf atLf
 lines-none rule = refl
 
 -- a byte alone
-first-alone : (rule : LineRule) (b : ℕ) → endMark rule (b ∷ []) ≡ 0 → linesOf rule (b ∷ []) ≡ onto b (linesOf rule []) → First rule (b ∷ [])
-unfolding onto lineLength lineUsed linesOf crLf atLf
+first-alone : (rule : LineRule) (b : ℕ) → endMark rule (b ∷ []) ≡ 0 → textLines rule (b ∷ []) ≡ onto b (textLines rule []) → First rule (b ∷ [])
+unfolding onto lineLength lineUsed textLines crLf atLf
 first-alone rule b e q =
     let z : lineLength rule (b ∷ []) ≡ 1 = length-byte rule b [] e in
     let u : lineUsed rule (b ∷ []) ≡ 1 = used-byte rule b [] e in
@@ -200,7 +216,7 @@ pub record Stepped (rule : LineRule) (t : List ℕ) (from : ℕ) (r : TextLine) 
   pub high : r .end ≤ length t
   pub onward : from < r .next
   pub within : r .next ≤ length t
-  pub lines : linesOf rule (drop from t) ≡ take (r .end - from) (drop from t) ∷ linesOf rule (drop (r .next) t)
+  pub lines : textLines rule (drop from t) ≡ take (r .end - from) (drop from t) ∷ textLines rule (drop (r .next) t)
 
 module _ (rule : LineRule) (t : List ℕ) (from : ℕ) where
   stepped : from < length t → Stepped rule t from (lineFrom rule t from)
@@ -226,7 +242,7 @@ module _ {A : Type 0} (P : List ℕ → A) (same : (b : ℕ) (l : List ℕ) → 
   behind : P (take (lineFrom rule t from .end - lineFrom rule t from .begin) (drop (lineFrom rule t from .begin) t)) ≡ P (take (lineFrom rule t from .end - from) (drop from t))
   unfolding lineFrom
   behind =
-      let g = blanksIn (drop from t) in
+      let g = front isBlank (drop from t) in
       let l = lineLength rule (drop from t) in
       let m : from + l - (from + g) ≡ l - g = omega arith in
       let n : from + l - from ≡ l = omega arith in
@@ -237,7 +253,7 @@ module _ {A : Type 0} (P : List ℕ → A) (same : (b : ℕ) (l : List ℕ) → 
       subst (λ (x : TextLine). P (take (x .end - x .begin) (drop (x .begin) t)) ≡ P (take (x .end - from) (drop from t))) (sym e) behind
 
 -- behind the text there is none
-pub lines-end : (rule : LineRule) (t : List ℕ) (from : ℕ) → length t ≤ from → linesOf rule (drop from t) ≡ []
+pub lines-end : (rule : LineRule) (t : List ℕ) (from : ℕ) → length t ≤ from → textLines rule (drop from t) ≡ []
 lines-end rule t from h = rw (drop-of-length-le t h) (lines-none rule)
 
 -- the lines that steps from a place on give, so many at most
@@ -250,13 +266,13 @@ linesFrom rule t (suc k) from =
       | false ↦ []
     ]
 
-lines-from : (rule : LineRule) (t : List ℕ) (k from : ℕ) → length t ≤ from + k → linesFrom rule t k from ≡ linesOf rule (drop from t)
+lines-from : (rule : LineRule) (t : List ℕ) (k from : ℕ) → length t ≤ from + k → linesFrom rule t k from ≡ textLines rule (drop from t)
 unfolding linesFrom
 lines-from rule t zero from h = sym (lines-end rule t from (omega arith))
 lines-from rule t (suc k) from h = go (decLt from (length t)) (lines-from rule t k (lineFrom rule t from .next))
   where
-    go : Dec (from < length t) → (length t ≤ lineFrom rule t from .next + k → linesFrom rule t k (lineFrom rule t from .next) ≡ linesOf rule (drop (lineFrom rule t from .next) t))
-        → linesFrom rule t (suc k) from ≡ linesOf rule (drop from t)
+    go : Dec (from < length t) → (length t ≤ lineFrom rule t from .next + k → linesFrom rule t k (lineFrom rule t from .next) ≡ textLines rule (drop (lineFrom rule t from .next) t))
+        → linesFrom rule t (suc k) from ≡ textLines rule (drop from t)
     go (yes l) f =
         let s = stepped rule t from l in
         taken _ _ (lt-ltb _ _ l) ∙ ap (λ (ls : List (List ℕ)). take (lineFrom rule t from .end - from) (drop from t) ∷ ls) (f (omega (arith, s .onward)))
@@ -264,69 +280,65 @@ lines-from rule t (suc k) from h = go (decLt from (length t)) (lines-from rule t
     go (no n) f = let l : length t ≤ from = omega arith in left _ _ (le-ltb _ _ l) ∙ sym (lines-end rule t from l)
 
 -- steps one after the other from the start on give exactly the lines
-pub all-lines : (rule : LineRule) (t : List ℕ) → linesFrom rule t (length t) 0 ≡ linesOf rule t
+pub all-lines : (rule : LineRule) (t : List ℕ) → linesFrom rule t (length t) 0 ≡ textLines rule t
 all-lines rule t = lines-from rule t (length t) 0 (omega arith)
 
 -- ---- the loop that looks for the end of the line that begins at a place
 
 -- the bytes from there up to i belong to the line
 pub record Seeking (rule : LineRule) (t : List ℕ) (from i : ℕ) : Type 0 where
-  pub ends : i + lineLength rule (drop i t) ≡ from + lineLength rule (drop from t)
-  pub goes : i + lineUsed rule (drop i t) ≡ from + lineUsed rule (drop from t)
+  pub ends : Onward (lineLength rule) t from i
+  pub goes : Onward (lineUsed rule) t from i
 
 -- it may start behind the blanks
-pub seeking-start : (rule : LineRule) (t : List ℕ) (from : ℕ) {begin : ℕ} → begin ≡ from + blanksIn (drop from t) → Seeking rule t from begin
+pub seeking-start : (rule : LineRule) (t : List ℕ) (from : ℕ) {begin : ℕ} → begin ≡ from + front isBlank (drop from t) → Seeking rule t from begin
 seeking-start rule t from {begin} q =
     let f = led rule (drop from t) in
-    let d : drop (blanksIn (drop from t)) (drop from t) ≡ drop begin t = drop-drop (blanksIn (drop from t)) from t ∙ ap (λ (n : ℕ). drop n t) (sym q) in
-    record { ends = omega (arith, f .size, ap (lineLength rule) d); goes = omega (arith, f .used, ap (lineUsed rule) d) }
+    let d : drop (front isBlank (drop from t)) (drop from t) ≡ drop begin t = drop-drop (front isBlank (drop from t)) from t ∙ ap (λ (n : ℕ). drop n t) (sym q) in
+    record {
+      ends = record { gives = omega (arith, f .size, ap (lineLength rule) d) };
+      goes = record { gives = omega (arith, f .used, ap (lineUsed rule) d) };
+    }
 
-module _ {rule : LineRule} {t : List ℕ} {from i : ℕ} (k : Seeking rule t from i) where
-  seeking-is : {begin : ℕ} → begin ≡ from + blanksIn (drop from t) → (n : ℕ) → lineLength rule (drop i t) ≡ 0 → lineUsed rule (drop i t) ≡ n → record { begin = begin; end = i; next = i + n } ≡ lineFrom rule t from
+module _ {rule : LineRule} {t : List ℕ} {from i : ℕ} where
+  seeking-is : {begin n : ℕ} → lineLength rule (drop i t) ≡ 0 → lineUsed rule (drop i t) ≡ n → begin ≡ from + front isBlank (drop from t) → Seeking rule t from i
+      → record { begin = begin; end = i; next = i + n } ≡ lineFrom rule t from
   unfolding lineFrom
-  seeking-is q n e u =
-      let a : i ≡ from + lineLength rule (drop from t) = omega arith in
-      let b : i + n ≡ from + lineUsed rule (drop from t) = omega arith in
+  seeking-is {n = n} e u q k =
+      let a : i ≡ from + lineLength rule (drop from t) = onward-end (k .ends) e in
+      let b : i + n ≡ from + lineUsed rule (drop from t) = omega (arith, k .goes .gives) in
       cc
 
-  pub seeking-end : {begin : ℕ} → begin ≡ from + blanksIn (drop from t) → length t ≤ i → record { begin = begin; end = i; next = i } ≡ lineFrom rule t from
-  unfolding lineFrom lineLength lineUsed
-  seeking-end q h =
-      let z : lineLength rule (drop i t) ≡ 0 = rw (drop-of-length-le t h) in
-      let u : lineUsed rule (drop i t) ≡ 0 = rw (drop-of-length-le t h) in
-      let a : i ≡ from + lineLength rule (drop from t) = omega arith in
-      let b : i ≡ from + lineUsed rule (drop from t) = omega arith in
-      cc
+  pub seeking-end : {begin : ℕ} → length t ≤ i → begin ≡ from + front isBlank (drop from t) → Seeking rule t from i → record { begin = begin; end = i; next = i } ≡ lineFrom rule t from
+  unfolding lineLength lineUsed
+  seeking-end {begin} h q k =
+      let n : i + 0 ≡ i = omega arith in
+      rw n at (seeking-is {begin = begin} {n = 0} (rw (drop-of-length-le t h)) (rw (drop-of-length-le t h)) q k)
 
-  module _ (h : i < length t) where
-    here : drop i t ≡ getD t i 0 ∷ drop (i + 1) t
-    here = rw add-one (drop-cons t i 0 h)
+  seeking-on : endMark rule (getD t i 0 ∷ drop (i + 1) t) ≡ 0 → i < length t → Seeking rule t from i → Seeking rule t from (i + 1)
+  seeking-on e h k =
+      let l : lineLength rule (drop i t) ≡ suc (lineLength rule (drop (i + 1) t)) = rw (here t i h) (length-byte rule _ _ e) in
+      let u : lineUsed rule (drop i t) ≡ suc (lineUsed rule (drop (i + 1) t)) = rw (here t i h) (used-byte rule _ _ e) in
+      record { ends = onward-by (k .ends) 1 (omega arith); goes = onward-by (k .goes) 1 (omega arith) }
 
-    seeking-on : endMark rule (getD t i 0 ∷ drop (i + 1) t) ≡ 0 → Seeking rule t from (i + 1)
-    seeking-on e =
-        let l : lineLength rule (drop i t) ≡ suc (lineLength rule (drop (i + 1) t)) = rw here (length-byte rule _ _ e) in
-        let u : lineUsed rule (drop i t) ≡ suc (lineUsed rule (drop (i + 1) t)) = rw here (used-byte rule _ _ e) in
-        record { ends = omega arith; goes = omega arith }
+  pub seeking-above : 0x0D < getD t i 0 → i < length t → Seeking rule t from i → Seeking rule t from (i + 1)
+  seeking-above l h k =
+      seeking-on (no-end rule _ _ (ne-eqb (getD t i 0) 0x0A (λ e. omega arith)) (ne-eqb (getD t i 0) 0x0D (λ e. omega arith))) h k
 
-    pub seeking-above : 0x0D < getD t i 0 → Seeking rule t from (i + 1)
-    seeking-above l = seeking-on (no-end rule _ _ (ne-eqb (getD t i 0) 0x0A (λ e. omega arith)) (ne-eqb (getD t i 0) 0x0D (λ e. omega arith)))
+-- a line end, or none, at a place
+module _ (rule : LineRule) (t : List ℕ) {i m : ℕ} where
+  mark-at : m ≡ endMark rule (take (length t - i) (drop i t)) → i < length t → endMark rule (getD t i 0 ∷ drop (i + 1) t) ≡ m
+  mark-at q h = sym (q ∙ ap (endMark rule) (tail t i ∙ here t i h))
 
-    module _ {m : ℕ} (q : m ≡ endMark rule (take (length t - i) (drop i t))) where
-      told : endMark rule (getD t i 0 ∷ drop (i + 1) t) ≡ m
-      told = sym (q ∙ ap (endMark rule) (tail t i ∙ here))
+  pub seeking-turn : {from : ℕ} → m ≤ 0 → m ≡ endMark rule (take (length t - i) (drop i t)) → i < length t → Seeking rule t from i → Seeking rule t from (i + 1)
+  seeking-turn z q h k = seeking-on (omega (arith, mark-at q h)) h k
 
-      pub seeking-turn : m ≤ 0 → Seeking rule t from (i + 1)
-      seeking-turn z = seeking-on (omega (arith, told))
+  module _ (p : 0 < m) (q : m ≡ endMark rule (take (length t - i) (drop i t))) (h : i < length t) where
+    up : endMark rule (getD t i 0 ∷ drop (i + 1) t) ≡ suc (m - 1)
+    up = omega (arith, mark-at q h)
 
-      module _ (p : 0 < m) where
-        up : endMark rule (getD t i 0 ∷ drop (i + 1) t) ≡ suc (m - 1)
-        up = omega (arith, told)
+    used-here : lineUsed rule (drop i t) ≡ m
+    used-here = ap (lineUsed rule) (here t i h) ∙ used-end rule _ _ up ∙ omega arith
 
-        pub seeking-found : {begin : ℕ} → begin ≡ from + blanksIn (drop from t) → record { begin = begin; end = i; next = i + m } ≡ lineFrom rule t from
-        seeking-found q = seeking-is q m (ap (lineLength rule) here ∙ length-end rule _ _ up) (ap (lineUsed rule) here ∙ used-end rule _ _ up ∙ omega arith)
-
-        pub seeking-fits : i + m ≤ length t
-        seeking-fits =
-            let f = first rule (drop i t) (omega (arith, length-drop i t)) in
-            let u : lineUsed rule (drop i t) ≡ m = ap (lineUsed rule) here ∙ used-end rule _ _ up ∙ omega arith in
-            omega (arith, f .used, length-drop i t)
+    pub seeking-found : {from begin : ℕ} → begin ≡ from + front isBlank (drop from t) → Seeking rule t from i → record { begin = begin; end = i; next = i + m } ≡ lineFrom rule t from
+    seeking-found b k = seeking-is (ap (lineLength rule) (here t i h) ∙ length-end rule _ _ up) used-here b k

@@ -1,4 +1,7 @@
 pub mod Domain
+pub mod DomainHelpers
 pub mod Front
+pub mod NumberHelpers
 pub mod Numbering
+pub mod SplitHelpers
 pub mod TextLines

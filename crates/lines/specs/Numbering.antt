@@ -1,45 +1,42 @@
--- The number of a line and the place of its body (document 01, "Text lines": "A line blank after trimming is skipped. Otherwise both ends
--- are trimmed, decimal digits are taken (65535 is accepted, 65536 refused; a value past 32 bits is reported as 4,294,967,295), then
--- spaces 20 only are dropped, and the rest is crunched.").
+-- What a text line is (document 01, "Text lines": "A line blank after trimming is skipped. Otherwise both ends are trimmed, decimal
+-- digits are taken (65535 is accepted, 65536 refused; a value past 32 bits is reported as 4,294,967,295), then spaces 20 only are
+-- dropped, and the rest is crunched.").
 -- Assumes nothing.
-use Prim.Native.Nat.{ℕ, zero, suc, _+_, _-_, _*_, min}
-use mathlib.Core.Bool.{Bool, true, false}
+use Prim.Native.Nat.{ℕ, _+_, _-_, _*_, min}
+use mathlib.Core.Bool.{true, false}
 use mathlib.Core.List.{List, [], _∷_}
 use lib.Dec.{leb}
-use lib.ListN.{drop, take}
 use Rattle.ascii.specs.Bytes.{isDigit}
-use Rattle.ascii.specs.Trim.{leading, solid, trim}
-use Rattle.lines.specs.Front.{frontOf}
-use Rattle.lines.specs.declared.front.Kind.the-variants.{Digit, Space}
-use Rattle.lines.specs.declared.number.Digits.{Digits}
-use Rattle.lines.specs.declared.number.Numbering.{Numbering}
-use Rattle.lines.specs.declared.number.Numbering.the-variants.{Blank, Missing, OutOfRange, Numbered}
+use Rattle.ascii.specs.Search.{equals, front, past}
+use Rattle.ascii.specs.Trim.{trim}
+
+-- a line, read: its number and the text that is crunched
+pub data ReadLine : Type 0 where
+  blankLine : ReadLine
+  missingNumber : ReadLine
+  numberTooHigh : ℕ → ReadLine
+  numberedText : ℕ → List ℕ → ReadLine
 
 -- the value of the digits in front, behind digits of the value v
 unfoldable pub decimalFrom : ℕ → List ℕ → ℕ
 decimalFrom v [] = v
 decimalFrom v (b ∷ s) = elim (isDigit b) [ true ↦ decimalFrom (v * 10 + (b - 48)) s | false ↦ v ]
 
--- a value past 32 bits is reported as the largest
-unfoldable pub digitsIn : List ℕ → Digits
-unfolding decimalFrom frontOf
-digitsIn t = record { count = frontOf Digit t; value = min (decimalFrom 0 t) 4294967295 }
-
--- digits d in front of the text t, before which stand a bytes, and which ends at e
-unfoldable pub withDigits : List ℕ → ℕ → ℕ → Digits → Numbering
-unfolding frontOf
-withDigits t a e d =
-    elim (leb (d .value) 65535) [
-      | true ↦ Numbered (d .value) (a + d .count + frontOf Space (drop (d .count) t)) e
-      | false ↦ OutOfRange (d .value)
+-- a trimmed line with a digit in front
+unfoldable pub digitsRead : List ℕ → ReadLine
+unfolding decimalFrom front
+digitsRead t =
+    elim (leb (decimalFrom 0 t) 65535) [
+      | true ↦ numberedText (decimalFrom 0 t) (past (equals 0x20) (past isDigit t))
+      | false ↦ numberTooHigh (min (decimalFrom 0 t) 4294967295)
     ]
 
--- a trimmed line, before which stood a bytes, and which ends at e
-unfoldable pub trimmedLine : List ℕ → ℕ → ℕ → Numbering
-unfolding digitsIn withDigits
-trimmedLine [] a e = Blank
-trimmedLine (b ∷ t) a e = elim (isDigit b) [ true ↦ withDigits (b ∷ t) a e (digitsIn (b ∷ t)) | false ↦ Missing ]
+-- a trimmed line
+unfoldable pub trimmedRead : List ℕ → ReadLine
+unfolding digitsRead
+trimmedRead [] = blankLine
+trimmedRead (b ∷ t) = elim (isDigit b) [ true ↦ digitsRead (b ∷ t) | false ↦ missingNumber ]
 
-unfoldable pub numbering : List ℕ → Numbering
-unfolding trim leading solid trimmedLine
-numbering l = trimmedLine (trim l) (leading l) (solid l)
+unfoldable pub readLine : List ℕ → ReadLine
+unfolding trim trimmedRead
+readLine l = trimmedRead (trim l)

@@ -1,12 +1,15 @@
 // Which texts are taken.
-use crate::front;
+use ascii::search;
 use refusals::Refusal;
 ghost use mathlib.Core.Path.{_≡_};
 ghost use Prim.Native.Nat.{_+_, _≤_};
 ghost use lib.ListN.{length};
-ghost use Rattle.lines.specs.Domain.{isPi, domainLength, Tops, Passed, checkedText, checkedAnswer};
+ghost use Rattle.ascii.specs.Search.{front};
+ghost use Rattle.lines.specs.Domain.{isPi, domainLength, checkedText, textCheckAnswer};
+ghost use Rattle.lines.specs.DomainHelpers.{isLow, Tops};
 
-pub enum Checked {
+// What a check of a text answers.
+pub enum TextCheck {
     Fine,
     Refused(Refusal),
 }
@@ -15,10 +18,10 @@ pub enum Checked {
 fn is_pi(text: &[u8]) -> bool
     ensures { λ r. ⌜ r ≡ isPi (now (text .entry)) ⌝ }
 {
-    if !front::starts_with(text, 0xCF) {
+    if !search::starts_with(text, 0xCF) {
         return false;
     }
-    front::starts_with(&text[1..], 0x80)
+    search::starts_with(&text[1..], 0x80)
 }
 
 fn larger(a: u8, b: u8) -> u8
@@ -43,9 +46,9 @@ fn top_of_eight(text: &[u8], i: usize) -> u8
     larger(a, b)
 }
 
-// How many bytes in front, counted in two eights, are below 80: all of them lie in the domain.
+// So many bytes in front are below 80, and perhaps more: two eights are passed at a time.
 fn passed_by_eights(text: &[u8]) -> usize
-    ensures { λ r. ⌜ Passed (now (text .entry)) r ⌝ }
+    ensures { λ r. ⌜ r ≤ front isLow (now (text .entry)) ⌝ }
 {
     let mut i: usize = 0;
     while text.len() - i >= 16 {
@@ -76,15 +79,15 @@ fn domain_length(text: &[u8]) -> usize
 }
 
 // Whether a text is one that is taken: not too long, and each byte in the domain.
-pub fn check_text(text: &[u8]) -> Checked
-    ensures { λ r. ⌜ checkedAnswer r ≡ checkedText (now (text .entry)) ⌝ }
+pub fn check_text(text: &[u8]) -> TextCheck
+    ensures { λ r. ⌜ textCheckAnswer r ≡ checkedText (now (text .entry)) ⌝ }
 {
     if text.len() > 1048576 {
-        return Checked::Refused(Refusal::TextTooLong { length: text.len() });
+        return TextCheck::Refused(Refusal::TextTooLong { length: text.len() });
     }
     let fine = domain_length(text);
     if fine < text.len() {
-        return Checked::Refused(Refusal::BadByte { offset: fine });
+        return TextCheck::Refused(Refusal::BadByte { offset: fine });
     }
-    Checked::Fine
+    TextCheck::Fine
 }

@@ -1,9 +1,9 @@
 // The number of a line, and where its body stands.
-use crate::front;
-use crate::front::Kind;
+use ascii::search;
+use ascii::search::Kind;
 ghost use mathlib.Core.Path.{_≡_};
 ghost use Prim.Native.Nat.{_+_, _*_, min};
-ghost use Rattle.lines.specs.Numbering.{digitsIn as digitsOf, numbering};
+ghost use Rattle.lines.specs.NumberHelpers.{digitsIn as digitsOf, numbering};
 
 // Decimal digits in front of a text: how many, and their value. One past 32 bits is 4,294,967,295.
 pub struct Digits {
@@ -59,13 +59,11 @@ fn digits_in(text: &[u8]) -> Digits
 pub fn number_line(line: &[u8]) -> Numbering
     ensures { λ r. ⌜ r ≡ numbering (now (line .entry)) ⌝ }
 {
-    let from = ascii::leading_space(line);
-    // A blank line is told by its front alone: its end is not looked for.
-    if line.len() <= from {
+    let text = ascii::trim(line);
+    if text.len() == 0 {
         return Numbering::Blank;
     }
-    let to = ascii::solid_length(line);
-    let digits = digits_in(&line[from..to]);
+    let digits = digits_in(text);
     let count = digits.count;
     let value = digits.value;
     if count == 0 {
@@ -74,11 +72,11 @@ pub fn number_line(line: &[u8]) -> Numbering
     if value > 65535 {
         return Numbering::OutOfRange { value };
     }
-    let behind = from + count;
-    let spaces = front::front(&line[behind..to], Kind::Space);
+    let spaces = search::front(&text[count..], Kind::Space);
+    let from = search::front(line, Kind::Trimmed);
     Numbering::Numbered {
         number: value as u16,
-        body_from: behind + spaces,
-        body_to: to,
+        body_from: from + count + spaces,
+        body_to: from + text.len(),
     }
 }

@@ -1,10 +1,11 @@
 // The lines of a text, found where they stand: nothing is copied.
-use crate::front;
+use ascii::search;
+use ascii::search::Kind;
 ghost use mathlib.Core.Path.{_≡_};
-ghost use mathlib.Core.Bool.{true};
 ghost use Prim.Native.Nat.{_+_};
 ghost use lib.ListN.{drop};
-ghost use Rattle.lines.specs.TextLines.{isBlank, blanksIn, Skipped, endMark, lineFrom};
+ghost use Rattle.ascii.specs.Search.{isBlank, front};
+ghost use Rattle.lines.specs.SplitHelpers.{endMark, lineFrom};
 
 // What ends a line.
 pub enum LineRule {
@@ -25,13 +26,13 @@ pub struct TextLine {
 fn end_mark(text: &[u8], rule: LineRule) -> usize
     ensures { λ r. ⌜ r ≡ endMark rule (now (text .entry)) ⌝ }
 {
-    if front::starts_with(text, 0x0A) {
+    if search::starts_with(text, 0x0A) {
         return 1;
     }
-    if !front::starts_with(text, 0x0D) {
+    if !search::starts_with(text, 0x0D) {
         return 0;
     }
-    if front::starts_with(&text[1..], 0x0A) {
+    if search::starts_with(&text[1..], 0x0A) {
         return 2;
     }
     match rule {
@@ -40,53 +41,19 @@ fn end_mark(text: &[u8], rule: LineRule) -> usize
     }
 }
 
-// Whether a byte is white space that every reader of a line skips in front of it, and that ends no line.
-fn is_blank(b: u8) -> bool
-    ensures { λ r. ⌜ r ≡ isBlank b ⌝ }
-{
-    if b == 0x20 {
-        return true;
-    }
-    if b == 0x09 {
-        return true;
-    }
-    b == 0x0C
-}
-
-// The place behind the run of one blank that stands from a place on.
-fn behind_run(text: &[u8], from: usize, blank: u8) -> usize
-    requires { ⌜ isBlank blank ≡ true ⌝ }
-    ensures { λ r. ⌜ Skipped (now (text .entry)) from r ⌝ }
-{
-    let mut i: usize = from;
-    while i < text.len() {
-        if text[i] != blank {
-            return i;
-        }
-        i += 1;
-    }
-    i
-}
-
 // The place behind the blanks that stand from a place on. Most are a run of one, which is passed with one test for each byte.
 fn behind_blanks(text: &[u8], from: usize) -> usize
-    ensures { λ r. ⌜ r ≡ from + blanksIn (drop from (now (text .entry))) ⌝ }
+    ensures { λ r. ⌜ r ≡ from + front isBlank (drop from (now (text .entry))) ⌝ }
 {
     if text.len() <= from {
         return from;
     }
     let first = text[from];
-    if !is_blank(first) {
+    if !search::is_kind(first, Kind::Blank) {
         return from;
     }
-    let mut i = behind_run(text, from, first);
-    while i < text.len() {
-        if !is_blank(text[i]) {
-            return i;
-        }
-        i += 1;
-    }
-    i
+    let behind = from + search::front(&text[from..], Kind::Is(first));
+    behind + search::front(&text[behind..], Kind::Blank)
 }
 
 // The line that begins at from.

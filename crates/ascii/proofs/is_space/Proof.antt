@@ -9,11 +9,8 @@ use Rattle.ascii.proofs.is_space.Tie as tie
 returns : tie.Need-returns
 returns c = simp (eq-eqb _ _ (c .if1 .taken))
 
-between-requires : tie.Need-between-requires
-between-requires c κs = search needs
-
 returns-2 : tie.Need-returns-2
 returns-2 c = c .between .ensures ∙ simp (ne-eqb _ _ (c .before .if1 .left))
 
 pub is-space-spec : {M : Type 1} → statement M
-is-space-spec = tie.close (tie.spec returns between-requires returns-2)
+is-space-spec = tie.close (tie.spec returns (λ c κs. search needs) returns-2)

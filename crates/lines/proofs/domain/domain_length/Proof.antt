@@ -1,65 +1,34 @@
 -- `lines::domain::domain_length` meets its contract.
 -- Assumes nothing.
 use Prim.Native.Nat.{_-_}
-use native.Mathlib.Omega.{arith}
 use lib.ListN.{length}
-use borrow.Author.Tests.{not-true, not-false}
-use Rattle.lines.specs.Domain.{Passed}
-use Rattle.lines.proofs.Limits.{passed-byte, passed-pi, passed-stop, passed-end}
+use Rattle.ascii.proofs.Searching.{Onward}
+use Rattle.lines.specs.Domain.{domainLength}
+use Rattle.lines.proofs.Limits.{domain-low, domain-byte, domain-pi, domain-stop, domain-end}
 use borrow.Author.Needs.{needs}
 use Rattle.lines.proofs.domain.domain_length.Statement.{statement}
 use Rattle.lines.proofs.domain.domain_length.Tie as tie
 
 abbrev Inv-loop : tie.InvT-loop
-Inv-loop text i₀ i = Passed text i
+Inv-loop text i₀ i = Onward domainLength text 0 i
 
 abbrev μ-loop : tie.MeasureT-loop
 μ-loop text i₀ i = length text - i
 
-passed-by-eights-requires : tie.Need-passed-by-eights-requires Inv-loop μ-loop
-passed-by-eights-requires c κs = search needs
-
 loop-holds : tie.Need-loop-holds Inv-loop μ-loop
-loop-holds c = c .passed-by-eights .ensures
-
-shared-slice-read-if1 : tie.Need-shared-slice-read-if1 Inv-loop μ-loop
-shared-slice-read-if1 c = search needs
-
-add-i : tie.Need-add-i Inv-loop μ-loop
-add-i c = search needs
-
-loop-less : tie.Need-loop-less Inv-loop μ-loop
-loop-less c = search needs
+loop-holds c = search domain-low
 
 loop-again : tie.Need-loop-again Inv-loop μ-loop
-loop-again c = passed-byte (c .before .before .before .loop .inv) (c .before .before .loop-test .taken) (c .if1 .taken)
-
-sub-is-pi : tie.Need-sub-is-pi Inv-loop μ-loop
-sub-is-pi c = search needs
-
-part-is-pi-start : tie.Need-part-is-pi-start Inv-loop μ-loop
-part-is-pi-start c = search needs
-
-part-is-pi-end : tie.Need-part-is-pi-end Inv-loop μ-loop
-part-is-pi-end c = search needs
-
-is-pi-requires : tie.Need-is-pi-requires Inv-loop μ-loop
-is-pi-requires c κs = search needs
+loop-again c = search domain-byte
 
 returns : tie.Need-returns Inv-loop μ-loop
-returns c = passed-stop (c .before .before .before .before .before .before .loop .inv) (c .before .before .before .before .before .loop-test .taken) (c .before .before .before .if1 .left) (c .before .is-pi .ensures) (not-true _ (c .if2 .taken))
-
-add-i-2 : tie.Need-add-i-2 Inv-loop μ-loop
-add-i-2 c = search needs
-
-loop-less-2 : tie.Need-loop-less-2 Inv-loop μ-loop
-loop-less-2 c = search needs
+returns c = search domain-stop
 
 loop-again-2 : tie.Need-loop-again-2 Inv-loop μ-loop
-loop-again-2 c = passed-pi (c .before .before .before .before .before .before .loop .inv) (c .before .before .before .before .before .loop-test .taken) (c .before .before .before .if1 .left) (c .before .is-pi .ensures) (not-false _ (c .if2 .left))
+loop-again-2 c = search domain-pi
 
 returns-2 : tie.Need-returns-2 Inv-loop μ-loop
-returns-2 c = passed-end (c .before .loop .inv) (c .loop-test .left)
+returns-2 c = search domain-end
 
 pub domain-length-spec : {M : Type 1} → statement M
 domain-length-spec =
@@ -67,18 +36,18 @@ domain-length-spec =
     (tie.spec
     Inv-loop
     μ-loop
-    passed-by-eights-requires
+    (λ c κs. search needs)
     loop-holds
-    shared-slice-read-if1
-    add-i
-    loop-less
+    (λ c. search needs)
+    (λ c. search needs)
+    (λ c. search needs)
     loop-again
-    sub-is-pi
-    part-is-pi-start
-    part-is-pi-end
-    is-pi-requires
+    (λ c. search needs)
+    (λ c. search needs)
+    (λ c. search needs)
+    (λ c κs. search needs)
     returns
-    add-i-2
-    loop-less-2
+    (λ c. search needs)
+    (λ c. search needs)
     loop-again-2
     returns-2)
