@@ -9,8 +9,8 @@ use native.Mathlib.Omega.{arith}
 use lib.ListN.{length, getD, take, drop, drop-of-length-le, length-drop, length-append, take-append-drop}
 use lib.Dec.{eqb}
 use lib.Seq.{drop-cons, take-suc, take-all, take-length, length-take-le, take-append-seam}
-use borrow.Author.Tests.{not-true, not-false}
-use Rattle.ascii.specs.Search.{other, ofKind, startsWith, front, before, past, last, pastEnd}
+use borrow.Author.Tests.{not-true, not-false, eq-eqb, ne-eqb}
+use Rattle.ascii.specs.Search.{equals, other, ofKind, startsWith, front, before, past, last, pastEnd}
 use Rattle.ascii.specs.declared.search.Kind.{Kind}
 use Rattle.ascii.specs.declared.search.Found.{Found}
 use Rattle.ascii.specs.declared.search.Found.the-variants.{At, Nowhere}
@@ -92,6 +92,14 @@ module _ (p : ℕ → Bool) {s : List ℕ} {from i : ℕ} where
 
     pub from-found : not r ≡ true → r ≡ p (getD s i 0) → i < length s → Onward (front p) s from i → i ≡ from + front p (drop from s)
     from-found t q = stops (sym q ∙ not-true r t)
+
+-- a loop that goes on while a byte is b
+module _ (b : ℕ) {s : List ℕ} {from i : ℕ} where
+  pub run-turn : getD s i 0 ≡ b → i < length s → Onward (front (equals b)) s from i → Onward (front (equals b)) s from (i + 1)
+  run-turn e = passes (equals b) (eq-eqb _ _ e)
+
+  pub run-found : (getD s i 0 ≡ b → ⊥) → i < length s → Onward (front (equals b)) s from i → i ≡ from + front (equals b) (drop from s)
+  run-found n = stops (equals b) (ne-eqb _ _ n)
 
 -- the same from the first byte on
 module _ (p : ℕ → Bool) {s : List ℕ} {i : ℕ} where
@@ -248,13 +256,13 @@ last-within p (b ∷ s) {n} e = go (last p s) (p b) (λ m. last-within p s) e
     go Nowhere false w q = let z : _≡_ {A = ℕ} 0 1 = cc in absurd (omega arith)
 
 -- a place behind the last byte that passes, or any place where none does
-pub Behind : Found → ℕ → Type 0
+abbrev pub Behind : Found → ℕ → Type 0
 Behind (At n) i = n < i
 Behind Nowhere i = Unit
 
 -- from there on none passes
 pub none-behind : (p : ℕ → Bool) (s : List ℕ) (i : ℕ) → Behind (last p s) i → before p (drop i s) ≡ length (drop i s)
-unfolding last before front Behind
+unfolding last before front
 none-behind p [] zero h = refl
 none-behind p [] (suc i) h = refl
 none-behind p (b ∷ s) zero h = go (last p s) (p b) (none-behind p s 0) h

@@ -1,7 +1,8 @@
 // Bytes as ASCII text: letters without regard to case, digits, white space, trimming; and searches in bytes.
-use search::Kind;
 ghost use mathlib.Core.Path.{_≡_};
+ghost use lib.ListN.{length};
 ghost use Rattle.ascii.specs.Bytes.{between as betweenOf, upper as upperOf, isDigit, isLetter, isSpace, isAscii};
+ghost use Rattle.ascii.specs.Search.{front, pastEnd};
 ghost use Rattle.ascii.specs.Trim.{trim as trimOf};
 
 pub mod search;
@@ -79,12 +80,40 @@ pub fn is_ascii(s: &[u8]) -> bool
     true
 }
 
+// How many bytes of white space stand in front. This loop and the next are run for each text line, and have a test of their own.
+pub fn leading_space(s: &[u8]) -> usize
+    ensures { λ r. ⌜ r ≡ front isSpace (now (s .entry)) ⌝ }
+{
+    let mut i: usize = 0;
+    while i < s.len() {
+        if !is_space(s[i]) {
+            return i;
+        }
+        i += 1;
+    }
+    i
+}
+
+// How many bytes are left without the white space at the end.
+pub fn solid_length(s: &[u8]) -> usize
+    ensures { λ r. ⌜ r ≡ length (pastEnd isSpace (now (s .entry))) ⌝ }
+{
+    let mut e: usize = s.len();
+    while 0 < e {
+        if !is_space(s[e - 1]) {
+            return e;
+        }
+        e -= 1;
+    }
+    e
+}
+
 // What is left without the white space at both ends.
 pub fn trim(s: &[u8]) -> &[u8]
     ensures { λ r. ⌜ now r ≡ trimOf (now (s .entry)) ⌝ }
 {
-    let from = search::front(s, Kind::Trimmed);
+    let from = leading_space(s);
     let rest = &s[from..];
-    let to = search::solid(rest, Kind::Trimmed);
+    let to = solid_length(rest);
     &rest[..to]
 }

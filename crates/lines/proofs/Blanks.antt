@@ -5,16 +5,13 @@ use mathlib.Core.Path.{_≡_, refl, sym, ap, _∙_, subst}
 use mathlib.Core.Bool.{Bool, true, false, not, _||_}
 use mathlib.Core.List.{List, [], _∷_}
 use native.Mathlib.Omega.{arith}
-use mir.Syntax.{w64}
-use mir.Val.{Fits}
-use mir.Facts.{fits-le}
 use lib.Dec.{eqb}
-use lib.ListN.{length, getD, take, drop, length-drop}
+use lib.ListN.{length, getD, take, drop}
 use lib.Seq.{drop-drop}
 use borrow.Author.Tests.{eqb-true, not-false}
 use Rattle.ascii.specs.Bytes.{between, isSpace}
 use Rattle.ascii.specs.Search.{equals, isWhite, isBlank, front}
-use Rattle.ascii.proofs.Searching.{onward-start, from-end, from-found, tail, front-nil, front-more, front-none, front-le, front-drop, front-wider}
+use Rattle.ascii.proofs.Searching.{Onward, onward-start, from-end, from-found, front-nil, front-more, front-none, front-drop, front-wider}
 
 -- ---- one byte
 
@@ -51,30 +48,14 @@ module _ (t : List ℕ) (from : ℕ) where
   pub blanks-none : {r : Bool} → not r ≡ true → r ≡ isBlank (getD t from 0) → from < length t → from ≡ from + front isBlank (drop from t)
   blanks-none e q h = from-found isBlank e q h (onward-start (front isBlank) t from)
 
-  -- a run of one byte, then all blanks
-  module _ (b : ℕ) {n : ℕ} (run : n ≡ front (equals b) (take (length t - from) (drop from t))) where
-    is-run : n ≡ front (equals b) (drop from t)
-    is-run = run ∙ ap (front (equals b)) (tail t from)
-
-    pub run-within : from < length t → from + n ≤ length t
-    run-within h = omega (arith, is-run, front-le (equals b) (drop from t), length-drop from t)
-
-    pub run-fits : from < length t → Fits w64 (length t) → Fits w64 (from + n)
-    run-fits h = fits-le (run-within h)
-
-    module _ {m : ℕ} (more : m ≡ front isBlank (take (length t - (from + n)) (drop (from + n) t))) where
-      is-more : m ≡ front isBlank (drop n (drop from t))
-      is-more = more ∙ ap (front isBlank) (tail t (from + n) ∙ sym (drop-drop n from t))
-
-      pub blanks-fit : from < length t → Fits w64 (length t) → Fits w64 (from + n + m)
-      blanks-fit h =
-          fits-le (omega (arith, run-within h, is-more, front-le isBlank (drop n (drop from t)), length-drop n (drop from t), length-drop from t))
-
-      pub blanks-run : {r : Bool} → not r ≡ false → r ≡ isBlank b → from + n + m ≡ from + front isBlank (drop from t)
-      blanks-run {r} e q =
-          let blank : isBlank b ≡ true = sym q ∙ not-false r e in
-          let wider = front-wider isBlank (equals b) (λ x p. ap isBlank (eqb-true x b p) ∙ blank) (drop from t) in
-          omega (arith, is-more, front-drop isBlank n (drop from t) (omega (arith, is-run, wider)))
+  -- a run of one blank is passed first
+  pub blanks-run : (b : ℕ) {n : ℕ} {r : Bool} → n ≡ from + front (equals b) (drop from t) → not r ≡ false → r ≡ isBlank b → Onward (front isBlank) t from n
+  blanks-run b {n} {r} run e q =
+      let k = front (equals b) (drop from t) in
+      let blank : isBlank b ≡ true = sym q ∙ not-false r e in
+      let wider = front-wider isBlank (equals b) (λ x p. ap isBlank (eqb-true x b p) ∙ blank) (drop from t) in
+      let rest : drop n t ≡ drop k (drop from t) = ap (λ (m : ℕ). drop m t) run ∙ sym (drop-drop k from t) in
+      record { gives = omega (arith, ap (front isBlank) rest, front-drop isBlank k (drop from t) wider) }
 
 -- ---- what one blank in front does not change, all of them in front of a line do not
 

@@ -101,6 +101,11 @@ unfolding numbering readLine trimmedRead
 line-blank l [] h e = ap (λ (x : List ℕ). placed l (trimmedRead x)) e
 line-blank l (b ∷ t) h e = absurd (omega arith)
 
+pub line-empty : (l : List ℕ) → length l ≡ 0 → Blank ≡ numbering l
+unfolding numbering
+line-empty [] h = refl
+line-empty (b ∷ l) h = absurd (omega arith)
+
 -- a line that is not blank, by how many digits stand in front
 trimmed-missing : (t : List ℕ) → (length t ≡ 0 → ⊥) → front isDigit t ≡ 0 → trimmedRead t ≡ missingNumber
 unfolding trimmedRead

@@ -59,6 +59,10 @@ fn digits_in(text: &[u8]) -> Digits
 pub fn number_line(line: &[u8]) -> Numbering
     ensures { λ r. ⌜ r ≡ numbering (now (line .entry)) ⌝ }
 {
+    // Most blank lines are empty.
+    if line.len() == 0 {
+        return Numbering::Blank;
+    }
     let text = ascii::trim(line);
     if text.len() == 0 {
         return Numbering::Blank;
@@ -73,7 +77,7 @@ pub fn number_line(line: &[u8]) -> Numbering
         return Numbering::OutOfRange { value };
     }
     let spaces = search::front(&text[count..], Kind::Space);
-    let from = search::front(line, Kind::Trimmed);
+    let from = ascii::leading_space(line);
     Numbering::Numbered {
         number: value as u16,
         body_from: from + count + spaces,

@@ -4,7 +4,7 @@ use ascii::search::Kind;
 ghost use mathlib.Core.Path.{_≡_};
 ghost use Prim.Native.Nat.{_+_};
 ghost use lib.ListN.{drop};
-ghost use Rattle.ascii.specs.Search.{isBlank, front};
+ghost use Rattle.ascii.specs.Search.{equals, isBlank, front};
 ghost use Rattle.lines.specs.SplitHelpers.{endMark, lineFrom};
 
 // What ends a line.
@@ -41,7 +41,22 @@ fn end_mark(text: &[u8], rule: LineRule) -> usize
     }
 }
 
-// The place behind the blanks that stand from a place on. Most are a run of one, which is passed with one test for each byte.
+// The place behind the run of one byte that stands from a place on.
+fn behind_run(text: &[u8], from: usize, b: u8) -> usize
+    ensures { λ r. ⌜ r ≡ from + front (equals b) (drop from (now (text .entry))) ⌝ }
+{
+    let mut i: usize = from;
+    while i < text.len() {
+        if text[i] != b {
+            return i;
+        }
+        i += 1;
+    }
+    i
+}
+
+// The place behind the blanks that stand from a place on. Most are a run of one, which is passed with one test for each byte. These
+// loops stand here, and not in `ascii::search`, because they are run for each text line.
 fn behind_blanks(text: &[u8], from: usize) -> usize
     ensures { λ r. ⌜ r ≡ from + front isBlank (drop from (now (text .entry))) ⌝ }
 {
@@ -52,8 +67,14 @@ fn behind_blanks(text: &[u8], from: usize) -> usize
     if !search::is_kind(first, Kind::Blank) {
         return from;
     }
-    let behind = from + search::front(&text[from..], Kind::Is(first));
-    behind + search::front(&text[behind..], Kind::Blank)
+    let mut i = behind_run(text, from, first);
+    while i < text.len() {
+        if !search::is_kind(text[i], Kind::Blank) {
+            return i;
+        }
+        i += 1;
+    }
+    i
 }
 
 // The line that begins at from.
