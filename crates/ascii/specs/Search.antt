@@ -6,9 +6,9 @@ use mathlib.Core.Bool.{Bool, true, false, not, cond, _||_}
 use mathlib.Core.List.{List, [], _∷_, reverse}
 use lib.Dec.{eqb}
 use lib.ListN.{drop}
-use Rattle.ascii.specs.Bytes.{between, isDigit, isSpace}
+use Rattle.ascii.specs.Bytes.{between, isDigit}
 use Rattle.ascii.specs.declared.search.Kind.{Kind}
-use Rattle.ascii.specs.declared.search.Kind.the-variants.{Is, Digit, Space, Trimmed, White, Blank, Mark}
+use Rattle.ascii.specs.declared.search.Kind.the-variants.{Is, Digit, Space, White, Blank, Mark}
 use Rattle.ascii.specs.declared.search.Found.{Found}
 use Rattle.ascii.specs.declared.search.Found.the-variants.{At, Nowhere}
 
@@ -38,7 +38,6 @@ abbrev pub ofKind : Kind → ℕ → Bool
 ofKind (Is x) = equals x
 ofKind Digit = isDigit
 ofKind Space = equals 0x20
-ofKind Trimmed = isSpace
 ofKind White = isWhite
 ofKind Blank = isBlank
 ofKind Mark = isMark

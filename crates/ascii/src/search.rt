@@ -11,11 +11,9 @@ pub enum Kind {
     Digit,
     // 20 alone.
     Space,
-    // The white space that trimming removes: 09 to 0D and 20.
-    Trimmed,
     // White space as the dialect guess knows it: 09, 0A, 0C, 0D and 20. The vertical tab, 0B, is none.
     White,
-    // White space of both, that ends no line: 09, 0C and 20.
+    // White space of trimming and of the dialect guess alike, that ends no line: 09, 0C and 20.
     Blank,
     // What ends the prefix of an escape: a space, - or _.
     Mark,
@@ -71,7 +69,6 @@ pub fn is_kind(b: u8, kind: Kind) -> bool
         Kind::Is(x) => b == x,
         Kind::Digit => crate::is_digit(b),
         Kind::Space => b == 0x20,
-        Kind::Trimmed => crate::is_space(b),
         Kind::White => is_white(b),
         Kind::Blank => is_blank(b),
         Kind::Mark => is_mark(b),

@@ -1,5 +1,4 @@
 pub mod Blanks
-pub mod Fronts
 pub mod Limits
 pub mod Numbers
 pub mod Parts

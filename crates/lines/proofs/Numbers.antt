@@ -255,16 +255,16 @@ module _ (l : List ℕ) where
       let size : trimmedEnd l - (front isSpace l + r .at) ≡ length (trim l) - r .at = omega (arith, r .low) in
       rw (starts, size, ← drop-drop (r .at) (front isSpace l) l, ← drop-take (r .at) (length (trim l)) (drop (front isSpace l) l), trim-stands l) (r .is-end)
 
-  told-placed : (r : ReadLine) → readLine l ≡ r → told l (placed l r) ≡ r
-  told-placed blankLine e = refl
-  told-placed missingNumber e = refl
-  told-placed (numberTooHigh v) e = refl
-  told-placed (numberedText n text) e = ap (numberedText n) (read-part e)
+  as-placed : (r : ReadLine) → readLine l ≡ r → told l (placed l r) ≡ r
+  as-placed blankLine e = refl
+  as-placed missingNumber e = refl
+  as-placed (numberTooHigh v) e = refl
+  as-placed (numberedText n text) e = ap (numberedText n) (read-part e)
 
   -- the numbering tells what was read
   pub read-told : {m : Numbering} → m ≡ numbering l → told l m ≡ readLine l
   unfolding numbering
-  read-told e = ap (told l) e ∙ told-placed (readLine l) refl
+  read-told e = ap (told l) e ∙ as-placed (readLine l) refl
 
   pub numbered-placed : {m : Numbering} {n f t : ℕ} → m ≡ Numbered n f t → m ≡ numbering l → Placed l f t
   unfolding numbering

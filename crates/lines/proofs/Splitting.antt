@@ -128,85 +128,59 @@ ahead rule b s = go (eqb b 0x0A) refl (eqb b 0x0D) refl (startsWith 0x0A s) refl
 
 -- ---- the first line of a text that is not empty
 
-pub record First (rule : LineRule) (t : List ℕ) : Type 0 where
-  pub size : lineLength rule t ≤ lineUsed rule t
-  pub used : lineUsed rule t ≤ length t
-  pub some : 0 < lineUsed rule t
-  pub lines : textLines rule t ≡ take (lineLength rule t) t ∷ textLines rule (drop (lineUsed rule t) t)
-
 -- how long it is, by what is in front
 module _ (rule : LineRule) (b : ℕ) (s : List ℕ) where
   length-byte : endMark rule (b ∷ s) ≡ 0 → lineLength rule (b ∷ s) ≡ suc (lineLength rule s)
   unfolding lineLength
-  length-byte e = ap (λ (m : ℕ). elim m as (λ x. ℕ) [ zero ↦ suc (lineLength rule s) | suc n ↦ 0 ]) e
+  length-byte e = rw (lineLength, e)
 
   length-end : {n : ℕ} → endMark rule (b ∷ s) ≡ suc n → lineLength rule (b ∷ s) ≡ 0
   unfolding lineLength
-  length-end e = ap (λ (m : ℕ). elim m as (λ x. ℕ) [ zero ↦ suc (lineLength rule s) | suc n ↦ 0 ]) e
+  length-end e = rw (lineLength, e)
 
-  used-byte : endMark rule (b ∷ s) ≡ 0 → lineUsed rule (b ∷ s) ≡ suc (lineUsed rule s)
-  unfolding lineUsed
-  used-byte e = ap (λ (m : ℕ). elim m as (λ x. ℕ) [ zero ↦ suc (lineUsed rule s) | suc n ↦ suc n ]) e
+-- where the text ends there is no line end, and no line
+pub nothing-left : (rule : LineRule) → (endMark rule [] ≡ 0) × (lineLength rule [] ≡ 0) × (textLines rule [] ≡ [])
+unfolding endMark startsWith lineLength textLines crLf atLf
+nothing-left rule = (refl, refl, refl)
 
-  used-end : {n : ℕ} → endMark rule (b ∷ s) ≡ suc n → lineUsed rule (b ∷ s) ≡ suc n
-  unfolding lineUsed
-  used-end e = ap (λ (m : ℕ). elim m as (λ x. ℕ) [ zero ↦ suc (lineUsed rule s) | suc n ↦ suc n ]) e
-
--- blanks in front are bytes of the first line
-record Led (rule : LineRule) (t : List ℕ) (n : ℕ) : Type 0 where
-  size : n + lineLength rule (drop n t) ≡ lineLength rule t
-  used : n + lineUsed rule (drop n t) ≡ lineUsed rule t
-
-led : (rule : LineRule) (t : List ℕ) → Led rule t (front isBlank t)
-led rule [] = rw (front-nil isBlank) (record { size = omega arith; used = omega arith })
-led rule (b ∷ s) = go (isBlank b) refl (led rule s)
-  where
-    go : (r : Bool) → isBlank b ≡ r → Led rule s (front isBlank s) → Led rule (b ∷ s) (front isBlank (b ∷ s))
-    go true q f =
-        let e : endMark rule (b ∷ s) ≡ 0 = no-end rule b s (blank-lf b q) (blank-cr b q) in
-        rw (front-more isBlank b s q)
-        (record { size = omega (arith, length-byte rule b s e, f .size); used = omega (arith, used-byte rule b s e, f .used) })
-    go false q f = rw (front-none isBlank b s q) (record { size = omega arith; used = omega arith })
-
--- a text that ends its first line at once
-first-empty : (rule : LineRule) (b : ℕ) (s : List ℕ) (n : ℕ) → n ≤ length s → endMark rule (b ∷ s) ≡ suc n → textLines rule (b ∷ s) ≡ [] ∷ textLines rule (drop n s) → First rule (b ∷ s)
-first-empty rule b s n h e q =
-    let z : lineLength rule (b ∷ s) ≡ 0 = length-end rule b s e in
-    let u : lineUsed rule (b ∷ s) ≡ suc n = used-end rule b s e in
-    record { size = omega arith; used = omega arith; some = omega arith; lines = rw (z, u) q }
-
--- a byte in front of a text of which this is known
-first-longer : (rule : LineRule) (b : ℕ) (s : List ℕ) → endMark rule (b ∷ s) ≡ 0 → textLines rule (b ∷ s) ≡ onto b (textLines rule s) → First rule s → First rule (b ∷ s)
-unfolding onto
-first-longer rule b s e q f =
-    let z : lineLength rule (b ∷ s) ≡ suc (lineLength rule s) = length-byte rule b s e in
-    let u : lineUsed rule (b ∷ s) ≡ suc (lineUsed rule s) = used-byte rule b s e in
-    record { size = omega (arith, f .size); used = omega (arith, f .used); some = omega arith; lines = rw (z, u) (q ∙ ap (onto b) (f .lines)) }
-
-pub lines-none : (rule : LineRule) → textLines rule [] ≡ []
-unfolding textLines crLf atLf
-lines-none rule = refl
-
--- a byte alone
-first-alone : (rule : LineRule) (b : ℕ) → endMark rule (b ∷ []) ≡ 0 → textLines rule (b ∷ []) ≡ onto b (textLines rule []) → First rule (b ∷ [])
-unfolding onto lineLength lineUsed textLines crLf atLf
-first-alone rule b e q =
-    let z : lineLength rule (b ∷ []) ≡ 1 = length-byte rule b [] e in
-    let u : lineUsed rule (b ∷ []) ≡ 1 = used-byte rule b [] e in
-    record { size = omega arith; used = omega arith; some = omega arith; lines = rw (z, u) q }
+pub record First (rule : LineRule) (t : List ℕ) : Type 0 where
+  pub used : lineUsed rule t ≤ length t
+  pub some : 0 < lineUsed rule t
+  pub lines : textLines rule t ≡ take (lineLength rule t) t ∷ textLines rule (drop (lineUsed rule t) t)
 
 pub first : (rule : LineRule) (t : List ℕ) → 0 < length t → First rule t
+unfolding onto
 first rule [] h = absurd (omega arith)
-first rule (b ∷ []) h = go (ahead rule b [])
+first rule (b ∷ s) h = go s (ahead rule b s) (first rule s)
   where
-    go : Ahead rule b [] → First rule (b ∷ [])
-    go (byte e q) = first-alone rule b e q
-    go (end n l e q) = first-empty rule b [] n l e q
-first rule (b ∷ c ∷ s) h = go (ahead rule b (c ∷ s)) (first rule (c ∷ s) (omega arith))
+    go : (s : List ℕ) → Ahead rule b s → (0 < length s → First rule s) → First rule (b ∷ s)
+    -- the line ends at once
+    go s (end n l e q) f =
+        let z : lineLength rule (b ∷ s) ≡ 0 = length-end rule b s e in
+        let u : lineUsed rule (b ∷ s) ≡ suc n = rw z (omega (arith, e)) in
+        record { used = omega arith; some = omega arith; lines = rw (u, z) q }
+    -- a byte alone
+    go [] (byte e q) f =
+        let n = nothing-left rule in
+        let z : lineLength rule (b ∷ []) ≡ 1 = length-byte rule b [] e ∙ ap suc (n .1) in
+        let u : lineUsed rule (b ∷ []) ≡ 1 = rw z (omega (arith, n .0)) in
+        record { used = omega arith; some = omega arith; lines = rw (u, z) (q ∙ rw (n .2)) }
+    -- a byte in front of others
+    go (c ∷ s) (byte e q) f =
+        let g = f (omega arith) in
+        let z : lineLength rule (b ∷ c ∷ s) ≡ suc (lineLength rule (c ∷ s)) = length-byte rule b (c ∷ s) e in
+        let u : lineUsed rule (b ∷ c ∷ s) ≡ suc (lineUsed rule (c ∷ s)) = rw z (omega arith) in
+        record { used = omega (arith, g .used); some = omega arith; lines = rw (u, z) (q ∙ ap (onto b) (g .lines)) }
+
+-- blanks in front are bytes of the first line
+led : (rule : LineRule) (t : List ℕ) → front isBlank t + lineLength rule (drop (front isBlank t) t) ≡ lineLength rule t
+led rule [] = rw (front-nil isBlank) (omega arith)
+led rule (b ∷ s) = go (isBlank b) refl (led rule s)
   where
-    go : Ahead rule b (c ∷ s) → First rule (c ∷ s) → First rule (b ∷ c ∷ s)
-    go (byte e q) f = first-longer rule b (c ∷ s) e q f
-    go (end n l e q) f = first-empty rule b (c ∷ s) n l e q
+    go : (r : Bool) → isBlank b ≡ r → front isBlank s + lineLength rule (drop (front isBlank s) s) ≡ lineLength rule s
+        → front isBlank (b ∷ s) + lineLength rule (drop (front isBlank (b ∷ s)) (b ∷ s)) ≡ lineLength rule (b ∷ s)
+    go true q f = rw (front-more isBlank b s q) (omega (arith, length-byte rule b s (no-end rule b s (blank-lf b q) (blank-cr b q))))
+    go false q f = rw (front-none isBlank b s q) (omega arith)
 
 -- ---- the line at a place
 
@@ -226,8 +200,8 @@ module _ (rule : LineRule) (t : List ℕ) (from : ℕ) where
       let n : from + lineLength rule (drop from t) - from ≡ lineLength rule (drop from t) = omega arith in
       record {
         low = omega arith;
-        begins = omega (arith, led rule (drop from t) .size);
-        high = omega (arith, length-drop from t, f .size, f .used);
+        begins = omega (arith, led rule (drop from t));
+        high = omega (arith, length-drop from t, f .used);
         onward = omega (arith, f .some);
         within = omega (arith, length-drop from t, f .used);
         lines = rw (n, ← drop-drop (lineUsed rule (drop from t)) from t) (f .lines);
@@ -246,7 +220,7 @@ module _ {A : Type 0} (P : List ℕ → A) (same : (b : ℕ) (l : List ℕ) → 
       let l = lineLength rule (drop from t) in
       let m : from + l - (from + g) ≡ l - g = omega arith in
       let n : from + l - from ≡ l = omega arith in
-      rw (m, n, ← drop-drop g from t) (past-blanks P same (drop from t) l (omega (arith, led rule (drop from t) .size)))
+      rw (m, n, ← drop-drop g from t) (past-blanks P same (drop from t) l (omega (arith, led rule (drop from t))))
 
   pub line-behind : {r : TextLine} → r ≡ lineFrom rule t from → P (take (r .end - r .begin) (drop (r .begin) t)) ≡ P (take (r .end - from) (drop from t))
   line-behind e =
@@ -254,7 +228,7 @@ module _ {A : Type 0} (P : List ℕ → A) (same : (b : ℕ) (l : List ℕ) → 
 
 -- behind the text there is none
 pub lines-end : (rule : LineRule) (t : List ℕ) (from : ℕ) → length t ≤ from → textLines rule (drop from t) ≡ []
-lines-end rule t from h = rw (drop-of-length-le t h) (lines-none rule)
+lines-end rule t from h = rw (drop-of-length-le t h) (nothing-left rule .2)
 
 -- the lines that steps from a place on give, so many at most
 unfoldable pub linesFrom : LineRule → List ℕ → ℕ → ℕ → List (List ℕ)
@@ -285,60 +259,46 @@ all-lines rule t = lines-from rule t (length t) 0 (omega arith)
 
 -- ---- the loop that looks for the end of the line that begins at a place
 
--- the bytes from there up to i belong to the line
-pub record Seeking (rule : LineRule) (t : List ℕ) (from i : ℕ) : Type 0 where
-  pub ends : Onward (lineLength rule) t from i
-  pub goes : Onward (lineUsed rule) t from i
-
 -- it may start behind the blanks
-pub seeking-start : (rule : LineRule) (t : List ℕ) (from : ℕ) {begin : ℕ} → begin ≡ from + front isBlank (drop from t) → Seeking rule t from begin
+pub seeking-start : (rule : LineRule) (t : List ℕ) (from : ℕ) {begin : ℕ} → begin ≡ from + front isBlank (drop from t) → Onward (lineLength rule) t from begin
 seeking-start rule t from {begin} q =
-    let f = led rule (drop from t) in
-    let d : drop (front isBlank (drop from t)) (drop from t) ≡ drop begin t = drop-drop (front isBlank (drop from t)) from t ∙ ap (λ (n : ℕ). drop n t) (sym q) in
-    record {
-      ends = record { gives = omega (arith, f .size, ap (lineLength rule) d) };
-      goes = record { gives = omega (arith, f .used, ap (lineUsed rule) d) };
-    }
+    let g = front isBlank (drop from t) in
+    let d : drop g (drop from t) ≡ drop begin t = drop-drop g from t ∙ ap (λ (n : ℕ). drop n t) (sym q) in
+    record { gives = omega (arith, led rule (drop from t), ap (lineLength rule) d) }
 
-module _ {rule : LineRule} {t : List ℕ} {from i : ℕ} where
-  seeking-is : {begin n : ℕ} → lineLength rule (drop i t) ≡ 0 → lineUsed rule (drop i t) ≡ n → begin ≡ from + front isBlank (drop from t) → Seeking rule t from i
-      → record { begin = begin; end = i; next = i + n } ≡ lineFrom rule t from
+module _ (rule : LineRule) {t : List ℕ} {from i : ℕ} where
+  seeking-is : {begin m : ℕ} → lineLength rule (drop i t) ≡ 0 → m ≡ endMark rule (drop i t) → begin ≡ from + front isBlank (drop from t) → Onward (lineLength rule) t from i
+      → record { begin = begin; end = i; next = i + m } ≡ lineFrom rule t from
   unfolding lineFrom
-  seeking-is {n = n} e u q k =
-      let a : i ≡ from + lineLength rule (drop from t) = onward-end (k .ends) e in
-      let b : i + n ≡ from + lineUsed rule (drop from t) = omega (arith, k .goes .gives) in
+  seeking-is {m = m} e u q o =
+      let l = lineLength rule (drop from t) in
+      let a : i ≡ from + l = onward-end o e in
+      let d : drop i t ≡ drop l (drop from t) = ap (λ (n : ℕ). drop n t) a ∙ sym (drop-drop l from t) in
+      let b : i + m ≡ from + (l + endMark rule (drop l (drop from t))) = omega (arith, ap (endMark rule) d) in
       cc
 
-  pub seeking-end : {begin : ℕ} → length t ≤ i → begin ≡ from + front isBlank (drop from t) → Seeking rule t from i → record { begin = begin; end = i; next = i } ≡ lineFrom rule t from
-  unfolding lineLength lineUsed
-  seeking-end {begin} h q k =
+  pub seeking-end : {begin : ℕ} → length t ≤ i → begin ≡ from + front isBlank (drop from t) → Onward (lineLength rule) t from i → record { begin = begin; end = i; next = i } ≡ lineFrom rule t from
+  seeking-end {begin} h q o =
+      let z : drop i t ≡ [] = drop-of-length-le t h in
       let n : i + 0 ≡ i = omega arith in
-      rw n at (seeking-is {begin = begin} {n = 0} (rw (drop-of-length-le t h)) (rw (drop-of-length-le t h)) q k)
+      rw n at (seeking-is {begin = begin} {m = 0} (rw z (nothing-left rule .1)) (rw z (sym (nothing-left rule .0))) q o)
 
-  seeking-on : endMark rule (getD t i 0 ∷ drop (i + 1) t) ≡ 0 → i < length t → Seeking rule t from i → Seeking rule t from (i + 1)
-  seeking-on e h k =
+  seeking-on : endMark rule (getD t i 0 ∷ drop (i + 1) t) ≡ 0 → i < length t → Onward (lineLength rule) t from i → Onward (lineLength rule) t from (i + 1)
+  seeking-on e h o =
       let l : lineLength rule (drop i t) ≡ suc (lineLength rule (drop (i + 1) t)) = rw (here t i h) (length-byte rule _ _ e) in
-      let u : lineUsed rule (drop i t) ≡ suc (lineUsed rule (drop (i + 1) t)) = rw (here t i h) (used-byte rule _ _ e) in
-      record { ends = onward-by (k .ends) 1 (omega arith); goes = onward-by (k .goes) 1 (omega arith) }
+      onward-by o 1 (omega arith)
 
-  pub seeking-above : 0x0D < getD t i 0 → i < length t → Seeking rule t from i → Seeking rule t from (i + 1)
-  seeking-above l h k =
-      seeking-on (no-end rule _ _ (ne-eqb (getD t i 0) 0x0A (λ e. omega arith)) (ne-eqb (getD t i 0) 0x0D (λ e. omega arith))) h k
+  pub seeking-above : 0x0D < getD t i 0 → i < length t → Onward (lineLength rule) t from i → Onward (lineLength rule) t from (i + 1)
+  seeking-above l h o =
+      seeking-on (no-end rule _ _ (ne-eqb (getD t i 0) 0x0A (λ e. omega arith)) (ne-eqb (getD t i 0) 0x0D (λ e. omega arith))) h o
 
--- a line end, or none, at a place
-module _ (rule : LineRule) (t : List ℕ) {i m : ℕ} where
-  mark-at : m ≡ endMark rule (take (length t - i) (drop i t)) → i < length t → endMark rule (getD t i 0 ∷ drop (i + 1) t) ≡ m
-  mark-at q h = sym (q ∙ ap (endMark rule) (tail t i ∙ here t i h))
+  -- a line end, or none
+  pub seeking-turn : {m : ℕ} → m ≤ 0 → m ≡ endMark rule (take (length t - i) (drop i t)) → i < length t → Onward (lineLength rule) t from i → Onward (lineLength rule) t from (i + 1)
+  seeking-turn z q h o = seeking-on (omega (arith, ap (endMark rule) (sym (here t i h)), ap (endMark rule) (tail t i))) h o
 
-  pub seeking-turn : {from : ℕ} → m ≤ 0 → m ≡ endMark rule (take (length t - i) (drop i t)) → i < length t → Seeking rule t from i → Seeking rule t from (i + 1)
-  seeking-turn z q h k = seeking-on (omega (arith, mark-at q h)) h k
-
-  module _ (p : 0 < m) (q : m ≡ endMark rule (take (length t - i) (drop i t))) (h : i < length t) where
-    up : endMark rule (getD t i 0 ∷ drop (i + 1) t) ≡ suc (m - 1)
-    up = omega (arith, mark-at q h)
-
-    used-here : lineUsed rule (drop i t) ≡ m
-    used-here = ap (lineUsed rule) (here t i h) ∙ used-end rule _ _ up ∙ omega arith
-
-    pub seeking-found : {from begin : ℕ} → begin ≡ from + front isBlank (drop from t) → Seeking rule t from i → record { begin = begin; end = i; next = i + m } ≡ lineFrom rule t from
-    seeking-found b k = seeking-is (ap (lineLength rule) (here t i h) ∙ length-end rule _ _ up) used-here b k
+  pub seeking-found : {begin m : ℕ} → 0 < m → m ≡ endMark rule (take (length t - i) (drop i t)) → i < length t → begin ≡ from + front isBlank (drop from t) → Onward (lineLength rule) t from i
+      → record { begin = begin; end = i; next = i + m } ≡ lineFrom rule t from
+  seeking-found {m = m} p q h b o =
+      let at : m ≡ endMark rule (drop i t) = q ∙ ap (endMark rule) (tail t i) in
+      let up : endMark rule (getD t i 0 ∷ drop (i + 1) t) ≡ suc (m - 1) = omega (arith, ap (endMark rule) (here t i h)) in
+      seeking-is (rw (here t i h) (length-end rule _ _ up)) at b o

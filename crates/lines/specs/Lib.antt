@@ -1,6 +1,5 @@
 pub mod Domain
 pub mod DomainHelpers
-pub mod Front
 pub mod NumberHelpers
 pub mod Numbering
 pub mod SplitHelpers

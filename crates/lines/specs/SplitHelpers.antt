@@ -25,13 +25,11 @@ lineLength rule [] = 0
 lineLength rule (b ∷ s) = elim (endMark rule (b ∷ s)) [ zero ↦ suc (lineLength rule s) | suc n ↦ 0 ]
 
 -- how many bytes the first line takes with its end
-unfoldable pub lineUsed : LineRule → List ℕ → ℕ
-unfolding endMark
-lineUsed rule [] = 0
-lineUsed rule (b ∷ s) = elim (endMark rule (b ∷ s)) [ zero ↦ suc (lineUsed rule s) | suc n ↦ suc n ]
+abbrev pub lineUsed : LineRule → List ℕ → ℕ
+lineUsed rule t = lineLength rule t + endMark rule (drop (lineLength rule t) t)
 
 -- the line that begins at a place: where its blanks in front end, where it ends, and where the next one begins
 unfoldable pub lineFrom : LineRule → List ℕ → ℕ → TextLine
-unfolding lineLength lineUsed front
+unfolding lineLength front
 lineFrom rule t from =
     record { begin = from + front isBlank (drop from t); end = from + lineLength rule (drop from t); next = from + lineUsed rule (drop from t) }

@@ -3,13 +3,15 @@
 use Prim.Native.Nat.{_-_}
 use native.Mathlib.Omega.{arith}
 use lib.ListN.{length}
-use Rattle.lines.proofs.Splitting.{Seeking, seeking-start, seeking-above, seeking-turn, seeking-found, seeking-end, mark-small}
+use Rattle.ascii.proofs.Searching.{Onward}
+use Rattle.lines.specs.SplitHelpers.{lineLength}
+use Rattle.lines.proofs.Splitting.{seeking-start, seeking-above, seeking-turn, seeking-found, seeking-end, mark-small}
 use borrow.Author.Needs.{needs}
 use Rattle.lines.proofs.split.next_line.Statement.{statement}
 use Rattle.lines.proofs.split.next_line.Tie as tie
 
 abbrev Inv-loop : tie.InvT-loop
-Inv-loop text from rule begin i₀ i = Seeking rule text from i
+Inv-loop text from rule begin i₀ i = Onward (lineLength rule) text from i
 
 abbrev μ-loop : tie.MeasureT-loop
 μ-loop text from rule begin i₀ i = length text - i
