@@ -3,6 +3,7 @@ use crate::Escape;
 use ascii::search;
 use ascii::search::Kind;
 use tables::keys;
+use words::Section;
 use words::Test;
 ghost use mathlib.Core.Path.{_≡_};
 ghost use Prim.Native.Nat.{_<_, min};
@@ -16,7 +17,7 @@ pub enum Key {
     Shift,
 }
 
-const KEY_BYTES: [u8; 28] = *b"ctrlcntrlcontrolcmcbmshshift";
+const KEY_BYTES: [u8; 28] = *b"CTRLCNTRLCONTROLCMCBMSHSHIFT";
 
 const KEY_STARTS: [u16; 8] = [0, 4, 9, 16, 18, 21, 23, 28];
 
@@ -108,7 +109,14 @@ pub fn key_escape(name: &[u8], count: u64) -> Escape
         return Escape::Unknown;
     }
     let b = argument[0];
-    let k = words::first_passing(Test::Alike, &name[..mark], &KEY_BYTES, &KEY_STARTS, 0, 7);
+    let k = words::first_passing(
+        Test::Alike,
+        &name[..mark],
+        &KEY_BYTES,
+        &KEY_STARTS,
+        Section { from: 0, to: 7 },
+        0,
+    );
     if k < 7 {
         return key_with(KEYS[k], b, count);
     }

@@ -1,4 +1,5 @@
 pub mod ByteTexts
+pub mod Groups
 pub mod Lists
 pub mod Living
 pub mod Naming

@@ -7,19 +7,38 @@ use mathlib.Core.List.{List, [], _∷_}
 use native.Mathlib.Omega.{arith}
 use lib.ListN.{length, getD}
 use borrow.Author.Tests.{not-true, not-false}
+use mir.Syntax.{w64}
+use mir.Val.{Fits}
 use Rattle.words.specs.Compare.{begins, passes}
 use Rattle.words.specs.Find.{Entry, firstThat, amongIn, wordIn}
 use Rattle.words.specs.RunHelpers.{Stored, wordOf, passesAt, firstFrom}
 use Rattle.words.specs.declared.Match.{Match}
 use Rattle.words.specs.declared.Match.the-variants.{Word, Nothing}
+use Rattle.words.specs.declared.Section.{Section}
 use Rattle.words.specs.declared.Test.the-variants.{Begins}
+use Rattle.words.proofs.Comparing.{raise-begins}
 use Rattle.words.proofs.Search.{first-here, first-next, first-none, first-from, first-to, first-passes, first-skip}
 use Rattle.tables.specs.Sets.{isDemoted, isLive, liveWord}
 use Rattle.tables.specs.Tsb.{tsbWords}
-use Rattle.tables.specs.WordsHelpers.{SpellsWords, Held, wordFound}
+use Rattle.tables.specs.WordsHelpers.{SpellsWords, Held, capitals, initial, groupAt, wordFound}
 use Rattle.tables.specs.declared.sets.Sets.{Sets}
 use Rattle.tables.specs.declared.matching.WordList.the-variants.{Tsb}
-use Rattle.tables.proofs.Storage.{found-stored, none-stored, match-held, match-stored}
+use Rattle.tables.proofs.Groups.{confined-set}
+use Rattle.tables.proofs.Storage.{found-stored, none-stored, place-stored, held-stored, part-stored, first-capitals, match-held, match-found, match-none}
+
+-- ---- the TSB words and their capitals
+
+tsb-long : length tsbWords ≡ 123
+unfolding tsbWords
+tsb-long = refl
+
+among-capitals : (set : ℕ → Bool) (t : List ℕ) → firstThat (λ k w. set k && begins w t) (capitals tsbWords) 0 ≡ amongIn set tsbWords t
+unfolding amongIn
+among-capitals set t = first-capitals (λ k w. set k && begins w t) (λ k w. ap (λ (r : Bool). set k && r) (raise-begins w t)) tsbWords 0
+
+begun-capitals : (t : List ℕ) → firstThat (λ k w. passes Begins w t) (capitals tsbWords) 0 ≡ firstThat (λ k w. passes Begins w t) tsbWords 0
+unfolding passes
+begun-capitals t = first-capitals (λ k w. passes Begins w t) (λ k w. raise-begins w t) tsbWords 0
 
 -- ---- over a list
 
@@ -63,12 +82,15 @@ module _ (s : Sets) (t : List ℕ) where
   unfolding liveWord
   live-demoted es q = rw (liveWord, sym q)
 
--- ---- over the stored words
+-- ---- over the stored words of a group
 
 module _ (s : Sets) (t bytes index : List ℕ) where
+  abbrev pub g : Section
+  g = groupAt index Tsb (initial t)
+
   -- stored word j is demoted, and the text begins with it
   unfoldable pub demotedAt : ℕ → Bool
-  demotedAt j = isDemoted s (j - 76) && begins (wordOf bytes index j) t
+  demotedAt j = isDemoted s (getD index (312 + j) 0) && begins (wordOf bytes index j) t
 
   and-off : (a b : Bool) → b ≡ false → (a && b) ≡ false
   and-off true b e = e
@@ -76,67 +98,88 @@ module _ (s : Sets) (t bytes index : List ℕ) where
 
   stricter : (k : ℕ) → passesAt Begins t bytes index k ≡ false → demotedAt k ≡ false
   unfolding demotedAt passesAt passes
-  stricter k e = and-off (isDemoted s (k - 76)) _ e
+  stricter k e = and-off (isDemoted s (getD index (312 + k) 0)) _ e
 
   -- i is a place that the text begins with, or the end; among those before it none is demoted
   pub record Living (i : ℕ) : Type 0 where
-    pub up : 76 ≤ i
-    pub within : i ≤ 199
-    pub here : i < 199 → passesAt Begins t bytes index i ≡ true
-    pub gives : firstFrom demotedAt i (199 - i) ≡ firstFrom demotedAt 76 (199 - 76)
+    pub up : g .from ≤ i
+    pub within : i ≤ g .to
+    pub here : i < g .to → passesAt Begins t bytes index i ≡ true
+    pub gives : firstFrom demotedAt i (g .to - i) ≡ firstFrom demotedAt (g .from) (g .to - g .from)
 
   -- the next such place, from k on
-  next : (k j : ℕ) → 76 ≤ k → k ≤ 199 → j ≡ firstFrom (passesAt Begins t bytes index) k (199 - k) → firstFrom demotedAt k (199 - k) ≡ firstFrom demotedAt 76 (199 - 76) → Living j
-  next k j a b e g =
-      let low : k ≤ j = rw e (first-from (passesAt Begins t bytes index) k (199 - k)) in
-      let high : j ≤ k + (199 - k) = rw e (first-to (passesAt Begins t bytes index) k (199 - k)) in
-      let end : k + (199 - k) ≡ 199 = omega arith in
+  next : (k j : ℕ) → g .from ≤ k → k ≤ g .to → j ≡ firstFrom (passesAt Begins t bytes index) k (g .to - k)
+      → firstFrom demotedAt k (g .to - k) ≡ firstFrom demotedAt (g .from) (g .to - g .from) → Living j
+  next k j a b e f =
+      let low : k ≤ j = rw e (first-from (passesAt Begins t bytes index) k (g .to - k)) in
+      let high : j ≤ k + (g .to - k) = rw e (first-to (passesAt Begins t bytes index) k (g .to - k)) in
+      let end : k + (g .to - k) ≡ g .to = omega arith in
       record {
         up = omega arith;
         within = omega arith;
-        here = λ l. rw e (first-passes (passesAt Begins t bytes index) k (199 - k) (omega (arith, rw e at l)));
-        gives = sym (first-skip (passesAt Begins t bytes index) demotedAt stricter k (199 - k) ∙ rw (← e, end)) ∙ g;
+        here = λ l. rw e (first-passes (passesAt Begins t bytes index) k (g .to - k) (omega (arith, rw e at l)));
+        gives = sym (first-skip (passesAt Begins t bytes index) demotedAt stricter k (g .to - k) ∙ rw (← e, end)) ∙ f;
       }
 
-  pub living-start : {j : ℕ} → j ≡ firstFrom (passesAt Begins t bytes index) 76 (199 - 76) → Living j
-  living-start e = next 76 _ (omega arith) (omega arith) e refl
+  pub living-start : {x : Section} {j : ℕ} → j ≡ firstFrom (passesAt Begins t bytes index) (x .from) (x .to - x .from) → x ≡ groupAt index Tsb (initial t) → SpellsWords bytes index → Living j
+  living-start e q sp = next (g .from) _ (omega arith) (sp .up Tsb (initial t)) (rw q at e) refl
 
-  module _ {i : ℕ} (l : i < 199) (v : Living i) where
-    pub living-turn : {j : ℕ} → getD (s .demoted) (i - 76) false ≡ false → j ≡ firstFrom (passesAt Begins t bytes index) (i + 1) (199 - (i + 1)) → Living j
+  module _ {x : Section} {i : ℕ} where
+    pub living-turn : {j k : ℕ} → getD (s .demoted) k false ≡ false → k ≡ getD index (312 + i) 0 → j ≡ firstFrom (passesAt Begins t bytes index) (i + 1) (x .to - (i + 1))
+        → i < x .to → x ≡ groupAt index Tsb (initial t) → Living i → Living j
     unfolding demotedAt isDemoted
-    living-turn d e = next (i + 1) _ (omega (arith, v .up)) (omega arith) e (sym (first-next demotedAt i 199 l (rw d)) ∙ v .gives)
+    living-turn d p e h q v =
+        let l : i < g .to = rw q at h in
+        next (i + 1) _ (omega (arith, v .up)) (omega arith) (rw q at e) (sym (first-next demotedAt i (g .to) l (rw (← p, d))) ∙ v .gives)
 
-    pub living-demoted : getD (s .demoted) (i - 76) false ≡ true → SpellsWords bytes index → Nothing ≡ liveWord s tsbWords t
-    unfolding demotedAt isDemoted passesAt passes amongIn
-    living-demoted d sp =
-        let at : demotedAt i ≡ true = rw d (v .here l) in
+    pub living-demoted : {k : ℕ} → getD (s .demoted) k false ≡ true → k ≡ getD index (312 + i) 0 → i < x .to → x ≡ groupAt index Tsb (initial t) → Living i → SpellsWords bytes index
+        → Nothing ≡ liveWord s tsbWords t
+    unfolding demotedAt isDemoted passesAt passes
+    living-demoted d p h q v sp =
+        let l : i < g .to = rw q at h in
+        let at : demotedAt i ≡ true = rw (← p, d) (v .here l) in
         live-demoted s t tsbWords
-        (found-stored (λ k w. isDemoted s k && begins w t) bytes index sp Tsb (sym (first-here demotedAt i 199 l at) ∙ v .gives) l)
+        (found-stored (λ k w. isDemoted s k && begins w t) (initial t) (confined-set (isDemoted s) t) bytes index sp Tsb
+        (sym (first-here demotedAt i (g .to) l at) ∙ v .gives) l ∙ among-capitals (isDemoted s) t)
 
-    pub living-less : {j : ℕ} → j ≡ firstFrom (passesAt Begins t bytes index) (i + 1) (199 - (i + 1)) → 199 - j < 199 - i
-    living-less {j} e = let low : i + 1 ≤ j = rw e (first-from (passesAt Begins t bytes index) (i + 1) (199 - (i + 1))) in omega arith
+    pub living-stored : i < x .to → x ≡ groupAt index Tsb (initial t) → Living i → SpellsWords bytes index → Stored t bytes index (record { from = i + 1; to = x .to }) 1
+    living-stored h q v sp = let l : i < g .to = rw q at h in rw q (part-stored t Tsb (i + 1) (omega (arith, v .up)) (omega arith) sp)
 
-    pub living-stored : SpellsWords bytes index → Stored bytes index (i + 1) 199
-    living-stored sp = record { up = omega arith; lie = λ k a b. sp .stored Tsb .lie k (omega (arith, v .up)) b }
+    held : i < x .to → x ≡ groupAt index Tsb (initial t) → g .from ≤ i → SpellsWords bytes index → Held bytes index i
+    held h q a sp = held-stored sp Tsb (initial t) i a (rw q at h)
+
+    pub living-placed : i < x .to → x ≡ groupAt index Tsb (initial t) → Living i → SpellsWords bytes index → 312 + i < length index
+    living-placed h q v sp = held h q (v .up) sp .place
+
+    pub living-place : {k : ℕ} → k ≡ getD index (312 + i) 0 → i < x .to → x ≡ groupAt index Tsb (initial t) → Living i → SpellsWords bytes index → k < 123
+    living-place p h q v sp = omega (arith, place-stored sp Tsb (initial t) i (v .up) (rw q at h), tsb-long)
+
+    pub living-next : i < x .to → x ≡ groupAt index Tsb (initial t) → SpellsWords bytes index → Fits w64 (i + 1)
+    living-next h q sp = let l : i < g .to = rw q at h in record { fits = omega (arith, sp .end Tsb (initial t)) }
+
+  pub living-less : (to : ℕ) {i j : ℕ} → j ≡ firstFrom (passesAt Begins t bytes index) (i + 1) (to - (i + 1)) → i < to → to - j < to - i
+  living-less to {i} {j} e h = let low : i + 1 ≤ j = rw e (first-from (passesAt Begins t bytes index) (i + 1) (to - (i + 1))) in omega arith
+
+  pub first-held : {x : Section} {first : ℕ} → first < x .to → first ≡ firstFrom (passesAt Begins t bytes index) (x .from) (x .to - x .from) → x ≡ groupAt index Tsb (initial t)
+      → SpellsWords bytes index → Held bytes index first
+  first-held h f q sp = match-held Begins t bytes index Tsb h f q sp
 
   -- behind the last such place
-  module _ {i : ℕ} (h : 199 ≤ i) (v : Living i) (e : not (s .tsb) ≡ false) (sp : SpellsWords bytes index) {first : ℕ}
-      (f : first ≡ firstFrom (passesAt Begins t bytes index) 76 (199 - 76)) where
-    end : {m : Match} → m ≡ firstThat (λ k w. passes Begins w t) tsbWords 0 → m ≡ liveWord s tsbWords t
-    unfolding demotedAt amongIn
-    end = live-found s t tsbWords e (none-stored (λ k w. isDemoted s k && begins w t) bytes index sp Tsb (sym (first-none demotedAt _ 199 h) ∙ v .gives) h)
+  module _ {x : Section} {i : ℕ} (h : x .to ≤ i) (q : x ≡ groupAt index Tsb (initial t)) (v : Living i) (e : not (s .tsb) ≡ false) (sp : SpellsWords bytes index) where
+    end : {m : Match} → m ≡ firstThat (λ k w. passes Begins w t) (capitals tsbWords) 0 → m ≡ liveWord s tsbWords t
+    unfolding demotedAt
+    end m =
+        let l : g .to ≤ i = rw q at h in
+        live-found s t tsbWords e
+        (none-stored (λ k w. isDemoted s k && begins w t) (initial t) (confined-set (isDemoted s) t) bytes index sp Tsb
+        (sym (first-none demotedAt _ (g .to) l) ∙ v .gives) l ∙ among-capitals (isDemoted s) t)
+        (m ∙ begun-capitals t)
 
-    pub living-word : {m : Match} → first < 199 → m ≡ wordFound bytes index 76 first → m ≡ liveWord s tsbWords t
-    unfolding passesAt
-    living-word l q = end (q ∙ found-stored (λ k w. passes Begins w t) bytes index sp Tsb f l)
+    pub living-word : {m : Match} {first : ℕ} → m ≡ wordFound bytes index first → first < x .to → first ≡ firstFrom (passesAt Begins t bytes index) (x .from) (x .to - x .from) → m ≡ liveWord s tsbWords t
+    living-word m l f = end (match-found Begins t bytes index Tsb m l f q sp)
 
-    pub living-none : 199 ≤ first → Nothing ≡ liveWord s tsbWords t
-    unfolding passesAt
-    living-none l = end (none-stored (λ k w. passes Begins w t) bytes index sp Tsb f l)
+    pub living-none : {first : ℕ} → x .to ≤ first → first ≡ firstFrom (passesAt Begins t bytes index) (x .from) (x .to - x .from) → Nothing ≡ liveWord s tsbWords t
+    living-none l f = end (match-none Begins t bytes index Tsb l f q sp)
 
-module _ {bytes index : List ℕ} where
-  pub tsb-stored : SpellsWords bytes index → Stored bytes index 76 199
-  tsb-stored sp = sp .stored Tsb
-
-  pub tsb-held : (t : List ℕ) {first : ℕ} → first < 199 → first ≡ firstFrom (passesAt Begins t bytes index) 76 (199 - 76) → SpellsWords bytes index → Held bytes index 76 first
-  tsb-held t l f sp = match-held Begins t bytes index Tsb l f refl sp
+pub index-long : {bytes index : List ℕ} → SpellsWords bytes index → 880 ≤ length index
+index-long sp = sp .indexLong

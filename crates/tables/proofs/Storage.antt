@@ -1,126 +1,176 @@
 -- The search in the stored words is the search in document 01's lists; and the tables that pass one computed test spell these lists.
 -- Assumes nothing.
 use Prim.Native.Nat.{ℕ, zero, suc, _+_, _-_, _≤_, _<_}
-use mathlib.Core.Path.{_≡_, refl, sym, ap, _∙_}
-use mathlib.Core.Bool.{Bool, true, false, _&&_}
-use mathlib.Core.List.{List, [], _∷_}
+use mathlib.Core.Path.{_≡_, refl, sym, ap, _∙_, subst}
+use mathlib.Core.Bool.{Bool, true, false, not, _&&_, false≢true}
+use mathlib.Core.List.{List, [], _∷_, map}
 use native.Mathlib.Omega.{arith}
-use lib.Dec.{T, leb, ltb, eqb, leb→le, eqb→eq}
-use lib.ListN.{length, getD}
-use borrow.Author.Tests.{lt-ltb, le-ltb}
-use Rattle.words.specs.Compare.{same, passes}
-use Rattle.words.specs.Find.{Entry, firstThat, matchIn}
-use Rattle.words.specs.RunHelpers.{Lies, Stored, wordOf, passesAt, firstFrom}
+use lib.Dec.{T, leb, ltb, eqb, leb→le, ltb→lt, eqb→eq}
+use lib.ListN.{length, getD, length-map}
+use borrow.Author.Tests.{lt-ltb, le-ltb, not-true, not-false}
+use mir.Syntax.{w64}
+use mir.Val.{Fits}
+use Rattle.ascii.specs.Bytes.{between, upper}
+use Rattle.ascii.proofs.Ranges.{between-in}
+use Rattle.words.specs.Compare.{begins, same, passes}
+use Rattle.words.specs.Find.{Entry, firstThat, matchIn, wordIn, nameIn}
+use Rattle.words.specs.RunHelpers.{Lies, Ready, Stored, raised, wordOf, passesAt, firstFrom}
 use Rattle.words.specs.declared.Match.{Match}
 use Rattle.words.specs.declared.Match.the-variants.{Word, Nothing}
+use Rattle.words.specs.declared.Section.{Section}
 use Rattle.words.specs.declared.Test.{Test}
-use Rattle.words.proofs.Search.{and-left, and-right, first-from, first-to}
+use Rattle.words.specs.declared.Test.the-variants.{Begins, Alike}
+use Rattle.words.proofs.Comparing.{raise-begins, raise-alike}
+use Rattle.words.proofs.Search.{and-left, and-right, first-from}
 use Rattle.words.proofs.Sameness.{same-eq, T-true}
-use Rattle.words.proofs.Storing.{allBelow, liesAt, stored-below}
+use Rattle.words.proofs.Storing.{allBelow, all-below, liesAt, lies-at}
 use Rattle.tables.specs.Rom.{v2Words, operators}
 use Rattle.tables.specs.Tsb.{tsbWords}
 use Rattle.tables.specs.Escapes.{escapeNames}
-use Rattle.tables.specs.WordsHelpers.{Placed, placed, storedWords, wordFound, Held, wordsOf, sectionOf, SpellsWords}
-use Rattle.tables.specs.declared.matching.Section.{Section}
+use Rattle.tables.specs.WordsHelpers.{Placed, capitals, initial, grouped, storedWords, groupsOf, groupAt, wordFound, Held, wordsOf, SpellsWords}
 use Rattle.tables.specs.declared.matching.WordList.{WordList}
 use Rattle.tables.specs.declared.matching.WordList.the-variants.{V2, Operators, Tsb, Escapes}
+use Rattle.tables.proofs.Groups.{firstPlaced, ranged, Confined, first-grouped, confined-test, good, allGood, grouped-good, none-grouped, storedAt, good-at, passesPlaced, answer, first-stored, ready-word}
 
--- ---- the search
+-- each list keeps the rule of groups: its words begin with bytes from 20 to 5F
+pub ranged-list : (l : WordList) → T (ranged (capitals (wordsOf l)))
+unfolding ranged capitals v2Words operators tsbWords escapeNames
+ranged-list V2 = tt
+ranged-list Operators = tt
+ranged-list Tsb = tt
+ranged-list Escapes = tt
 
--- the first word that passes a test of its place and its bytes
-unfoldable firstPlaced : (ℕ → List ℕ → Bool) → List Placed → Match
-firstPlaced p [] = Nothing
-firstPlaced p (x ∷ xs) = elim (p (x .place) (x .word)) [ true ↦ Word (x .place) (length (x .word)) (x .token) | false ↦ firstPlaced p xs ]
+-- ---- the search of a list, with a test of places and words that only words of the text's group pass
 
-first-listed : (p : ℕ → List ℕ → Bool) (k : ℕ) (es : List Entry) → firstPlaced p (placed k es) ≡ firstThat p es k
-unfolding firstPlaced placed firstThat
-first-listed p k [] = refl
-first-listed p k (e ∷ es) = go (p k (e .word)) (first-listed p (suc k) es)
-  where
-    go : (r : Bool) → firstPlaced p (placed (suc k) es) ≡ firstThat p es (suc k)
-        → _≡_ {A = Match} (elim r [ true ↦ Word k (length (e .word)) (e .token) | false ↦ firstPlaced p (placed (suc k) es) ])
-        (elim r [ true ↦ Word k (length (e .word)) (e .token) | false ↦ firstThat p es (suc k) ])
-    go true h = refl
-    go false h = h
-
-module _ (p : ℕ → List ℕ → Bool) (bytes index : List ℕ) (from : ℕ) where
-  -- the test of stored word j
-  abbrev pub passesPlaced : ℕ → Bool
-  passesPlaced j = p (j - from) (wordOf bytes index j)
-
-  -- what is found at place r of those up to an end
-  abbrev answer : ℕ → ℕ → Match
-  answer end r = elim (ltb r end) [ true ↦ wordFound bytes index from r | false ↦ Nothing ]
-
-  first-stored : (n i : ℕ) → firstPlaced p (storedWords bytes index from i n) ≡ answer (i + n) (firstFrom passesPlaced i n)
-  unfolding firstPlaced storedWords firstFrom
-  first-stored zero i = rw (answer, le-ltb i (i + 0) (omega arith))
-  first-stored (suc n) i = go (p (i - from) (wordOf bytes index i)) (first-stored n (suc i))
-    where
-      end : suc i + n ≡ i + suc n
-      end = omega arith
-
-      go : (r : Bool) → firstPlaced p (storedWords bytes index from (suc i) n) ≡ answer (suc i + n) (firstFrom passesPlaced (suc i) n)
-          → _≡_ {A = Match} (elim r [ true ↦ wordFound bytes index from i | false ↦ firstPlaced p (storedWords bytes index from (suc i) n) ])
-          (answer (i + suc n) (elim r [ true ↦ i | false ↦ firstFrom passesPlaced (suc i) n ]))
-      go true h = rw (answer, lt-ltb i (i + suc n) (omega arith))
-      go false h = h ∙ ap (λ (e : ℕ). answer e (firstFrom passesPlaced (suc i) n)) end
-
--- the search of a list, with a test of places and words: what is found among its stored words
-module _ (p : ℕ → List ℕ → Bool) (bytes index : List ℕ) (sp : SpellsWords bytes index) (l : WordList) where
+module _ (p : ℕ → List ℕ → Bool) (b : ℕ) (only : Confined p b) (bytes index : List ℕ) (sp : SpellsWords bytes index) (l : WordList) where
   abbrev from : ℕ
-  from = sectionOf l .from
+  from = groupAt index l b .from
 
   abbrev to : ℕ
-  to = sectionOf l .to
+  to = groupAt index l b .to
 
-  searched : firstThat p (wordsOf l) 0 ≡ answer p bytes index from to (firstFrom (passesPlaced p bytes index from) from (to - from))
+  searched : firstThat p (capitals (wordsOf l)) 0 ≡ answer bytes index p to (firstFrom (passesPlaced bytes index p) from (to - from))
   searched =
-      let end : from + (to - from) ≡ to = omega (arith, sp .stored l .up) in
-      sym (first-listed p 0 (wordsOf l)) ∙ ap (firstPlaced p) (sym (sp .spells l)) ∙ first-stored p bytes index from (to - from) from
-      ∙ ap (λ (e : ℕ). answer p bytes index from e (firstFrom (passesPlaced p bytes index from) from (to - from))) end
+      let end : from + (to - from) ≡ to = omega (arith, sp .up l b) in
+      sym (first-grouped p b only (capitals (wordsOf l)) 0 (ranged-list l)) ∙ ap (firstPlaced p) (sym (sp .spells l b)) ∙ first-stored bytes index p (to - from) from
+      ∙ ap (λ (e : ℕ). answer bytes index p e (firstFrom (passesPlaced bytes index p) from (to - from))) end
 
-  pub found-stored : {r : ℕ} → r ≡ firstFrom (passesPlaced p bytes index from) from (to - from) → r < to → wordFound bytes index from r ≡ firstThat p (wordsOf l) 0
-  found-stored {r} e h = sym (searched ∙ ap (answer p bytes index from to) (sym e) ∙ rw (answer, lt-ltb r to h))
+  pub found-stored : {r : ℕ} → r ≡ firstFrom (passesPlaced bytes index p) from (to - from) → r < to → wordFound bytes index r ≡ firstThat p (capitals (wordsOf l)) 0
+  found-stored {r} e h = sym (searched ∙ ap (answer bytes index p to) (sym e) ∙ rw (answer, lt-ltb r to h))
 
-  pub none-stored : {r : ℕ} → r ≡ firstFrom (passesPlaced p bytes index from) from (to - from) → to ≤ r → Nothing ≡ firstThat p (wordsOf l) 0
-  none-stored {r} e h = sym (searched ∙ ap (answer p bytes index from to) (sym e) ∙ rw (answer, le-ltb r to h))
+  pub none-stored : {r : ℕ} → r ≡ firstFrom (passesPlaced bytes index p) from (to - from) → to ≤ r → Nothing ≡ firstThat p (capitals (wordsOf l)) 0
+  none-stored {r} e h = sym (searched ∙ ap (answer bytes index p to) (sym e) ∙ rw (answer, le-ltb r to h))
+
+-- ---- what is known of the stored words of a group
+
+module _ {bytes index : List ℕ} (sp : SpellsWords bytes index) (l : WordList) (b : ℕ) (k : ℕ) (a : groupAt index l b .from ≤ k) (h : k < groupAt index l b .to) where
+  good-stored : T (good b (length (wordsOf l)) (storedAt bytes index k))
+  good-stored =
+      good-at bytes index b (length (wordsOf l)) (groupAt index l b .to - groupAt index l b .from) (groupAt index l b .from)
+      (subst (λ (xs : List Placed). T (allGood b (length (wordsOf l)) xs)) (sym (sp .spells l b)) (grouped-good b (length (wordsOf l)) (wordsOf l) 0 (omega arith) (ranged-list l)))
+      k a (omega arith)
+
+  capital-stored : T (raised (wordOf bytes index k))
+  unfolding good
+  capital-stored = and-left (raised (wordOf bytes index k)) _ good-stored
+
+  rest-stored : T (eqb (initial (wordOf bytes index k)) b && (between 32 95 (initial (wordOf bytes index k)) && ltb (getD index (312 + k) 0) (length (wordsOf l))))
+  unfolding good
+  rest-stored = and-right (raised (wordOf bytes index k)) _ good-stored
+
+  pub place-stored : getD index (312 + k) 0 < length (wordsOf l)
+  place-stored =
+      ltb→lt _ _ (and-right (between 32 95 (initial (wordOf bytes index k))) _ (and-right (eqb (initial (wordOf bytes index k)) b) _ rest-stored))
+
+  pub ready-stored : (t : List ℕ) → b ≡ initial t → Ready (wordOf bytes index k) t 1
+  ready-stored t e =
+      ready-word (wordOf bytes index k) t capital-stored (eqb→eq _ _ (and-left (eqb (initial (wordOf bytes index k)) b) _ rest-stored) ∙ e)
+      (and-left (between 32 95 (initial (wordOf bytes index k))) _ (and-right (eqb (initial (wordOf bytes index k)) b) _ rest-stored))
+
+  pub held-stored : Held bytes index k
+  held-stored = record {
+    token = omega (arith, sp .bytesLong, sp .end l b);
+    place = omega (arith, sp .indexLong, sp .end l b);
+    lies = sp .lie k (omega (arith, sp .end l b));
+  }
+
+-- a group, from a place of it on, is stored as it must be for the text of which it is the group
+pub part-stored : (text : List ℕ) {bytes index : List ℕ} (l : WordList) (from : ℕ) → groupAt index l (initial text) .from ≤ from → from ≤ groupAt index l (initial text) .to
+    → SpellsWords bytes index → Stored text bytes index (record { from = from; to = groupAt index l (initial text) .to }) 1
+part-stored text l from a b sp = record {
+  up = b;
+  lie = λ k c h. sp .lie k (omega (arith, sp .end l (initial text)));
+  ready = λ k c h. ready-stored sp l (initial text) k (omega arith) h text refl;
+}
+
+-- ---- the look-up of a group
+
+groups-end : (l : WordList) → groupsOf l ≤ 815
+groups-end V2 = omega arith
+groups-end Operators = omega arith
+groups-end Tsb = omega arith
+groups-end Escapes = omega arith
+
+initial-first : (t : List ℕ) → (length t ≡ 0 → ⊥) → initial t ≡ upper (getD t 0 0)
+unfolding initial
+initial-first [] n = absurd (n refl)
+initial-first (b ∷ t) n = refl
+
+pub group-empty : (t index : List ℕ) (l : WordList) → length t ≡ 0 → record { from = 0; to = 0 } ≡ groupAt index l (initial t)
+unfolding groupAt initial
+group-empty [] index l h = refl
+group-empty (b ∷ t) index l h = absurd (omega arith)
+
+module _ (t index : List ℕ) (l : WordList) {u : ℕ} {r : Bool} where
+  pub group-outside : not r ≡ true → r ≡ between 32 95 u → u ≡ upper (getD t 0 0) → (length t ≡ 0 → ⊥) → record { from = 0; to = 0 } ≡ groupAt index l (initial t)
+  unfolding groupAt
+  group-outside n e v s =
+      let o : between 32 95 (initial t) ≡ false = ap (between 32 95) (initial-first t s ∙ sym v) ∙ sym e ∙ not-true r n in
+      rw (groupAt, o)
+
+  pub group-inside : {x : Section} {g w : ℕ} → x ≡ record { from = getD index (g + w) 0; to = getD index (g + w + 1) 0 } → w ≡ u - 32 → g ≡ groupsOf l → not r ≡ false
+      → r ≡ between 32 95 u → u ≡ upper (getD t 0 0) → (length t ≡ 0 → ⊥) → x ≡ groupAt index l (initial t)
+  unfolding groupAt
+  group-inside q d k n e v s =
+      let i : initial t ≡ u = initial-first t s ∙ sym v in
+      let o : between 32 95 (initial t) ≡ true = ap (between 32 95) i ∙ sym e ∙ not-false r n in
+      q ∙ rw (d, k, groupAt, o, i)
+
+module _ (u : ℕ) {r : Bool} where
+  pub group-low : not r ≡ false → r ≡ between 32 95 u → 32 ≤ u
+  group-low n e = between-in 32 95 u (sym e ∙ not-false r n) .0
+
+  pub group-fits : (l : WordList) {g w : ℕ} → w ≡ u - 32 → g ≡ groupsOf l → not r ≡ false → r ≡ between 32 95 u → Fits w64 (g + w)
+  group-fits l d k n e = record { fits = omega (arith, groups-end l, between-in 32 95 u (sym e ∙ not-false r n)) }
+
+  pub group-within : (l : WordList) (index : List ℕ) {g w : ℕ} → w ≡ u - 32 → g ≡ groupsOf l → not r ≡ false → r ≡ between 32 95 u → 880 ≤ length index → g + w + 1 < length index
+  group-within l index d k n e s = omega (arith, groups-end l, between-in 32 95 u (sym e ∙ not-false r n))
 
 -- ---- `match_in`
 
-section-up : (l : WordList) → sectionOf l .from ≤ sectionOf l .to
-section-up V2 = omega arith
-section-up Operators = omega arith
-section-up Tsb = omega arith
-section-up Escapes = omega arith
+pub match-stored : (text : List ℕ) {bytes index : List ℕ} (l : WordList) {s : Section} → s ≡ groupAt index l (initial text) → SpellsWords bytes index → Stored text bytes index s 1
+match-stored text {index = index} l e sp = rw e (part-stored text l (groupAt index l (initial text) .from) (omega arith) (sp .up l (initial text)) sp)
 
-section-end : (l : WordList) → sectionOf l .to ≤ 311
-section-end V2 = omega arith
-section-end Operators = omega arith
-section-end Tsb = omega arith
-section-end Escapes = omega arith
+module _ (test : Test) (text bytes index : List ℕ) (l : WordList) {s : Section} where
+  module _ {i : ℕ} where
+    pub match-held : i < s .to → i ≡ firstFrom (passesAt test text bytes index) (s .from) (s .to - s .from) → s ≡ groupAt index l (initial text) → SpellsWords bytes index
+        → Held bytes index i
+    match-held h f e sp =
+        let up : s .from ≤ i = rw f (first-from (passesAt test text bytes index) (s .from) (s .to - s .from)) in
+        held-stored sp l (initial text) i (rw e at up) (rw e at h)
 
-pub match-stored : {bytes index : List ℕ} (l : WordList) {s : Section} → s ≡ sectionOf l → SpellsWords bytes index → Stored bytes index (s .from) (s .to)
-match-stored l e sp = rw e (sp .stored l)
+    pub match-found : {r : Match} → r ≡ wordFound bytes index i → i < s .to → i ≡ firstFrom (passesAt test text bytes index) (s .from) (s .to - s .from)
+        → s ≡ groupAt index l (initial text) → SpellsWords bytes index → r ≡ matchIn test (capitals (wordsOf l)) text
+    unfolding passesAt
+    match-found q h f e sp =
+        q ∙ found-stored (λ k w. passes test w text) (initial text) (confined-test test text) bytes index sp l (rw e at f) (rw e at h)
 
-module _ (test : Test) (text bytes index : List ℕ) (l : WordList) {s : Section} {i : ℕ} where
-  pub match-held : i < s .to → i ≡ firstFrom (passesAt test text bytes index) (s .from) (s .to - s .from) → s ≡ sectionOf l → SpellsWords bytes index
-      → Held bytes index (s .from) i
-  match-held h f e sp =
-      let up : s .from ≤ i = rw f (first-from (passesAt test text bytes index) (s .from) (s .to - s .from)) in
-      record { up = up; token = omega (arith, sp .long, section-end l, rw e at h); lies = match-stored l e sp .lie i up h }
+    pub match-none : s .to ≤ i → i ≡ firstFrom (passesAt test text bytes index) (s .from) (s .to - s .from)
+        → s ≡ groupAt index l (initial text) → SpellsWords bytes index → Nothing ≡ matchIn test (capitals (wordsOf l)) text
+    unfolding passesAt
+    match-none h f e sp = none-stored (λ k w. passes test w text) (initial text) (confined-test test text) bytes index sp l (rw e at f) (rw e at h)
 
-  pub match-found : {r : Match} → r ≡ wordFound bytes index (s .from) i → i < s .to → i ≡ firstFrom (passesAt test text bytes index) (s .from) (s .to - s .from)
-      → s ≡ sectionOf l → SpellsWords bytes index → r ≡ matchIn test (wordsOf l) text
-  unfolding passesAt
-  match-found q h f e sp = q ∙ rw e (found-stored (λ k w. passes test w text) bytes index sp l (rw e at f) (rw e at h))
-
-  pub match-none : s .to ≤ i → i ≡ firstFrom (passesAt test text bytes index) (s .from) (s .to - s .from)
-      → s ≡ sectionOf l → SpellsWords bytes index → Nothing ≡ matchIn test (wordsOf l) text
-  unfolding passesAt
-  match-none h f e sp = none-stored (λ k w. passes test w text) bytes index sp l (rw e at f) (rw e at h)
-
--- ---- the tables: one test over all words
+-- ---- the tables: one test over all words and groups
 
 samePlaced : List Placed → List Placed → Bool
 unfolding same
@@ -145,28 +195,95 @@ same-placed (x ∷ xs) (y ∷ ys) t =
     cc
 
 module _ (bytes index : List ℕ) where
-  -- a list is spelled as it must be
-  spelledAs : WordList → Bool
-  unfolding samePlaced storedWords placed v2Words operators tsbWords escapeNames
-  spelledAs l = samePlaced (storedWords bytes index (sectionOf l .from) (sectionOf l .from) (sectionOf l .to - sectionOf l .from)) (placed 0 (wordsOf l))
+  -- group g of a list whose words are es is spelled as it must be
+  unfoldable pub groupTest : List Entry → ℕ → ℕ → Bool
+  unfolding samePlaced storedWords grouped
+  groupTest es groups g =
+      leb (getD index (groups + g) 0) (getD index (groups + g + 1) 0) && (leb (getD index (groups + g + 1) 0) 311
+      && samePlaced (storedWords bytes index (getD index (groups + g) 0) (getD index (groups + g + 1) 0 - getD index (groups + g) 0)) (grouped (g + 32) 0 es))
+
+  unfoldable pub listTest : WordList → Bool
+  unfolding groupTest allBelow capitals v2Words operators tsbWords escapeNames
+  listTest l = allBelow (groupTest (capitals (wordsOf l)) (groupsOf l)) 64
 
   unfoldable pub wordsTest : Bool
-  unfolding allBelow liesAt spelledAs
-  wordsTest = leb 1793 (length bytes) && (allBelow (liesAt bytes index) 311 && (spelledAs V2 && (spelledAs Operators && (spelledAs Tsb && spelledAs Escapes))))
+  unfolding allBelow liesAt listTest
+  wordsTest =
+      leb 1793 (length bytes) && (leb 880 (length index) && (allBelow (liesAt bytes index) 311 && (listTest V2 && (listTest Operators && (listTest Tsb && listTest Escapes)))))
+
+  record Group (l : WordList) (b : ℕ) : Type 0 where
+    pub up : groupAt index l b .from ≤ groupAt index l b .to
+    pub end : groupAt index l b .to ≤ 311
+    pub spells : storedWords bytes index (groupAt index l b .from) (groupAt index l b .to - groupAt index l b .from) ≡ grouped b 0 (capitals (wordsOf l))
+
+  each-group : (l : WordList) → T (listTest l) → (b : ℕ) → Group l b
+  unfolding listTest groupTest groupAt storedWords
+  each-group l t b = go (between 32 95 b) refl
+    where
+      go : (r : Bool) → between 32 95 b ≡ r → Group l b
+      go false e = record {
+        up = rw (groupAt, e) (omega arith);
+        end = rw (groupAt, e) (omega arith);
+        spells = rw (groupAt, e) (sym (none-grouped b e (capitals (wordsOf l)) 0 (ranged-list l)));
+      }
+      go true e =
+          let w = between-in 32 95 b e in
+          let back : b - 32 + 32 ≡ b = omega (arith, w) in
+          let g : T (groupTest (capitals (wordsOf l)) (groupsOf l) (b - 32)) =
+          all-below (groupTest (capitals (wordsOf l)) (groupsOf l)) 64 t (b - 32) (omega (arith, w)) in
+          let up? = leb (getD index (groupsOf l + (b - 32)) 0) (getD index (groupsOf l + (b - 32) + 1) 0) in
+          let end? = leb (getD index (groupsOf l + (b - 32) + 1) 0) 311 in
+          record {
+            up = rw (groupAt, e) (leb→le _ _ (and-left up? _ g));
+            end = rw (groupAt, e) (leb→le _ _ (and-left end? _ (and-right up? _ g)));
+            spells = rw (groupAt, e) (same-placed _ _ (and-right end? _ (and-right up? _ g)) ∙ rw back);
+          }
 
   -- tables that pass the test spell the lists
   pub words-lent : T wordsTest → SpellsWords bytes index
   unfolding wordsTest
   words-lent t =
       let t₁ = and-right (leb 1793 (length bytes)) _ t in
+      let t₂ = and-right (leb 880 (length index)) _ t₁ in
+      let t₃ = and-right (allBelow (liesAt bytes index) 311) _ t₂ in
       record {
-        long = leb→le _ _ (and-left (leb 1793 (length bytes)) _ t);
-        stored = λ l. stored-below bytes index 311 (and-left (allBelow (liesAt bytes index) 311) _ t₁) _ _ (section-up l) (section-end l);
-        spells = λ l. same-placed _ _ (each (and-right (allBelow (liesAt bytes index) 311) _ t₁) l);
+        bytesLong = leb→le _ _ (and-left (leb 1793 (length bytes)) _ t);
+        indexLong = leb→le _ _ (and-left (leb 880 (length index)) _ t₁);
+        lie = λ k h. lies-at bytes index k (all-below (liesAt bytes index) 311 (and-left (allBelow (liesAt bytes index) 311) _ t₂) k h);
+        up = λ l b. each-group l (each t₃ l) b .up;
+        end = λ l b. each-group l (each t₃ l) b .end;
+        spells = λ l b. each-group l (each t₃ l) b .spells;
       }
     where
-      each : T (spelledAs V2 && (spelledAs Operators && (spelledAs Tsb && spelledAs Escapes))) → (l : WordList) → T (spelledAs l)
-      each t V2 = and-left (spelledAs V2) _ t
-      each t Operators = and-left (spelledAs Operators) _ (and-right (spelledAs V2) _ t)
-      each t Tsb = and-left (spelledAs Tsb) _ (and-right (spelledAs Operators) _ (and-right (spelledAs V2) _ t))
-      each t Escapes = and-right (spelledAs Tsb) _ (and-right (spelledAs Operators) _ (and-right (spelledAs V2) _ t))
+      each : T (listTest V2 && (listTest Operators && (listTest Tsb && listTest Escapes))) → (l : WordList) → T (listTest l)
+      each t V2 = and-left (listTest V2) _ t
+      each t Operators = and-left (listTest Operators) _ (and-right (listTest V2) _ t)
+      each t Tsb = and-left (listTest Tsb) _ (and-right (listTest Operators) _ (and-right (listTest V2) _ t))
+      each t Escapes = and-right (listTest Tsb) _ (and-right (listTest Operators) _ (and-right (listTest V2) _ t))
+
+-- ---- a list and its capitals
+
+-- a test of places and words that sees no difference between small letters and capitals finds the same
+module _ (p : ℕ → List ℕ → Bool) (blind : (k : ℕ) (w : List ℕ) → p k (map upper w) ≡ p k w) where
+  pub first-capitals : (es : List Entry) (k : ℕ) → firstThat p (capitals es) k ≡ firstThat p es k
+  unfolding firstThat capitals
+  first-capitals [] k = refl
+  first-capitals (e ∷ es) k =
+      go (p k (map upper (e .word))) (p k (e .word)) (blind k (e .word)) (length (map upper (e .word))) (length-map (e .word) upper) (first-capitals es (suc k))
+    where
+      go : (q r : Bool) → q ≡ r → (n : ℕ) → n ≡ length (e .word) → firstThat p (capitals es) (suc k) ≡ firstThat p es (suc k)
+          → _≡_ {A = Match} (elim q [ true ↦ Word k n (e .token) | false ↦ firstThat p (capitals es) (suc k) ])
+          (elim r [ true ↦ Word k (length (e .word)) (e .token) | false ↦ firstThat p es (suc k) ])
+      go true true u n v h = rw v
+      go true false u n v h = absurd (false≢true (sym u))
+      go false true u n v h = absurd (false≢true u)
+      go false false u n v h = h
+
+module _ (l : WordList) (t : List ℕ) {r : Match} where
+  pub word-found : r ≡ matchIn Begins (capitals (wordsOf l)) t → r ≡ wordIn (wordsOf l) t
+  unfolding wordIn passes
+  word-found e = e ∙ first-capitals (λ k w. passes Begins w t) (λ k w. raise-begins w t) (wordsOf l) 0
+
+  pub name-found : r ≡ matchIn Alike (capitals (wordsOf l)) t → r ≡ nameIn (wordsOf l) t
+  unfolding nameIn passes
+  name-found e = e ∙ first-capitals (λ k w. passes Alike w t) (λ k w. raise-alike w t) (wordsOf l) 0

@@ -1,16 +1,17 @@
 -- The words of the TSB list are the words that a byte gives, and COLOUR and CENTRE.
 -- Assumes nothing.
 use Prim.Native.Nat.{ℕ}
-use mathlib.Core.Path.{_≡_, sym, ap, _∙_}
+use mathlib.Core.Path.{_≡_, refl, sym, ap, _∙_}
 use mathlib.Core.Bool.{true, false}
 use mathlib.Core.List.{List, _∷_}
 use lib.Dec.{T}
 use Rattle.words.specs.Compare.{same, member}
-use Rattle.words.specs.Find.{matchIn, sameIn}
+use Rattle.words.specs.Find.{Entry, matchIn, sameIn}
 use Rattle.words.specs.declared.Match.{Match}
 use Rattle.words.specs.declared.Match.the-variants.{Word, Nothing}
 use Rattle.words.specs.declared.Test.the-variants.{Same}
 use Rattle.words.proofs.Sameness.{isFound, spellings, same-member, within, member-same}
+use Rattle.tables.specs.WordsHelpers.{capitals}
 use Rattle.tables.specs.Spelling.{bytesOf}
 use Rattle.tables.specs.Tsb.{tsbWords, tsbTexts, isTsbWord}
 
@@ -25,13 +26,18 @@ given-in-list : T (within given (spellings tsbWords))
 unfolding within member same tsbTexts tsbWords
 given-in-list = tt
 
-tsb-test : (w : List ℕ) {m : Match} → m ≡ matchIn Same tsbWords w → isFound m ≡ isTsbWord w
+-- the words are capitals
+own-capitals : capitals tsbWords ≡ tsbWords
+unfolding capitals tsbWords
+own-capitals = refl
+
+tsb-test : (w : List ℕ) {m : Match} → m ≡ matchIn Same (capitals tsbWords) w → isFound m ≡ isTsbWord w
 unfolding isTsbWord sameIn
-tsb-test w e = ap isFound e ∙ same-member w tsbWords ∙ member-same w (spellings tsbWords) given list-in-given given-in-list
+tsb-test w e = ap isFound (e ∙ ap (λ (es : List Entry). matchIn Same es w) own-capitals) ∙ same-member w tsbWords ∙ member-same w (spellings tsbWords) given list-in-given given-in-list
 
 module _ {m : Match} (w : List ℕ) where
-  pub tsb-yes : {i u k : ℕ} → m ≡ Word i u k → m ≡ matchIn Same tsbWords w → true ≡ isTsbWord w
+  pub tsb-yes : {i u k : ℕ} → m ≡ Word i u k → m ≡ matchIn Same (capitals tsbWords) w → true ≡ isTsbWord w
   tsb-yes f e = ap isFound (sym f) ∙ tsb-test w e
 
-  pub tsb-no : m ≡ Nothing → m ≡ matchIn Same tsbWords w → false ≡ isTsbWord w
+  pub tsb-no : m ≡ Nothing → m ≡ matchIn Same (capitals tsbWords) w → false ≡ isTsbWord w
   tsb-no f e = ap isFound (sym f) ∙ tsb-test w e

@@ -1,33 +1,43 @@
--- For the helpers that are lent the two tables of words, and for no promise of a public call: what makes the tables document 01's lists.
+-- For the helpers that are lent the two tables of words, and for no promise of a public call: what makes the tables document 01's lists,
+-- grouped by first byte (document 02, No. 11: "grouped by first byte, keeping the old order within a group").
 -- Assumes nothing.
 use Prim.Native.Nat.{ℕ, zero, suc, _+_, _-_, _≤_, _<_}
 use mathlib.Core.Path.{_≡_}
-use mathlib.Core.List.{List, [], _∷_}
+use mathlib.Core.Bool.{Bool, true, false, _&&_}
+use mathlib.Core.List.{List, [], _∷_, map}
+use lib.Dec.{eqb}
 use lib.ListN.{length, getD}
+use Rattle.ascii.specs.Bytes.{between, upper}
 use Rattle.words.specs.Find.{Entry}
+use Rattle.words.specs.RunHelpers.{Lies, wordOf}
 use Rattle.words.specs.declared.Match.{Match}
 use Rattle.words.specs.declared.Match.the-variants.{Word}
-use Rattle.words.specs.RunHelpers.{Lies, Stored, wordOf}
+use Rattle.words.specs.declared.Section.{Section}
 use Rattle.tables.specs.Rom.{v2Words, operators}
 use Rattle.tables.specs.Tsb.{tsbWords}
 use Rattle.tables.specs.Escapes.{escapeNames}
 use Rattle.tables.specs.declared.matching.WordList.{WordList}
 use Rattle.tables.specs.declared.matching.WordList.the-variants.{V2, Operators, Tsb, Escapes}
-use Rattle.tables.specs.declared.matching.Section.{Section}
 
--- the words of each list
+-- ---- the lists
+
 abbrev pub wordsOf : WordList → List Entry
 wordsOf V2 = v2Words
 wordsOf Operators = operators
 wordsOf Tsb = tsbWords
 wordsOf Escapes = escapeNames
 
--- where each list stands among all words
-abbrev pub sectionOf : WordList → Section
-sectionOf V2 = record { from = 0; to = 68 }
-sectionOf Operators = record { from = 68; to = 76 }
-sectionOf Tsb = record { from = 76; to = 199 }
-sectionOf Escapes = record { from = 199; to = 311 }
+-- a list with its words in capitals, as they are stored
+unfoldable pub capitals : List Entry → List Entry
+unfolding upper
+capitals [] = []
+capitals (e ∷ es) = record { word = map upper (e .word); token = e .token } ∷ capitals es
+
+-- the first byte of a word or a text, a small letter as its capital; 0 where there is none
+unfoldable pub initial : List ℕ → ℕ
+unfolding upper
+initial [] = 0
+initial (b ∷ t) = upper b
 
 -- a word with its place in its list, and its token
 pub record Placed : Type 0 where
@@ -35,30 +45,56 @@ pub record Placed : Type 0 where
   pub word : List ℕ
   pub token : ℕ
 
--- the words of a list, the first of them at place k
-unfoldable pub placed : ℕ → List Entry → List Placed
-placed k [] = []
-placed k (e ∷ es) = record { place = k; word = e .word; token = e .token } ∷ placed (suc k) es
+-- the words of a list that begin with a byte, in the list's order; the first word of the list has place k
+unfoldable pub grouped : ℕ → ℕ → List Entry → List Placed
+unfolding initial
+grouped b k [] = []
+grouped b k (e ∷ es) =
+    elim (eqb (initial (e .word)) b) [
+      | true ↦ record { place = k; word = e .word; token = e .token } ∷ grouped b (suc k) es
+      | false ↦ grouped b (suc k) es
+    ]
 
--- n stored words from i on, of a list that begins at word `from`: the tokens stand behind the bytes of the words
-unfoldable pub storedWords : List ℕ → List ℕ → ℕ → ℕ → ℕ → List Placed
+-- ---- the tables
+
+-- n stored words from word i on: the tokens stand behind the bytes of the words, the places behind the starts
+unfoldable pub storedWords : List ℕ → List ℕ → ℕ → ℕ → List Placed
 unfolding wordOf
-storedWords bytes index from i zero = []
-storedWords bytes index from i (suc n) =
-    record { place = i - from; word = wordOf bytes index i; token = getD bytes (1482 + i) 0 } ∷ storedWords bytes index from (suc i) n
+storedWords bytes index i zero = []
+storedWords bytes index i (suc n) =
+    record { place = getD index (312 + i) 0; word = wordOf bytes index i; token = getD bytes (1482 + i) 0 } ∷ storedWords bytes index (suc i) n
 
--- stored word i, as the search of a list that begins at word `from` answers it
-abbrev pub wordFound : List ℕ → List ℕ → ℕ → ℕ → Match
-wordFound bytes index from i = Word (i - from) (length (wordOf bytes index i)) (getD bytes (1482 + i) 0)
+-- where the groups of a list begin in the index
+abbrev pub groupsOf : WordList → ℕ
+groupsOf V2 = 623
+groupsOf Operators = 687
+groupsOf Tsb = 751
+groupsOf Escapes = 815
 
--- stored word i lies in the tables with its token, in a list that begins at word `from`
-pub record Held (bytes index : List ℕ) (from i : ℕ) : Type 0 where
-  pub up : from ≤ i
+-- the group of a byte; a byte that is none of 20 to 5F begins no word
+unfoldable pub groupAt : List ℕ → WordList → ℕ → Section
+unfolding between
+groupAt index l b =
+    elim (between 32 95 b) [
+      | true ↦ record { from = getD index (groupsOf l + (b - 32)) 0; to = getD index (groupsOf l + (b - 32) + 1) 0 }
+      | false ↦ record { from = 0; to = 0 }
+    ]
+
+-- stored word i, as the search of its list answers it
+abbrev pub wordFound : List ℕ → List ℕ → ℕ → Match
+wordFound bytes index i = Word (getD index (312 + i) 0) (length (wordOf bytes index i)) (getD bytes (1482 + i) 0)
+
+-- stored word i lies in the tables with its place and its token
+pub record Held (bytes index : List ℕ) (i : ℕ) : Type 0 where
   pub token : 1482 + i < length bytes
+  pub place : 312 + i < length index
   pub lies : Lies bytes index i
 
--- the tables spell the lists
+-- the tables spell the lists, group by group
 pub record SpellsWords (bytes index : List ℕ) : Type 0 where
-  pub long : 1793 ≤ length bytes
-  pub stored : (l : WordList) → Stored bytes index (sectionOf l .from) (sectionOf l .to)
-  pub spells : (l : WordList) → storedWords bytes index (sectionOf l .from) (sectionOf l .from) (sectionOf l .to - sectionOf l .from) ≡ placed 0 (wordsOf l)
+  pub bytesLong : 1793 ≤ length bytes
+  pub indexLong : 880 ≤ length index
+  pub lie : (k : ℕ) → k < 311 → Lies bytes index k
+  pub up : (l : WordList) (b : ℕ) → groupAt index l b .from ≤ groupAt index l b .to
+  pub end : (l : WordList) (b : ℕ) → groupAt index l b .to ≤ 311
+  pub spells : (l : WordList) (b : ℕ) → storedWords bytes index (groupAt index l b .from) (groupAt index l b .to - groupAt index l b .from) ≡ grouped b 0 (capitals (wordsOf l))

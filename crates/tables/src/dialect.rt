@@ -1,5 +1,6 @@
 // Dialects and their names.
 use refusals::Refusal;
+use words::Section;
 use words::Test;
 ghost use mathlib.Core.Path.{_≡_};
 ghost use Rattle.tables.specs.Dialects.{byNumber, named, namedAnswer};
@@ -18,7 +19,7 @@ pub enum Named {
     Refused(Refusal),
 }
 
-const NAME_BYTES: [u8; 39] = *b"autobasic2basicv2v2basic-v2tsbsimonsext";
+const NAME_BYTES: [u8; 39] = *b"AUTOBASIC2BASICV2V2BASIC-V2TSBSIMONSEXT";
 
 const NAME_STARTS: [u16; 9] = [0, 4, 10, 17, 19, 27, 30, 36, 39];
 
@@ -56,7 +57,14 @@ pub fn dialect_by_name(word: &[u8]) -> Named
         return Named::Refused(Refusal::UnknownDialect);
     }
     let name = ascii::trim(word);
-    let k = words::first_passing(Test::Alike, name, &NAME_BYTES, &NAME_STARTS, 0, 8);
+    let k = words::first_passing(
+        Test::Alike,
+        name,
+        &NAME_BYTES,
+        &NAME_STARTS,
+        Section { from: 0, to: 8 },
+        0,
+    );
     if k < 8 {
         return Named::Known(NAME_DIALECTS[k]);
     }

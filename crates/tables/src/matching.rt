@@ -2,14 +2,17 @@
 use crate::sets::Sets;
 use crate::spellings;
 use words::Match;
+use words::Section;
 use words::Test;
 ghost use mathlib.Core.Path.{_≡_};
+ghost use Prim.Native.Nat.{_+_, _≤_, _<_};
+ghost use lib.ListN.{length, getD};
 ghost use Rattle.words.specs.Find.{matchIn, wordIn, nameIn};
 ghost use Rattle.tables.specs.Rom.{v2Words, operators};
 ghost use Rattle.tables.specs.Tsb.{tsbWords};
 ghost use Rattle.tables.specs.Escapes.{escapeNames};
 ghost use Rattle.tables.specs.Sets.{liveWord};
-ghost use Rattle.tables.specs.WordsHelpers.{SpellsWords, Held, wordsOf, sectionOf, wordFound};
+ghost use Rattle.tables.specs.WordsHelpers.{SpellsWords, Held, wordsOf, capitals, initial, groupsOf, groupAt, wordFound};
 
 pub enum WordList {
     V2,
@@ -18,48 +21,77 @@ pub enum WordList {
     Escapes,
 }
 
-// A list among all words: where its first word stands, and where its last one ends.
-pub struct Section {
-    pub from: usize,
-    pub to: usize,
-}
-
-fn section_of(list: WordList) -> Section
-    ensures { λ r. ⌜ r ≡ sectionOf list ⌝ }
+// Where the groups of a list begin in the index.
+fn groups_of(list: WordList) -> usize
+    ensures { λ r. ⌜ r ≡ groupsOf list ⌝ }
 {
     match list {
-        WordList::V2 => Section { from: 0, to: 68 },
-        WordList::Operators => Section { from: 68, to: 76 },
-        WordList::Tsb => Section { from: 76, to: 199 },
-        WordList::Escapes => Section { from: 199, to: 311 },
+        WordList::V2 => spellings::GROUPS,
+        WordList::Operators => spellings::GROUPS + 64,
+        WordList::Tsb => spellings::GROUPS + 128,
+        WordList::Escapes => spellings::GROUPS + 192,
     }
 }
 
-// Word i of all words, as the search of a list answers it.
-fn word_found(bytes: &[u8], index: &[u16], from: usize, i: usize) -> Match
-    requires { ⌜ Held (now bytes) (now index) from i ⌝ }
-    ensures { λ r. ⌜ r ≡ wordFound (now (bytes .entry)) (now (index .entry)) from i ⌝ }
+// The words of a list that begin as the text does.
+fn group_of(list: WordList, text: &[u8], index: &[u16]) -> Section
+    requires { ⌜ 880 ≤ length (now index) ⌝ }
+    ensures { λ r. ⌜ r ≡ groupAt (now (index .entry)) list (initial (now (text .entry))) ⌝ }
+{
+    if text.len() == 0 {
+        return Section { from: 0, to: 0 };
+    }
+    let b = ascii::upper(text[0]);
+    if !ascii::between(32, 95, b) {
+        return Section { from: 0, to: 0 };
+    }
+    section_at(index, groups_of(list) + ascii::wide(b - 32))
+}
+
+// The section from one number of the index up to the next.
+fn section_at(index: &[u16], at: usize) -> Section
+    requires { ⌜ at + 1 < length (now index) ⌝ }
+    ensures { λ r. ⌜ r ≡ record { from = getD (now (index .entry)) at 0; to = getD (now (index .entry)) (at + 1) 0 } ⌝ }
+{
+    Section {
+        from: ascii::wide16(index[at]),
+        to: ascii::wide16(index[at + 1]),
+    }
+}
+
+// The place of stored word i in its list.
+fn place_of(index: &[u16], i: usize) -> usize
+    requires { ⌜ 312 + i < length (now index) ⌝ }
+    ensures { λ r. ⌜ r ≡ getD (now (index .entry)) (312 + i) 0 ⌝ }
+{
+    let at = spellings::PLACES + i;
+    ascii::wide16(index[at])
+}
+
+// Stored word i, as the search of its list answers it.
+fn word_found(bytes: &[u8], index: &[u16], i: usize) -> Match
+    requires { ⌜ Held (now bytes) (now index) i ⌝ }
+    ensures { λ r. ⌜ r ≡ wordFound (now (bytes .entry)) (now (index .entry)) i ⌝ }
 {
     let word = words::word_at(bytes, index, i);
     let at = spellings::TOKENS + i;
     Match::Word {
-        index: i - from,
+        index: place_of(index, i),
         used: word.len(),
         token: bytes[at],
     }
 }
 
-// The first word of a list that passes the test.
+// The first word of a list that passes the test; its words are stored in capitals.
 pub fn match_in(list: WordList, test: Test, text: &[u8], bytes: &[u8], index: &[u16]) -> Match
     requires { ⌜ SpellsWords (now bytes) (now index) ⌝ }
-    ensures { λ r. ⌜ r ≡ matchIn test (wordsOf list) (now (text .entry)) ⌝ }
+    ensures { λ r. ⌜ r ≡ matchIn test (capitals (wordsOf list)) (now (text .entry)) ⌝ }
 {
-    let section = section_of(list);
-    let from = section.from;
-    let to = section.to;
-    let i = words::first_passing(test, text, bytes, index, from, to);
+    let group = group_of(list, text, index);
+    let to = group.to;
+    let i = words::first_passing(test, text, bytes, index, group, 1);
     if i < to {
-        return word_found(bytes, index, from, i);
+        return word_found(bytes, index, i);
     }
     Match::Nothing
 }
@@ -96,16 +128,26 @@ pub fn match_live(text: &[u8], bytes: &[u8], index: &[u16], sets: Sets) -> Match
     if !sets.tsb {
         return Match::Nothing;
     }
-    let first = words::first_passing(Test::Begins, text, bytes, index, 76, 199);
+    let group = group_of(WordList::Tsb, text, index);
+    let to = group.to;
+    let first = words::first_passing(Test::Begins, text, bytes, index, group, 1);
     let mut i = first;
-    while i < 199 {
-        if sets.demoted[i - 76] {
+    while i < to {
+        let place = place_of(index, i);
+        if sets.demoted[place] {
             return Match::Nothing;
         }
-        i = words::first_passing(Test::Begins, text, bytes, index, i + 1, 199);
+        i = words::first_passing(
+            Test::Begins,
+            text,
+            bytes,
+            index,
+            Section { from: i + 1, to },
+            1,
+        );
     }
-    if first < 199 {
-        return word_found(bytes, index, 76, first);
+    if first < to {
+        return word_found(bytes, index, first);
     }
     Match::Nothing
 }

@@ -8,8 +8,13 @@ use native.Mathlib.Numerals.{add-one}
 use native.Mathlib.Omega.{arith}
 use lib.Dec.{T}
 use Rattle.words.specs.Compare.{passes}
-use Rattle.words.specs.RunHelpers.{Lies, Stored, wordOf, passesAt, firstFrom}
+use Rattle.words.specs.RunHelpers.{Lies, Ready, Stored, wordOf, passesAt, firstFrom}
+use Rattle.words.specs.declared.Section.{Section}
 use Rattle.words.specs.declared.Test.{Test}
+
+-- a place of a function, named by its type
+abbrev pub the : (A : Type 0) → A → A
+the A a = a
 
 pub and-left : (a b : Bool) → T (a && b) → T a
 and-left true b t = tt
@@ -86,12 +91,16 @@ pub record Sought (p : ℕ → Bool) (from to i : ℕ) : Type 0 where
   pub within : i ≤ to
   pub gives : firstFrom p i (to - i) ≡ firstFrom p from (to - from)
 
-module _ {b s : List ℕ} {from to : ℕ} where
-  pub sought-start : (p : ℕ → Bool) → Stored b s from to → Sought p from to from
+module _ {t b s : List ℕ} {section : Section} {n : ℕ} where
+  pub sought-start : (p : ℕ → Bool) → Stored t b s section n → Sought p (section .from) (section .to) (section .from)
   sought-start p k = record { up = omega arith; within = k .up; gives = refl }
 
-  pub sought-lies : {p : ℕ → Bool} {i : ℕ} → i < to → Sought p from to i → Stored b s from to → Lies b s i
-  sought-lies h k st = st .lie _ (k .up) h
+  module _ {p : ℕ → Bool} {i : ℕ} where
+    pub sought-lies : i < section .to → Sought p (section .from) (section .to) i → Stored t b s section n → Lies b s i
+    sought-lies h k st = st .lie _ (k .up) h
+
+    pub sought-ready : {x : List ℕ} → x ≡ wordOf b s i → i < section .to → Sought p (section .from) (section .to) i → Stored t b s section n → Ready x t n
+    sought-ready e h k st = rw e (st .ready _ (k .up) h)
 
 pub sought-end : {p : ℕ → Bool} {from to i : ℕ} → to ≤ i → Sought p from to i → i ≡ firstFrom p from (to - from)
 sought-end h k = sym (first-none _ _ _ h) ∙ k .gives

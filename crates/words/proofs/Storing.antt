@@ -10,11 +10,13 @@ use native.Mathlib.Nat.{eq-or-lt-of-le, le-of-suc-le-suc}
 use native.Mathlib.Omega.{arith}
 use lib.Dec.{T, leb, ltb, leb→le, ltb→lt}
 use lib.ListN.{length, getD}
-use Rattle.words.specs.Compare.{same, alike, passes}
+use Rattle.ascii.specs.Bytes.{between, upper}
+use Rattle.words.specs.Compare.{begins, same, alike, passes}
 use Rattle.words.specs.Find.{Name, meaning}
-use Rattle.words.specs.RunHelpers.{Lies, Stored, wordOf, passesAt, firstFrom}
+use Rattle.words.specs.RunHelpers.{Lies, Stored, raised, wordOf, passesAt, firstFrom}
 use Rattle.words.specs.declared.Test.the-variants.{Alike}
 use Rattle.words.proofs.Search.{and-left, and-right, first-from}
+use Rattle.words.proofs.Comparing.{raise-alike}
 use Rattle.words.proofs.Sameness.{same-eq, T-true}
 
 -- a test of every place below n
@@ -46,14 +48,24 @@ module _ (bytes starts : List ℕ) where
         within = leb→le _ _ (and-right (leb (getD starts k 0) (getD starts (k + 1) 0)) _ t₁);
       }
 
-  pub stored-below : (n : ℕ) → T (allBelow liesAt n) → (from to : ℕ) → from ≤ to → to ≤ n → Stored bytes starts from to
-  stored-below n t from to h l = record { up = h; lie = λ k a b. lies-at k (all-below liesAt n t k (omega arith)) }
+  -- it lies there in capitals
+  unfoldable pub readyAt : ℕ → Bool
+  unfolding liesAt raised wordOf
+  readyAt k = liesAt k && raised (wordOf bytes starts k)
 
-  -- the words from k on are the names
+  pub stored-below : (t : List ℕ) (n : ℕ) → T (allBelow readyAt n) → Stored t bytes starts (record { from = 0; to = n }) 0
+  unfolding readyAt begins
+  stored-below t n r = record {
+    up = omega arith;
+    lie = λ k a b. lies-at k (and-left (liesAt k) _ (all-below readyAt n r k b));
+    ready = λ k a b. record { capital = and-right (liesAt k) _ (all-below readyAt n r k b); long = omega arith; agrees = refl };
+  }
+
+  -- the words from k on are the names, in capitals
   unfoldable pub spellsNames : {A : Type 0} → ℕ → List (Name A) → Bool
   unfolding same wordOf
   spellsNames k [] = true
-  spellsNames k (n ∷ ns) = same (wordOf bytes starts k) (n .name) && spellsNames (suc k) ns
+  spellsNames k (n ∷ ns) = same (wordOf bytes starts k) (map upper (n .name)) && spellsNames (suc k) ns
 
   -- what the name at a place means
   meansAt : {A : Type 0} → List (Name A) → ℕ → Option A
@@ -67,9 +79,10 @@ module _ (bytes starts : List ℕ) where
     unfolding meaning meansAt firstFrom spellsNames passesAt passes
     meaning-from [] k s = refl
     meaning-from (n ∷ ns) k s =
-        let is : wordOf bytes starts k ≡ n .name = same-eq (wordOf bytes starts k) (n .name) (T-true _ (and-left (same (wordOf bytes starts k) (n .name)) _ s)) in
-        rw (firstFrom, is)
-        (go (alike (n .name) t) _ (meaning-from ns (suc k) (and-right (same (wordOf bytes starts k) (n .name)) _ s)) (first-from (passesAt Alike t bytes starts) (suc k) (length ns)))
+        let spelt = same (wordOf bytes starts k) (map upper (n .name)) in
+        let is : wordOf bytes starts k ≡ map upper (n .name) = same-eq (wordOf bytes starts k) (map upper (n .name)) (T-true _ (and-left spelt _ s)) in
+        rw (firstFrom, is, raise-alike (n .name) t)
+        (go (alike (n .name) t) _ (meaning-from ns (suc k) (and-right spelt _ s)) (first-from (passesAt Alike t bytes starts) (suc k) (length ns)))
       where
         go : (b : Bool) (next : ℕ) → meaning ns t ≡ meansAt ns (next - suc k) → suc k ≤ next
             → _≡_ {A = Option A} (elim b [ true ↦ some (n .means) | false ↦ meaning ns t ]) (meansAt (n ∷ ns) (elim b [ true ↦ k | false ↦ next ] - k))

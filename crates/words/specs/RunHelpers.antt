@@ -3,10 +3,14 @@
 -- beside it").
 -- Assumes nothing.
 use Prim.Native.Nat.{ℕ, zero, suc, _+_, _-_, _≤_, _<_}
-use mathlib.Core.Bool.{Bool, true, false}
-use mathlib.Core.List.{List}
+use mathlib.Core.Path.{_≡_}
+use mathlib.Core.Bool.{Bool, true, false, _&&_}
+use mathlib.Core.List.{List, [], _∷_}
+use lib.Dec.{T, eqb}
 use lib.ListN.{length, getD, take, drop}
-use Rattle.words.specs.Compare.{passes}
+use Rattle.ascii.specs.Bytes.{upper}
+use Rattle.words.specs.Compare.{begins, passes}
+use Rattle.words.specs.declared.Section.{Section}
 use Rattle.words.specs.declared.Test.{Test}
 
 -- word k: the bytes from its start up to the next one
@@ -19,10 +23,22 @@ pub record Lies (bytes starts : List ℕ) (k : ℕ) : Type 0 where
   pub up : getD starts k 0 ≤ getD starts (k + 1) 0
   pub within : getD starts (k + 1) 0 ≤ length bytes
 
--- the words from a place up to another lie in the run
-pub record Stored (bytes starts : List ℕ) (from to : ℕ) : Type 0 where
-  pub up : from ≤ to
-  pub lie : (k : ℕ) → from ≤ k → k < to → Lies bytes starts k
+-- no byte of the word is a small letter
+unfoldable pub raised : List ℕ → Bool
+raised [] = true
+raised (x ∷ w) = eqb (upper x) x && raised w
+
+-- the word is stored in capitals, and its first bytes, so many, are known to agree with the text
+pub record Ready (word text : List ℕ) (known : ℕ) : Type 0 where
+  pub capital : T (raised word)
+  pub long : known ≤ length word
+  pub agrees : begins (take known word) text ≡ true
+
+-- the words of a section lie in the run, ready to be compared with the text
+pub record Stored (text bytes starts : List ℕ) (section : Section) (known : ℕ) : Type 0 where
+  pub up : section .from ≤ section .to
+  pub lie : (k : ℕ) → section .from ≤ k → k < section .to → Lies bytes starts k
+  pub ready : (k : ℕ) → section .from ≤ k → k < section .to → Ready (wordOf bytes starts k) text known
 
 -- word k passes a test of the text
 unfoldable pub passesAt : Test → List ℕ → List ℕ → List ℕ → ℕ → Bool

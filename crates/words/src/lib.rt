@@ -2,7 +2,7 @@
 ghost use mathlib.Core.Path.{_≡_};
 ghost use Prim.Native.Nat.{_-_};
 ghost use Rattle.words.specs.Compare.{begins as beginsOf, alike as alikeOf, same as sameOf, passes as passesOf};
-ghost use Rattle.words.specs.RunHelpers.{Lies, Stored, wordOf, passesAt, firstFrom};
+ghost use Rattle.words.specs.RunHelpers.{Lies, Ready, Stored, wordOf, passesAt, firstFrom};
 
 pub enum Match {
     // The word's place in its list, how many bytes of the text it takes, and its token.
@@ -12,6 +12,12 @@ pub enum Match {
         token: u8,
     },
     Nothing,
+}
+
+// The words of a run from a place up to another.
+pub struct Section {
+    pub from: usize,
+    pub to: usize,
 }
 
 // How a word is compared with a text.
@@ -60,13 +66,37 @@ pub fn same(word: &[u8], text: &[u8]) -> bool
     check::same(word, text)
 }
 
-// Whether a word passes a test of a text.
-fn passes(test: Test, word: &[u8], text: &[u8]) -> bool
+// Whether the text begins with a word that is stored in capitals, where so many bytes of the two are known to agree.
+fn goes_on(word: &[u8], text: &[u8], known: usize) -> bool
+    requires { ⌜ Ready (now word) (now text) known ⌝ }
+    ensures { λ r. ⌜ r ≡ beginsOf (now (word .entry)) (now (text .entry)) ⌝ }
+{
+    if text.len() < word.len() {
+        return false;
+    }
+    let mut i = known;
+    while i < word.len() {
+        if word[i] != ascii::upper(text[i]) {
+            return false;
+        }
+        i += 1;
+    }
+    true
+}
+
+// Whether such a word passes a test of the text.
+fn passes(test: Test, word: &[u8], text: &[u8], known: usize) -> bool
+    requires { ⌜ Ready (now word) (now text) known ⌝ }
     ensures { λ r. ⌜ r ≡ passesOf test (now (word .entry)) (now (text .entry)) ⌝ }
 {
     match test {
-        Test::Begins => begins(word, text),
-        Test::Alike => alike(word, text),
+        Test::Begins => goes_on(word, text, known),
+        Test::Alike => {
+            if word.len() != text.len() {
+                return false;
+            }
+            goes_on(word, text, known)
+        }
         Test::Same => same(word, text),
     }
 }
@@ -81,21 +111,22 @@ pub fn word_at<'a>(bytes: &'a [u8], starts: &[u16], k: usize) -> &'a [u8]
     &bytes[from..to]
 }
 
-// The first word, from a place up to another, that passes the test; the end where none does.
+// The first word of a section that passes the test; the section's end where none does.
 pub fn first_passing(
     test: Test,
     text: &[u8],
     bytes: &[u8],
     starts: &[u16],
-    from: usize,
-    to: usize,
+    section: Section,
+    known: usize,
 ) -> usize
-    requires { ⌜ Stored (now bytes) (now starts) from to ⌝ }
-    ensures { λ r. ⌜ r ≡ firstFrom (passesAt test (now (text .entry)) (now (bytes .entry)) (now (starts .entry))) from (to - from) ⌝ }
+    requires { ⌜ Stored (now text) (now bytes) (now starts) section known ⌝ }
+    ensures { λ r. ⌜ r ≡ firstFrom (passesAt test (now (text .entry)) (now (bytes .entry)) (now (starts .entry))) (section .from) (section .to - section .from) ⌝ }
 {
-    let mut i = from;
+    let to = section.to;
+    let mut i = section.from;
     while i < to {
-        if passes(test, word_at(bytes, starts, i), text) {
+        if passes(test, word_at(bytes, starts, i), text, known) {
             return i;
         }
         i += 1;

@@ -2,22 +2,25 @@
 -- Assumes nothing.
 use Prim.Native.Nat.{_-_}
 use Rattle.words.specs.RunHelpers.{passesAt}
-use Rattle.words.proofs.Search.{Sought, sought-start, sought-lies, sought-found, sought-turn, sought-end}
+use Rattle.words.proofs.Search.{Sought, sought-start, sought-lies, sought-ready, sought-found, sought-turn, sought-end}
 use borrow.Author.Needs.{needs}
 use Rattle.words.proofs.first_passing.Statement.{statement}
 use Rattle.words.proofs.first_passing.Tie as tie
 
 abbrev Inv-loop : tie.InvT-loop
-Inv-loop test text bytes starts from to i₀ i = Sought (passesAt test text bytes starts) from to i
+Inv-loop test text bytes starts known to i₀ i = Sought (passesAt test text bytes starts) i₀ to i
 
 abbrev μ-loop : tie.MeasureT-loop
-μ-loop test text bytes starts from to i₀ i = to - i
+μ-loop test text bytes starts known to i₀ i = to - i
 
 loop-holds : tie.Need-loop-holds Inv-loop μ-loop
 loop-holds c = search sought-start
 
 word-at-requires : tie.Need-word-at-requires Inv-loop μ-loop
 word-at-requires c κs = search sought-lies
+
+passes-requires : tie.Need-passes-requires Inv-loop μ-loop
+passes-requires c κs = search sought-ready
 
 returns : tie.Need-returns Inv-loop μ-loop
 returns c = search sought-found
@@ -36,7 +39,7 @@ first-passing-spec =
     μ-loop
     loop-holds
     word-at-requires
-    (λ c κs. search needs)
+    passes-requires
     returns
     (λ c. search needs)
     (λ c. search needs)

@@ -1,21 +1,21 @@
 -- `words::passes` meets its contract.
 -- Assumes nothing.
-use Rattle.words.specs.Compare.{passes}
+use Rattle.words.proofs.Comparing.{passes-begins, passes-alike, passes-longer, passes-same}
 use borrow.Author.Needs.{needs}
 use Rattle.words.proofs.passes.Statement.{statement}
 use Rattle.words.proofs.passes.Tie as tie
 
 returns : tie.Need-returns
-unfolding passes
-returns c = cc
+returns c = search (passes-longer, c .if1 .taken)
 
 returns-2 : tie.Need-returns-2
-unfolding passes
-returns-2 c = cc
+returns-2 c = search passes-begins
 
 returns-3 : tie.Need-returns-3
-unfolding passes
-returns-3 c = cc
+returns-3 c = search passes-alike
+
+returns-4 : tie.Need-returns-4
+returns-4 c = search passes-same
 
 pub passes-spec : {M : Type 1} → statement M
 passes-spec =
@@ -24,9 +24,10 @@ passes-spec =
     (λ c. search needs)
     (λ c κs. search needs)
     (λ c. search needs)
+    returns
     (λ c κs. search needs)
     (λ c. search needs)
     (λ c κs. search needs)
-    returns
     returns-2
-    returns-3)
+    returns-3
+    returns-4)

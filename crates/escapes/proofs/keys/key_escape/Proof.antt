@@ -1,7 +1,7 @@
 -- `escapes::keys::key_escape` meets its contract: the stored prefixes are the definition's.
 -- Assumes nothing.
-use native.Mathlib.Omega.{arith}
-use Rattle.words.proofs.Storing.{allBelow, liesAt, stored-below, spellsNames}
+use Rattle.ascii.specs.Bytes.{between, upper}
+use Rattle.words.proofs.Storing.{allBelow, readyAt, stored-below, spellsNames}
 use Rattle.escapes.specs.Keys.{keyNames}
 use Rattle.escapes.proofs.Keying.{reach-taken, mark-taken, key-unreached, key-long, key-known, key-unknown}
 use borrow.Author.Needs.{needs}
@@ -21,15 +21,15 @@ slice-aggregate-first-passing : tie.Need-slice-aggregate-first-passing
 slice-aggregate-first-passing c = search mark-taken
 
 first-passing-requires : tie.Need-first-passing-requires
-unfolding allBelow liesAt
-first-passing-requires c κs = stored-below _ _ 7 tt 0 7 (omega arith) (omega arith)
+unfolding allBelow readyAt upper between
+first-passing-requires c κs = stored-below _ _ _ 7 tt
 
 returns-3 : tie.Need-returns-3
-unfolding spellsNames keyNames
+unfolding upper between spellsNames keyNames
 returns-3 c = search (key-known, tt)
 
 returns-4 : tie.Need-returns-4
-unfolding spellsNames keyNames
+unfolding upper between spellsNames keyNames
 returns-4 c = search (key-unknown, tt)
 
 pub key-escape-spec : {M : Type 1} → statement M

@@ -1,7 +1,7 @@
 -- `tables::dialect::dialect_by_name` meets its contract: the stored names are the definition's, and each way out is a case of it.
 -- Assumes nothing.
-use native.Mathlib.Omega.{arith}
-use Rattle.words.proofs.Storing.{allBelow, liesAt, stored-below, spellsNames}
+use Rattle.ascii.specs.Bytes.{between, upper}
+use Rattle.words.proofs.Storing.{allBelow, readyAt, stored-below, spellsNames}
 use Rattle.tables.specs.Dialects.{dialectNames}
 use Rattle.tables.proofs.Naming.{named-long, named-high, named-known, named-unknown}
 use borrow.Author.Needs.{needs}
@@ -15,15 +15,15 @@ returns-2 : tie.Need-returns-2
 returns-2 c = search named-high
 
 first-passing-requires : tie.Need-first-passing-requires
-unfolding allBelow liesAt
-first-passing-requires c κs = stored-below _ _ 8 tt 0 8 (omega arith) (omega arith)
+unfolding allBelow readyAt upper between
+first-passing-requires c κs = stored-below _ _ _ 8 tt
 
 returns-3 : tie.Need-returns-3
-unfolding spellsNames dialectNames
+unfolding upper between spellsNames dialectNames
 returns-3 c = search (named-known, tt)
 
 returns-4 : tie.Need-returns-4
-unfolding spellsNames dialectNames
+unfolding upper between spellsNames dialectNames
 returns-4 c = search (named-unknown, tt)
 
 pub dialect-by-name-spec : {M : Type 1} → statement M

@@ -20,4 +20,9 @@ returns-2 c = search match-none
 pub match-in-spec : {M : Type 1} → statement M
 match-in-spec =
     tie.close
-    (tie.spec (λ c κs. search needs) first-passing-requires word-found-requires returns returns-2)
+    (tie.spec
+    (λ c κs. search needs)
+    first-passing-requires
+    word-found-requires
+    returns
+    returns-2)

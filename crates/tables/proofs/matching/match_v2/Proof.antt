@@ -1,13 +1,12 @@
 -- `tables::matching::match_v2` meets its contract.
 -- Assumes nothing.
-use Rattle.words.specs.Find.{wordIn}
+use Rattle.tables.proofs.Storage.{word-found}
 use borrow.Author.Needs.{needs}
 use Rattle.tables.proofs.matching.match_v2.Statement.{statement}
 use Rattle.tables.proofs.matching.match_v2.Tie as tie
 
 returns : tie.Need-returns
-unfolding wordIn
-returns c = search needs
+returns c = search word-found
 
 pub match-v2-spec : {M : Type 1} → statement M
 match-v2-spec = tie.close (tie.spec (λ c κs. search needs) returns)

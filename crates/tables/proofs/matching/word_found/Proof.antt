@@ -1,7 +1,5 @@
 -- `tables::matching::word_found` meets its contract.
 -- Assumes nothing.
-use mathlib.Core.Path.{ap}
-use lib.ListN.{length}
 use borrow.Author.Needs.{needs}
 use Rattle.tables.proofs.matching.word_found.Statement.{statement}
 use Rattle.tables.proofs.matching.word_found.Tie as tie
@@ -10,6 +8,4 @@ returns : tie.Need-returns
 returns c = cc
 
 pub word-found-spec : {M : Type 1} → statement M
-word-found-spec =
-    tie.close
-    (tie.spec (λ c κs. search needs) (λ c. search needs) (λ c. search needs) (λ c. search needs) returns)
+word-found-spec = tie.close (tie.spec (λ c κs. search needs) (λ c. search needs) (λ c κs. search needs) (λ c. search needs) returns)

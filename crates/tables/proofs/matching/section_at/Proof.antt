@@ -1,0 +1,21 @@
+-- `tables::matching::section_at` meets its contract.
+-- Assumes nothing.
+use borrow.Author.Needs.{needs}
+use Rattle.tables.proofs.matching.section_at.Statement.{statement}
+use Rattle.tables.proofs.matching.section_at.Tie as tie
+
+returns : tie.Need-returns
+returns c = cc
+
+pub section-at-spec : {M : Type 1} → statement M
+section-at-spec =
+    tie.close
+    (tie.spec
+    (λ c. search needs)
+    (λ c. search needs)
+    (λ c κs. search needs)
+    (λ c. search needs)
+    (λ c. search needs)
+    (λ c. search needs)
+    (λ c κs. search needs)
+    returns)
