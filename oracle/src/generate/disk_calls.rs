@@ -95,38 +95,53 @@ fn to_format(number: usize) -> Option<Given> {
     Some(given(b"", 0, disk))
 }
 
+/// A disk that is made when it is its turn.
+#[derive(Clone, Copy)]
+enum ToMake {
+    Fresh,
+    Sample,
+    Crowded {
+        files: usize,
+        left_free: Option<usize>,
+    },
+}
+
+impl ToMake {
+    fn made(self) -> Vec<u8> {
+        match self {
+            ToMake::Fresh => disks::fresh(),
+            ToMake::Sample => SAMPLE.clone(),
+            ToMake::Crowded { files, left_free } => disks::crowded(files, left_free),
+        }
+    }
+}
+
 /// Names, lengths and disks at the edges of what a call takes.
 fn edge(number: usize) -> Option<Given> {
-    let mut cases: Vec<(&[u8], usize, Box<dyn Fn() -> Vec<u8>>)> = Vec::new();
+    let mut cases: Vec<(&[u8], usize, ToMake)> = Vec::new();
     let most = FILE_SECTORS * DATA_LENGTH;
-    for length in IMAGE_LENGTHS
-        .into_iter()
-        .chain([most - 254, most - 253, most, most + 1])
-    {
-        cases.push((b"NEW", length, Box::new(disks::fresh)));
+    let large = [most - 254, most - 253, most, most + 1];
+    for length in IMAGE_LENGTHS.into_iter().chain(large) {
+        cases.push((b"NEW", length, ToMake::Fresh));
     }
     for name in disks::names().chain([&b"H"[..], b"B", b"J", b"h"]) {
-        cases.push((name, 255, Box::new(|| SAMPLE.clone())));
+        cases.push((name, 255, ToMake::Sample));
     }
     // The directory grows at 8, 16, .. files, and is full at 144.
     for files in [7, 8, 9, 15, 16, 17, 135, 136, 137, 142, 143, 144] {
-        cases.push((b"NEW", 1, Box::new(move || disks::crowded(files, None))));
+        let left_free = None;
+        cases.push((b"NEW", 1, ToMake::Crowded { files, left_free }));
+        cases.push((b"FILE 143", 0, ToMake::Crowded { files, left_free }));
     }
     // So many sectors left for an image of two: 25 below two, but 24 comes first.
-    for left_free in [0, 1, 2, 3] {
+    for left_free in [0, 1, 2, 3].map(Some) {
         for files in [0, 7, MOST_FILES - 1] {
-            let disk = move || disks::crowded(files, Some(left_free));
-            cases.push((b"NEW", 255, Box::new(disk)));
-            cases.push((b"THE REST", 255, Box::new(disk)));
+            cases.push((b"NEW", 255, ToMake::Crowded { files, left_free }));
+            cases.push((b"THE REST", 255, ToMake::Crowded { files, left_free }));
         }
     }
-    cases.push((
-        b"FILE 143",
-        0,
-        Box::new(|| disks::crowded(MOST_FILES, None)),
-    ));
-    let (name, length, disk) = cases.get(number)?;
-    Some(given(name, *length, disk()))
+    let &(name, length, disk) = cases.get(number)?;
+    Some(given(name, length, disk.made()))
 }
 
 /// A disk by random calls or as another tool leaves it, one in three damaged.

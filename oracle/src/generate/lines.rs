@@ -27,8 +27,8 @@ const LOADS: [u16; 7] = [0x0000, 0x00F0, 0x00FF, 0x0100, C64_LOAD, 0xFFF0, 0xFFF
 pub fn listed(op: u8) -> Vec<Request> {
     match op {
         calls::LINE_BY_NUMBER => searches(),
-        calls::ADDRESSED_STEP_BY_TERMINATORS => low_addresses(Reader::Terminators),
-        calls::ADDRESSED_STEP_BY_LINKS => low_addresses(Reader::Links),
+        calls::ADDRESSED_STEP_BY_TERMINATORS => first_addresses(Reader::Terminators),
+        calls::ADDRESSED_STEP_BY_LINKS => first_addresses(Reader::Links),
         calls::MEASURED_LINE => measured_lines(),
         _ => unreachable!("op {op:02X} is not about lines"),
     }
@@ -66,22 +66,22 @@ fn searches() -> Vec<Request> {
     requests
 }
 
-/// Lines at the offsets around the load address itself, whose sum can be below 0.
-fn low_addresses(by: Reader) -> Vec<Request> {
+/// Lines at the offsets around the load address itself: their sum can be below 0, and
+/// can pass 16 bits.
+fn first_addresses(by: Reader) -> Vec<Request> {
+    const LOADS: [u16; 9] = [0, 1, 2, 3, 0xFF, 0x100, 0xFFFD, 0xFFFE, 0xFFFF];
     let mut requests = Vec::new();
-    for load in [0x00, 0x01, 0x02, 0x03, 0xFF] {
-        for high in [0, 1] {
-            // By links the target of 0100 or above is as far away as that.
-            let length = match by {
-                Reader::Terminators => 9,
-                Reader::Links => 300,
-            };
-            let mut image = vec![load, high, 1];
-            image.resize(length, 0);
-            for offset in 0..4 {
-                let image = &image;
-                requests.push(Call::AddressedStep { by, offset, image }.encode());
-            }
+    for load in LOADS {
+        // By links, a target of 0100 or above is as far away as that.
+        let length = match by {
+            Reader::Links if load < 0x200 => 300,
+            _ => 10,
+        };
+        let mut image = [&load.to_le_bytes(), &[1; 4][..]].concat();
+        image.resize(length, 0);
+        for offset in 0..5 {
+            let image = &image;
+            requests.push(Call::AddressedStep { by, offset, image }.encode());
         }
     }
     requests
