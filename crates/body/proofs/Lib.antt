@@ -1,4 +1,5 @@
 pub mod Beginnings
+pub mod Named
 pub mod PlainSteps
 pub mod Progress
 pub mod Run

@@ -18,33 +18,34 @@ use Rattle.body.specs.Proper.{proper}
 use Rattle.body.specs.Steps.{first, one, token, opened, otherStep, plainStep}
 use Rattle.body.specs.declared.moves.Mode.{Mode}
 use Rattle.body.specs.declared.moves.Mode.the-variants.{Plain, String, Remark, Data}
+use Rattle.body.specs.declared.moves.Move.{Move}
 use Rattle.body.proofs.Beginnings.{word-none, live-none, live-empty, tsb-start, v2-start, operators-start}
 
 -- ---- a byte that begins no word
 
-module _ (t : List ℕ) where
-  pub other-pi : first t ≡ 0xCF → getD t 1 0 ≡ 0x80 → token false 0xFF Plain 2 ≡ otherStep t
+module _ (t : List ℕ) {r : Move} where
+  pub other-pi : r ≡ token false 0xFF Plain 2 → getD t 1 0 ≡ 0x80 → first t ≡ 0xCF → r ≡ otherStep t
   unfolding otherStep
-  other-pi e f = rw (otherStep, eq-eqb _ _ e, eq-eqb _ _ f)
+  other-pi q f e = rw (otherStep, eq-eqb _ _ e, eq-eqb _ _ f) q
 
-  pub other-no-pi : first t ≡ 0xCF → (getD t 1 0 ≡ 0x80 → ⊥) → one 0xCF Plain ≡ otherStep t
+  pub other-no-pi : r ≡ one 0xCF Plain → (getD t 1 0 ≡ 0x80 → ⊥) → first t ≡ 0xCF → r ≡ otherStep t
   unfolding otherStep upper between
-  other-no-pi e f =
-      let q : eqb (first t) 0x3F ≡ false = rw e in
-      rw (otherStep, eq-eqb _ _ e, ne-eqb _ _ f, q, e)
+  other-no-pi q f e =
+      let n : eqb (first t) 0x3F ≡ false = rw e in
+      rw (otherStep, eq-eqb _ _ e, ne-eqb _ _ f, n, e) q
 
-  pub other-short : first t ≡ 0xCF → length t ≤ 1 → one 0xCF Plain ≡ otherStep t
-  other-short e h = other-no-pi e (λ q. absurd (omega (arith, q, List·getD-eq-default t 0 {n = 1} h)))
+  pub other-short : r ≡ one 0xCF Plain → length t ≤ 1 → first t ≡ 0xCF → r ≡ otherStep t
+  other-short q h e = other-no-pi q (λ f. absurd (omega (arith, f, List·getD-eq-default t 0 {n = 1} h))) e
 
-  pub other-print : first t ≡ 0x3F → one 0x99 Plain ≡ otherStep t
+  pub other-print : r ≡ one 0x99 Plain → first t ≡ 0x3F → r ≡ otherStep t
   unfolding otherStep
-  other-print e =
-      let q : eqb (first t) 0xCF ≡ false = rw e in
-      rw (otherStep, q, eq-eqb _ _ e)
+  other-print q e =
+      let n : eqb (first t) 0xCF ≡ false = rw e in
+      rw (otherStep, n, eq-eqb _ _ e) q
 
-  pub other-raised : (first t ≡ 0xCF → ⊥) → (first t ≡ 0x3F → ⊥) → one (upper (first t)) Plain ≡ otherStep t
+  pub other-raised : {b : ℕ} → r ≡ one b Plain → b ≡ upper (first t) → (first t ≡ 0xCF → ⊥) → (first t ≡ 0x3F → ⊥) → r ≡ otherStep t
   unfolding otherStep
-  other-raised e f = rw (otherStep, ne-eqb _ _ e, ne-eqb _ _ f)
+  other-raised q b e f = rw (otherStep, ne-eqb _ _ e, ne-eqb _ _ f, ← b) q
 
 -- ---- the mode behind a V2 word
 
@@ -92,6 +93,9 @@ module _ (l : Lexicon) (t : List ℕ) where
 
 -- ---- all of it
 
+pub letter-known : {x : Bool} (b : ℕ) → x ≡ true → x ≡ isLetter b → isLetter b ≡ true
+letter-known b t e = sym e ∙ t
+
 letter-no-quote : (b : ℕ) → isLetter b ≡ true → eqb b 0x22 ≡ false
 unfolding between upper
 letter-no-quote b e = go (eqb b 0x22) refl
@@ -100,35 +104,42 @@ letter-no-quote b e = go (eqb b 0x22) refl
     go true q = absurd (false≢true (ap isLetter (sym (eqb-true b 0x22 q)) ∙ e))
     go false q = q
 
-module _ (l : Lexicon) (g : T (proper l)) (t : List ℕ) where
-  pub plain-quote : first t ≡ 0x22 → one (first t) String ≡ plainStep l t
+no-tsb : (l : Lexicon) (t : List ℕ) → T (proper l) → isLetter (first t) ≡ false → liveWord l t ≡ Nothing
+unfolding liveWord
+no-tsb l t g a = rw (liveWord, live-none true (l .tsb) (tsb-start l g) t (l .demoted) a, live-none true (l .tsb) (tsb-start l g) t (l .live) a)
+
+module _ (l : Lexicon) (t : List ℕ) {r : Move} where
+  pub plain-quote : r ≡ one (first t) String → first t ≡ 0x22 → r ≡ plainStep l t
   unfolding plainStep
-  plain-quote e = rw (plainStep, eq-eqb _ _ e, e)
+  plain-quote q e = rw (plainStep, eq-eqb _ _ e) (q ∙ ap (λ (b : ℕ). one b String) e)
 
-  module _ (a : isLetter (first t) ≡ true) {m : Match} (p : m ≡ liveWord l t) where
-    pub letter-tsb : {i u k : ℕ} → m ≡ Word i u k → token true k Plain u ≡ plainStep l t
+  -- a letter: m is the live TSB word there, v the V2 word
+  module _ {m : Match} where
+    pub letter-tsb : {i u k : ℕ} → r ≡ token true k Plain u → m ≡ Word i u k → m ≡ liveWord l t → isLetter (first t) ≡ true → r ≡ plainStep l t
     unfolding plainStep
-    letter-tsb e = rw (plainStep, letter-no-quote _ a, sym p ∙ e)
+    letter-tsb q e p a = rw (plainStep, letter-no-quote _ a, sym p ∙ e) q
 
-    module _ (n : m ≡ Nothing) {v : Match} (q : v ≡ wordIn (l .v2) t) where
-      pub letter-v2 : {i u k : ℕ} {behind : Mode} → v ≡ Word i u k → behind ≡ opened k → token false k behind u ≡ plainStep l t
-      unfolding plainStep
-      letter-v2 e o = rw (o, plainStep, letter-no-quote _ a, sym p ∙ n, sym q ∙ e)
+    pub letter-v2 : {v : Match} {i u k : ℕ} {behind : Mode} → r ≡ token false k behind u → behind ≡ opened k → v ≡ Word i u k → v ≡ wordIn (l .v2) t
+        → m ≡ Nothing → m ≡ liveWord l t → isLetter (first t) ≡ true → r ≡ plainStep l t
+    unfolding plainStep
+    letter-v2 q o e p n live a = rw (plainStep, letter-no-quote _ a, sym live ∙ n, sym p ∙ e, ← o) q
 
-      pub letter-other : v ≡ Nothing → otherStep t ≡ plainStep l t
-      unfolding plainStep
-      letter-other e = rw (plainStep, letter-no-quote _ a, sym p ∙ n, sym q ∙ e, word-none false (l .operators) (operators-start l g) t a)
+    pub letter-other : {v : Match} → r ≡ otherStep t → v ≡ Nothing → v ≡ wordIn (l .v2) t → m ≡ Nothing → m ≡ liveWord l t → isLetter (first t) ≡ true
+        → T (proper l) → r ≡ plainStep l t
+    unfolding plainStep
+    letter-other q e p n live a g =
+        rw (plainStep, letter-no-quote _ a, sym live ∙ n, sym p ∙ e, word-none false (l .operators) (operators-start l g) t a) q
 
-  module _ (s : first t ≡ 0x22 → ⊥) (a : isLetter (first t) ≡ false) where
-    no-tsb : liveWord l t ≡ Nothing
-    unfolding liveWord
-    no-tsb = rw (liveWord, live-none true (l .tsb) (tsb-start l g) t (l .demoted) a, live-none true (l .tsb) (tsb-start l g) t (l .live) a)
+  -- another byte: w is the operator there
+  module _ {w : Match} {x : Bool} where
+    pub other-operator : {i u k : ℕ} → r ≡ token false k Plain u → w ≡ Word i u k → w ≡ wordIn (l .operators) t → x ≡ false → x ≡ isLetter (first t)
+        → (first t ≡ 0x22 → ⊥) → T (proper l) → r ≡ plainStep l t
+    unfolding plainStep
+    other-operator q e p n i s g =
+        rw (plainStep, ne-eqb _ _ s, no-tsb l t g (sym i ∙ n), word-none true (l .v2) (v2-start l g) t (sym i ∙ n), sym p ∙ e) q
 
-    module _ {w : Match} (q : w ≡ wordIn (l .operators) t) where
-      pub other-operator : {i u k : ℕ} → w ≡ Word i u k → token false k Plain u ≡ plainStep l t
-      unfolding plainStep
-      other-operator e = rw (plainStep, ne-eqb _ _ s, no-tsb, word-none true (l .v2) (v2-start l g) t a, sym q ∙ e)
-
-      pub other-none : w ≡ Nothing → otherStep t ≡ plainStep l t
-      unfolding plainStep
-      other-none e = rw (plainStep, ne-eqb _ _ s, no-tsb, word-none true (l .v2) (v2-start l g) t a, sym q ∙ e)
+    pub other-none : r ≡ otherStep t → w ≡ Nothing → w ≡ wordIn (l .operators) t → x ≡ false → x ≡ isLetter (first t)
+        → (first t ≡ 0x22 → ⊥) → T (proper l) → r ≡ plainStep l t
+    unfolding plainStep
+    other-none q e p n i s g =
+        rw (plainStep, ne-eqb _ _ s, no-tsb l t g (sym i ∙ n), word-none true (l .v2) (v2-start l g) t (sym i ∙ n), sym p ∙ e) q

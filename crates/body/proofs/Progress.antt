@@ -19,7 +19,7 @@ use Rattle.escapes.specs.declared.Escape.{Escape}
 use Rattle.escapes.specs.declared.Escape.the-variants.{Byte, Unknown}
 use Rattle.body.specs.Lexicon.{Lexicon, liveWord}
 use Rattle.body.specs.Proper.{proper}
-use Rattle.body.specs.Steps.{first, one, token, opened, otherStep, plainStep, lettered, stringByte, escaped, braced, stringStep, dataStep, dataQuoteStep, stepOf}
+use Rattle.body.specs.Steps.{first, one, token, opened, otherStep, plainStep, lettered, stringByte, escaped, braced, stringStep, dataStep, dataQuoteStep, crunchStep}
 use Rattle.body.specs.declared.moves.Mode.{Mode}
 use Rattle.body.specs.declared.moves.Mode.the-variants.{Plain, String, Remark, Data, DataQuote}
 use Rattle.body.specs.declared.moves.Move.{Move}
@@ -101,8 +101,8 @@ string-takes (b ∷ s) h =
     by-test (b ∷ s) (eqb b 0x7B) (braced s (before (equals 0x7D) s)) (stringByte b)
     (λ _. brace-takes b s (before (equals 0x7D) s)) (λ _. byte-takes (b ∷ s) h b)
 
-pub step-takes : (l : Lexicon) → T (proper l) → (m : Mode) (t : List ℕ) → 0 < length t → Takes t (stepOf l m t .used)
-unfolding stepOf dataStep dataQuoteStep
+pub step-takes : (l : Lexicon) → T (proper l) → (m : Mode) (t : List ℕ) → 0 < length t → Takes t (crunchStep l m t .used)
+unfolding crunchStep dataStep dataQuoteStep
 step-takes l g Plain t h = plain-takes t h l g
 step-takes l g String t h = string-takes t h
 step-takes l g Remark t h = one-takes t h

@@ -1,118 +1,136 @@
 -- A step in a string and in DATA, case by case.
 -- Assumes nothing.
-use Prim.Native.Nat.{ℕ, _+_, _-_, _≤_, _<_}
-use mathlib.Core.Path.{_≡_, sym, ap, _∙_}
-use mathlib.Core.Bool.{true, false}
-use mathlib.Core.List.{List, _∷_}
-use native.Mathlib.Numerals.{add-one}
+use Prim.Native.Nat.{ℕ, suc, _+_, _-_, _≤_, _<_}
+use mathlib.Core.Path.{_≡_, refl, sym, ap, _∙_}
+use mathlib.Core.Bool.{Bool, true, false}
+use mathlib.Core.List.{List, [], _∷_}
 use native.Mathlib.Omega.{arith}
-use lib.ListN.{length, getD, take, drop, length-drop}
-use lib.Seq.{drop-cons}
+use lib.Dec.{eqb}
+use lib.ListN.{length, take, drop, length-drop}
 use borrow.Author.Tests.{eq-eqb, ne-eqb, lt-ltb, le-ltb}
 use Rattle.ascii.specs.Bytes.{upper, between}
+use Rattle.ascii.proofs.Ranges.{between-in}
 use Rattle.escapes.specs.Escape.{escapeOf}
-use Rattle.escapes.specs.Places.{equals, before, behindLast}
+use Rattle.escapes.specs.Places.{equals, before}
 use Rattle.escapes.specs.declared.Escape.{Escape}
 use Rattle.escapes.specs.declared.Escape.the-variants.{Byte, Unknown}
-use Rattle.escapes.proofs.Placing.{tail-is, none-behind}
-use Rattle.body.specs.Steps.{one, lettered, stringByte, escaped, braced, stringStep, dataStep, dataQuoteStep}
+use Rattle.escapes.proofs.Placing.{tail-is}
+use Rattle.body.specs.Lent.{Closes}
+use Rattle.body.specs.Steps.{first, one, lettered, stringByte, escaped, braced, stringStep, dataStep, dataQuoteStep}
 use Rattle.body.specs.declared.moves.Mode.the-variants.{Plain, String, Data, DataQuote}
 use Rattle.body.specs.declared.moves.Move.{Move}
 
 -- ---- a byte of a string
 
 module _ (b : ℕ) where
-  pub lettered-small : between 97 122 b ≡ true → b - 32 ≡ lettered b
+  pub lettered-small : {x : Bool} → x ≡ true → x ≡ between 97 122 b → b - 32 ≡ lettered b
   unfolding lettered
-  lettered-small e = simp e
+  lettered-small t e = simp (sym e ∙ t)
 
-  pub lettered-capital : between 97 122 b ≡ false → between 65 90 b ≡ true → b + 0x80 ≡ lettered b
+  pub lettered-capital : {x y : Bool} → y ≡ true → y ≡ between 65 90 b → x ≡ false → x ≡ between 97 122 b → b + 0x80 ≡ lettered b
   unfolding lettered
-  lettered-capital e f = simp (e, f)
+  lettered-capital t e f d = simp (sym d ∙ f, sym e ∙ t)
 
-  pub lettered-other : between 97 122 b ≡ false → between 65 90 b ≡ false → b ≡ lettered b
+  pub lettered-other : {x y : Bool} → y ≡ false → y ≡ between 65 90 b → x ≡ false → x ≡ between 97 122 b → b ≡ lettered b
   unfolding lettered
-  lettered-other e f = simp (e, f)
+  lettered-other t e f d = simp (sym d ∙ f, sym e ∙ t)
 
-  pub string-quote : b ≡ 0x22 → one b Plain ≡ stringByte b
+  pub raised-from : {x : Bool} → x ≡ true → x ≡ between 97 122 b → 32 ≤ b
+  raised-from t e = omega (arith, between-in 97 122 b (sym e ∙ t))
+
+  pub capital-to : {x : Bool} → x ≡ true → x ≡ between 65 90 b → b ≤ 90
+  capital-to t e = omega (arith, between-in 65 90 b (sym e ∙ t))
+
+  pub string-quote : {r : Move} → r ≡ one b Plain → b ≡ 0x22 → r ≡ stringByte b
   unfolding stringByte
-  string-quote e = rw (stringByte, eq-eqb _ _ e, e)
+  string-quote q e = rw (stringByte, eq-eqb _ _ e) (q ∙ ap (λ (c : ℕ). one c Plain) e)
 
-  pub string-other : (b ≡ 0x22 → ⊥) → one (lettered b) String ≡ stringByte b
+  pub string-other : {r : Move} {c : ℕ} → r ≡ one c String → c ≡ lettered b → (b ≡ 0x22 → ⊥) → r ≡ stringByte b
   unfolding stringByte
-  string-other e = rw (stringByte, ne-eqb _ _ e)
+  string-other q l e = rw (stringByte, ne-eqb _ _ e, ← l) q
 
 -- ---- a brace
 
-module _ (s : List ℕ) {at : ℕ} (h : at < length s) where
-  here : drop at s ≡ getD s at 0 ∷ drop (at + 1) s
-  here = rw add-one (drop-cons s at 0 h)
+pub brace-none : (t : List ℕ) {r : Move} → r ≡ stringByte (first t) → 0 < length t → (first t ≡ 0x7B → ⊥) → r ≡ stringStep t
+unfolding stringStep
+brace-none [] q h e = absurd (omega arith)
+brace-none (b ∷ s) q h e = rw (stringStep, ne-eqb _ _ e) q
 
-  pub brace-none : (getD s at 0 ≡ 0x7B → ⊥) → stringByte (getD s at 0) ≡ stringStep (drop at s)
-  unfolding stringStep
-  brace-none e = rw (here, stringStep, ne-eqb _ _ e)
+brace : (t : List ℕ) → 0 < length t → first t ≡ 0x7B → stringStep t ≡ braced (drop 1 t) (before (equals 0x7D) (drop 1 t))
+unfolding stringStep
+brace [] h e = absurd (omega arith)
+brace (b ∷ s) h e = rw (stringStep, eq-eqb _ _ e)
 
-  module _ (e : getD s at 0 ≡ 0x7B) where
-    brace : braced (drop (at + 1) s) (before (equals 0x7D) (drop (at + 1) s)) ≡ stringStep (drop at s)
-    unfolding stringStep
-    brace = rw (here, stringStep, eq-eqb _ _ e)
+not-closed : (t : List ℕ) (n : ℕ) {r : Move} → r ≡ stringByte 0x7B → 0 < length t → first t ≡ 0x7B → n ≡ before (equals 0x7D) (drop 1 t) → length (drop 1 t) ≤ n
+    → r ≡ stringStep t
+unfolding braced
+not-closed t n q h e p l =
+    let u : braced (drop 1 t) n ≡ stringByte 0x7B = rw (braced, le-ltb _ _ l) in
+    q ∙ sym u ∙ ap (braced (drop 1 t)) p ∙ sym (brace t h e)
 
-    open-brace : (n : ℕ) → n ≡ before (equals 0x7D) (drop (at + 1) s) → length (drop (at + 1) s) ≤ n → stringByte (getD s at 0) ≡ stringStep (drop at s)
+-- no } follows, as was said
+none-behind-first : (t : List ℕ) → before (equals 0x7D) t ≡ length t → length (drop 1 t) ≤ before (equals 0x7D) (drop 1 t)
+unfolding before
+none-behind-first [] e = omega arith
+none-behind-first (b ∷ s) e = go (eqb b 0x7D) e
+  where
+    go : (x : Bool) → elim x [ true ↦ 0 | false ↦ suc (before (equals 0x7D) s) ] ≡ suc (length s) → length s ≤ before (equals 0x7D) s
+    go true f = absurd (omega arith)
+    go false f = omega arith
+
+pub brace-last : (t : List ℕ) {r : Move} {closes : Bool} → r ≡ stringByte (first t) → closes ≡ false → Closes closes t → 0 < length t → first t ≡ 0x7B → r ≡ stringStep t
+brace-last t q f k h e =
+    let none : before (equals 0x7D) t ≡ length t = rw f at k in
+    not-closed t _ (q ∙ ap stringByte e) h e refl (none-behind-first t none)
+
+module _ (t : List ℕ) {n : ℕ} where
+  ahead : n ≡ before (equals 0x7D) (take (length t - 1) (drop 1 t)) → n ≡ before (equals 0x7D) (drop 1 t)
+  ahead p = p ∙ ap (before (equals 0x7D)) (tail-is 1 t)
+
+  pub brace-open : {r : Move} → r ≡ stringByte 0x7B → length t - 1 ≤ n → n ≡ before (equals 0x7D) (take (length t - 1) (drop 1 t))
+      → 0 < length t → first t ≡ 0x7B → r ≡ stringStep t
+  brace-open q l p h e = not-closed t n q h e (ahead p) (omega (arith, length-drop 1 t))
+
+  module _ {x : Escape} where
+    closed : x ≡ escapeOf (take (n + 1 - 1) (drop 1 t)) → n < length t - 1 → n ≡ before (equals 0x7D) (take (length t - 1) (drop 1 t))
+        → 0 < length t → first t ≡ 0x7B → escaped n x ≡ stringStep t
     unfolding braced
-    open-brace n q l =
-        let u : braced (drop (at + 1) s) n ≡ stringByte 0x7B = rw (braced, le-ltb _ _ l) in
-        ap stringByte e ∙ sym u ∙ ap (braced (drop (at + 1) s)) q ∙ brace
+    closed f l p h e =
+        let inside : n + 1 - 1 ≡ n = omega arith in
+        let fits : n < length (drop 1 t) = omega (arith, length-drop 1 t) in
+        let u : braced (drop 1 t) n ≡ escaped n (escapeOf (take n (drop 1 t))) = rw (braced, lt-ltb _ _ fits) in
+        ap (escaped n) (f ∙ ap (λ (i : ℕ). escapeOf (take i (drop 1 t))) inside) ∙ sym u ∙ ap (braced (drop 1 t)) (ahead p) ∙ sym (brace t h e)
 
-    -- no } follows, as the place behind the last one says
-    pub brace-last : {last : ℕ} → last ≡ behindLast (equals 0x7D) s → last ≤ at → stringByte (getD s at 0) ≡ stringStep (drop at s)
-    brace-last q l =
-        let none = none-behind (equals 0x7D) s (at + 1) (omega arith) in
-        open-brace (length (drop (at + 1) s)) (sym none) (omega arith)
+    pub brace-known : {b count : ℕ} → x ≡ Byte b count → x ≡ escapeOf (take (n + 1 - 1) (drop 1 t)) → n < length t - 1
+        → n ≡ before (equals 0x7D) (take (length t - 1) (drop 1 t)) → 0 < length t → first t ≡ 0x7B
+        → _≡_ {A = Move} (record { prefixed = false; byte = b; count = count; mode = String; used = n + 2 }) (stringStep t)
+    unfolding escaped
+    brace-known g f l p h e = ap (escaped n) (sym g) ∙ closed f l p h e
 
-    module _ {n : ℕ} (q : n ≡ before (equals 0x7D) (take (length s - (at + 1)) (drop (at + 1) s))) where
-      ahead : n ≡ before (equals 0x7D) (drop (at + 1) s)
-      ahead = q ∙ ap (before (equals 0x7D)) (tail-is (at + 1) s)
-
-      pub brace-open : length s - (at + 1) ≤ n → stringByte (getD s at 0) ≡ stringStep (drop at s)
-      brace-open l = open-brace n ahead (omega (arith, length-drop (at + 1) s))
-
-      module _ (l : n < length s - (at + 1)) {x : Escape} (f : x ≡ escapeOf (take (at + 1 + n - (at + 1)) (drop (at + 1) s))) where
-        closed : escaped n x ≡ stringStep (drop at s)
-        unfolding braced
-        closed =
-            let inside : at + 1 + n - (at + 1) ≡ n = omega arith in
-            let fits : n < length (drop (at + 1) s) = omega (arith, length-drop (at + 1) s) in
-            let u : braced (drop (at + 1) s) n ≡ escaped n (escapeOf (take n (drop (at + 1) s))) = rw (braced, lt-ltb _ _ fits) in
-            ap (escaped n) (f ∙ ap (λ (i : ℕ). escapeOf (take i (drop (at + 1) s))) inside) ∙ sym u ∙ ap (braced (drop (at + 1) s)) ahead ∙ brace
-
-        pub brace-known : {b count : ℕ} → x ≡ Byte b count
-            → _≡_ {A = Move} (record { prefixed = false; byte = b; count = count; mode = String; used = n + 2 }) (stringStep (drop at s))
-        unfolding escaped
-        brace-known g = ap (escaped n) (sym g) ∙ closed
-
-        pub brace-unknown : x ≡ Unknown → stringByte (getD s at 0) ≡ stringStep (drop at s)
-        unfolding escaped
-        brace-unknown g = ap stringByte e ∙ ap (escaped n) (sym g) ∙ closed
+    pub brace-unknown : {r : Move} → r ≡ stringByte 0x7B → x ≡ Unknown → x ≡ escapeOf (take (n + 1 - 1) (drop 1 t)) → n < length t - 1
+        → n ≡ before (equals 0x7D) (take (length t - 1) (drop 1 t)) → 0 < length t → first t ≡ 0x7B → r ≡ stringStep t
+    unfolding escaped
+    brace-unknown q g f l p h e = q ∙ ap (escaped n) (sym g) ∙ closed f l p h e
 
 -- ---- data
 
-module _ (b : ℕ) where
-  pub data-quote : b ≡ 0x22 → one b DataQuote ≡ dataStep b
+module _ (b : ℕ) {r : Move} where
+  pub data-quote : r ≡ one b DataQuote → b ≡ 0x22 → r ≡ dataStep b
   unfolding dataStep
-  data-quote e = rw (dataStep, eq-eqb _ _ e, e)
+  data-quote q e = rw (dataStep, eq-eqb _ _ e) (q ∙ ap (λ (c : ℕ). one c DataQuote) e)
 
-  pub data-colon : (b ≡ 0x22 → ⊥) → b ≡ 0x3A → one b Plain ≡ dataStep b
+  pub data-colon : r ≡ one b Plain → b ≡ 0x3A → (b ≡ 0x22 → ⊥) → r ≡ dataStep b
   unfolding dataStep
-  data-colon n e = rw (dataStep, ne-eqb _ _ n, eq-eqb _ _ e, e)
+  data-colon q e n = rw (dataStep, ne-eqb _ _ n, eq-eqb _ _ e) (q ∙ ap (λ (c : ℕ). one c Plain) e)
 
-  pub data-other : (b ≡ 0x22 → ⊥) → (b ≡ 0x3A → ⊥) → one (upper b) Data ≡ dataStep b
+  pub data-other : {c : ℕ} → r ≡ one c Data → c ≡ upper b → (b ≡ 0x22 → ⊥) → (b ≡ 0x3A → ⊥) → r ≡ dataStep b
   unfolding dataStep
-  data-other n e = rw (dataStep, ne-eqb _ _ n, ne-eqb _ _ e)
+  data-other q u n e = rw (dataStep, ne-eqb _ _ n, ne-eqb _ _ e, ← u) q
 
-  pub quoted-quote : b ≡ 0x22 → one b Data ≡ dataQuoteStep b
+  pub quoted-quote : r ≡ one b Data → b ≡ 0x22 → r ≡ dataQuoteStep b
   unfolding dataQuoteStep
-  quoted-quote e = rw (dataQuoteStep, eq-eqb _ _ e, e)
+  quoted-quote q e = rw (dataQuoteStep, eq-eqb _ _ e) (q ∙ ap (λ (c : ℕ). one c Data) e)
 
-  pub quoted-other : (b ≡ 0x22 → ⊥) → one (upper b) DataQuote ≡ dataQuoteStep b
+  pub quoted-other : {c : ℕ} → r ≡ one c DataQuote → c ≡ upper b → (b ≡ 0x22 → ⊥) → r ≡ dataQuoteStep b
   unfolding dataQuoteStep
-  quoted-other e = rw (dataQuoteStep, ne-eqb _ _ e)
+  quoted-other q u e = rw (dataQuoteStep, ne-eqb _ _ e, ← u) q

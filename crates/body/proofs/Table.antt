@@ -17,9 +17,9 @@ use Rattle.escapes.specs.Places.{before, further, behindLast}
 use Rattle.escapes.specs.Numbers.{digitOf, numberAfter, numberOf, hexOf, unsigned, countOf}
 use Rattle.escapes.specs.Keys.{keyNames, controlByte, keyWith, keyed, keyEscape}
 use Rattle.escapes.specs.Escape.{nameEscape, repeated, starred, escapeOf}
-use Rattle.body.specs.Body.{written, within, bodyFrom, bodyOf}
+use Rattle.body.specs.Body.{written, crunchedWithin, crunchedFrom, crunchedBody}
 use Rattle.body.specs.Lexicon.{Lexicon, lexicon, liveWord}
-use Rattle.body.specs.Steps.{opened, otherStep, plainStep, lettered, stringByte, escaped, braced, stringStep, dataStep, dataQuoteStep, stepOf}
+use Rattle.body.specs.Steps.{opened, otherStep, plainStep, lettered, stringByte, escaped, braced, stringStep, dataStep, dataQuoteStep, crunchStep}
 
 -- no TSB word is live
 abbrev pub v2Lexicon : Lexicon
@@ -31,7 +31,7 @@ allBut w = lexicon (map (λ e. not (same w (e .word))) tsbWords) (map (λ e. sam
 
 infix 60 _gives_
 abbrev pub _gives_ : String → List ℕ → Type 0
-text gives bytes = bodyOf v2Lexicon (bytesOf text) ≡ bytes
+text gives bytes = crunchedBody v2Lexicon (bytesOf text) ≡ bytes
 
 pub body-table :
     -- the cases of document 01
@@ -54,14 +54,14 @@ pub body-table :
     × ("?a>=b" gives 0x99 ∷ 0x41 ∷ 0xB1 ∷ 0xB2 ∷ 0x42 ∷ [])
     × ("input#1,a$" gives 0x84 ∷ 0x31 ∷ 0x2C ∷ 0x41 ∷ 0x24 ∷ [])
     -- pi is a constant in plain alone
-    × (bodyOf v2Lexicon (0xCF ∷ 0x80 ∷ []) ≡ 0xFF ∷ [])
-    × (bodyOf v2Lexicon (bytesOf "\"" ++ (0xCF ∷ 0x80 ∷ [])) ≡ 0x22 ∷ 0xCF ∷ 0x80 ∷ [])
-    × (bodyOf v2Lexicon (bytesOf "data" ++ (0xCF ∷ 0x80 ∷ [])) ≡ 0x83 ∷ 0xCF ∷ 0x80 ∷ [])
-    × (bodyOf v2Lexicon (bytesOf "rem" ++ (0xCF ∷ 0x80 ∷ [])) ≡ 0x8F ∷ 0xCF ∷ 0x80 ∷ [])
+    × (crunchedBody v2Lexicon (0xCF ∷ 0x80 ∷ []) ≡ 0xFF ∷ [])
+    × (crunchedBody v2Lexicon (bytesOf "\"" ++ (0xCF ∷ 0x80 ∷ [])) ≡ 0x22 ∷ 0xCF ∷ 0x80 ∷ [])
+    × (crunchedBody v2Lexicon (bytesOf "data" ++ (0xCF ∷ 0x80 ∷ [])) ≡ 0x83 ∷ 0xCF ∷ 0x80 ∷ [])
+    × (crunchedBody v2Lexicon (bytesOf "rem" ++ (0xCF ∷ 0x80 ∷ [])) ≡ 0x8F ∷ 0xCF ∷ 0x80 ∷ [])
     -- a live word is crunched, a demoted one is not, and blocks a live one that begins with it
-    × (bodyOf (allBut (bytesOf "DIR")) (bytesOf "DIR=5:HIRES 0,1")
+    × (crunchedBody (allBut (bytesOf "DIR")) (bytesOf "DIR=5:HIRES 0,1")
     ≡ 0x44 ∷ 0x49 ∷ 0x52 ∷ 0xB2 ∷ 0x35 ∷ 0x3A ∷ 0x64 ∷ 0x01 ∷ 0x20 ∷ 0x30 ∷ 0x2C ∷ 0x31 ∷ [])
-    × (bodyOf (allBut (bytesOf "DO")) (bytesOf "downb:dir") ≡ 0x44 ∷ 0x4F ∷ 0x57 ∷ 0x4E ∷ 0x42 ∷ 0x3A ∷ 0x64 ∷ 0x4A ∷ [])
-    × (bodyOf (allBut []) (bytesOf "do:downb:on key") ≡ 0x64 ∷ 0x22 ∷ 0x3A ∷ 0x64 ∷ 0x15 ∷ 0x3A ∷ 0x64 ∷ 0x37 ∷ [])
-unfolding bodyFrom within written stepOf plainStep otherStep opened stringStep braced escaped stringByte lettered dataStep dataQuoteStep liveWord v2Words operators romWords counted keep isWord tsbWords wordIn liveIn nameIn firstThat alike same begins escapeOf starred repeated nameEscape keyEscape keyed keyWith controlByte keyNames countOf unsigned hexOf numberOf numberAfter digitOf behindLast further before escapeNames cbmLetters ctrlDigits trim leading solid countsWith upper between
+    × (crunchedBody (allBut (bytesOf "DO")) (bytesOf "downb:dir") ≡ 0x44 ∷ 0x4F ∷ 0x57 ∷ 0x4E ∷ 0x42 ∷ 0x3A ∷ 0x64 ∷ 0x4A ∷ [])
+    × (crunchedBody (allBut []) (bytesOf "do:downb:on key") ≡ 0x64 ∷ 0x22 ∷ 0x3A ∷ 0x64 ∷ 0x15 ∷ 0x3A ∷ 0x64 ∷ 0x37 ∷ [])
+unfolding crunchedFrom crunchedWithin written crunchStep plainStep otherStep opened stringStep braced escaped stringByte lettered dataStep dataQuoteStep liveWord v2Words operators romWords counted keep isWord tsbWords wordIn liveIn nameIn firstThat alike same begins escapeOf starred repeated nameEscape keyEscape keyed keyWith controlByte keyNames countOf unsigned hexOf numberOf numberAfter digitOf behindLast further before escapeNames cbmLetters ctrlDigits trim leading solid countsWith upper between
 body-table = (refl, refl, refl, refl, refl, refl, refl, refl, refl, refl, refl, refl, refl, refl, refl, refl, refl, refl, refl, refl, refl, refl)

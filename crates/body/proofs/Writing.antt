@@ -7,35 +7,55 @@ use mathlib.Core.Bool.{Bool, true, false}
 use mathlib.Core.List.{List, [], _++_}
 use native.Mathlib.Omega.{arith}
 use lib.Dec.{T}
-use lib.ListN.{length, drop, set, replicate, length-append, length-set, length-drop, length-replicate, drop-of-length-le}
+use lib.ListN.{length, take, drop, set, replicate, length-append, length-set, length-drop, length-replicate, drop-of-length-le}
 use lib.Seq.{sets, drop-drop}
+use mir.Syntax.{w64}
+use mir.Val.{Fits}
+use Rattle.escapes.proofs.Placing.{tail-is}
 use Rattle.lent.specs.Stores.{Room, Put}
 use Rattle.lent.proofs.Storing.{put-long, put-as, room-as, room-first, room-second, put-both, put-none}
-use Rattle.body.specs.Body.{prefixOf, written, bodyFrom, bodyOf}
+use Rattle.body.specs.Body.{prefixOf, written, crunchedFrom, crunchedBody}
 use Rattle.body.specs.Lexicon.{Lexicon}
 use Rattle.body.specs.Proper.{proper}
-use Rattle.body.specs.Steps.{stepOf}
+use Rattle.body.specs.Steps.{crunchStep}
 use Rattle.body.specs.declared.moves.Mode.{Mode}
 use Rattle.body.specs.declared.moves.Mode.the-variants.{Plain}
 use Rattle.body.specs.declared.moves.Move.{Move}
 use Rattle.body.proofs.Beginnings.{Takes}
 use Rattle.body.proofs.Progress.{step-takes}
-use Rattle.body.proofs.Run.{body-end, body-step}
+use Rattle.body.proofs.Run.{length-prefix, length-written, body-end, body-step}
 
 -- ---- a step at a place of a body
 
-module _ (l : Lexicon) (g : T (proper l)) (s : List ℕ) (m : Mode) {at : ℕ} (h : at < length s) {o : Move} (e : o ≡ stepOf l m (drop at s)) where
+-- the text from a place on, as it is lent
+abbrev pub rest : List ℕ → ℕ → List ℕ
+rest s at = take (length s - at) (drop at s)
+
+module _ (l : Lexicon) (s : List ℕ) (m : Mode) {at : ℕ} {o : Move} (e : o ≡ crunchStep l m (rest s at)) (h : at < length s) (g : T (proper l)) where
+  here : o ≡ crunchStep l m (drop at s)
+  here = e ∙ ap (crunchStep l m) (tail-is at s)
+
   some : 0 < length (drop at s)
   some = omega (arith, length-drop at s)
 
-  -- what is owed at a place, taken apart: the step, and what is owed behind it
-  pub body-at : bodyFrom l m (drop at s) ≡ written o ++ bodyFrom l (o .mode) (drop (at + o .used) s)
-  body-at = rw (← drop-drop (o .used) at s) (body-step l g m (drop at s) some e)
+  takes : Takes (drop at s) (o .used)
+  takes = rw here (step-takes l g m (drop at s) some)
 
-  pub used-at : (0 < o .used) × (at + o .used ≤ length s)
-  used-at =
-      let f : Takes (drop at s) (o .used) = rw e (step-takes l g m (drop at s) some) in
-      (f .more, omega (arith, f .most, length-drop at s))
+  -- what is owed at a place, taken apart: the step, and what is owed behind it
+  pub body-at : crunchedFrom l m (drop at s) ≡ written o ++ crunchedFrom l (o .mode) (drop (at + o .used) s)
+  body-at = rw (← drop-drop (o .used) at s) (body-step l g m (drop at s) some here)
+
+  pub step-within : at + o .used ≤ length s
+  step-within = omega (arith, takes .most, length-drop at s)
+
+  pub step-less : length s - (at + o .used) < length s - at
+  step-less = omega (arith, takes .more, step-within)
+
+  pub step-fits : Fits w64 (length s) → Fits w64 (at + o .used)
+  step-fits f = record { fits = omega (arith, f .fits, step-within) }
+
+pub rest-some : (s : List ℕ) {at : ℕ} → at < length s → 0 < length (rest s at)
+rest-some s {at} h = rw (tail-is at s) (omega (arith, length-drop at s))
 
 -- ---- writing
 
@@ -43,33 +63,33 @@ module _ (l : Lexicon) (g : T (proper l)) (s : List ℕ) (m : Mode) {at : ℕ} (
 pub record Owed (l : Lexicon) (s first : List ℕ) (m : Mode) (out : List ℕ) (n at : ℕ) : Type 0 where
   pub within : at ≤ length s
   pub sized : length out ≡ length first
-  pub room : Room out n (bodyFrom l m (drop at s))
-  pub gives : (behind : ℕ) (after : List ℕ) → Put out n (bodyFrom l m (drop at s)) behind after → Put first 0 (bodyOf l s) behind after
+  pub room : Room out n (crunchedFrom l m (drop at s))
+  pub gives : (behind : ℕ) (after : List ℕ) → Put out n (crunchedFrom l m (drop at s)) behind after → Put first 0 (crunchedBody l s) behind after
 
-pub owed-start : (l : Lexicon) (s out : List ℕ) → Room out 0 (bodyOf l s) → Owed l s out Plain out 0 0
+pub owed-start : (l : Lexicon) (s out : List ℕ) → Room out 0 (crunchedBody l s) → Owed l s out Plain out 0 0
 owed-start l s out r = record { within = omega arith; sized = refl; room = r; gives = λ behind after p. p }
 
 module _ {l : Lexicon} {s first : List ℕ} {m : Mode} {out : List ℕ} {n at : ℕ} (k : Owed l s first m out n at) where
-  pub owed-end : length s ≤ at → Put first 0 (bodyOf l s) n out
+  pub owed-end : length s ≤ at → Put first 0 (crunchedBody l s) n out
   owed-end h =
-      let none : bodyFrom l m (drop at s) ≡ [] = rw (drop-of-length-le s h) (body-end l m) in
+      let none : crunchedFrom l m (drop at s) ≡ [] = rw (drop-of-length-le s h) (body-end l m) in
       k .gives n out (put-as (sym none) (put-none out n))
 
-  module _ (g : T (proper l)) (h : at < length s) {o : Move} (e : o ≡ stepOf l m (drop at s)) where
-    owing : Room out n (written o ++ bodyFrom l (o .mode) (drop (at + o .used) s))
-    owing = room-as (sym (body-at l g s m h e)) (k .room)
+  module _ {o : Move} (e : o ≡ crunchStep l m (rest s at)) (h : at < length s) (g : T (proper l)) where
+    owing : Room out n (written o ++ crunchedFrom l (o .mode) (drop (at + o .used) s))
+    owing = room-as (sym (body-at l s m e h g)) (k .room)
 
     pub owed-room : Room out n (written o)
-    owed-room = room-first (written o) (bodyFrom l (o .mode) (drop (at + o .used) s)) owing
+    owed-room = room-first (written o) (crunchedFrom l (o .mode) (drop (at + o .used) s)) owing
 
     pub owed-turn : {behind : ℕ} {after : List ℕ} → Put out n (written o) behind after → Owed l s first (o .mode) after behind (at + o .used)
     owed-turn p =
-        let rest = bodyFrom l (o .mode) (drop (at + o .used) s) in
+        let left = crunchedFrom l (o .mode) (drop (at + o .used) s) in
         record {
-          within = used-at l g s m h e .1;
+          within = step-within l s m e h g;
           sized = put-long p ∙ k .sized;
-          room = room-second (written o) rest owing p;
-          gives = λ b a q. k .gives b a (put-as (sym (body-at l g s m h e)) (put-both (written o) rest p q));
+          room = room-second (written o) left owing p;
+          gives = λ b a q. k .gives b a (put-as (sym (body-at l s m e h g)) (put-both (written o) left p q));
         }
 
 -- ---- measuring
@@ -78,26 +98,38 @@ module _ {l : Lexicon} {s first : List ℕ} {m : Mode} {out : List ℕ} {n at : 
 pub record Measured (l : Lexicon) (s : List ℕ) (m : Mode) (n at : ℕ) : Type 0 where
   pub within : at ≤ length s
   pub low : n < 65536
-  pub gives : n + length (bodyFrom l m (drop at s)) ≡ length (bodyOf l s)
+  pub gives : n + length (crunchedFrom l m (drop at s)) ≡ length (crunchedBody l s)
 
 pub measured-start : (l : Lexicon) (s : List ℕ) → Measured l s Plain 0 0
 measured-start l s = record { within = omega arith; low = omega arith; gives = omega arith }
 
 module _ {l : Lexicon} {s : List ℕ} {m : Mode} {n at : ℕ} (k : Measured l s m n at) where
-  pub measured-end : length s ≤ at → n ≡ min (length (bodyOf l s)) 65536
+  pub measured-end : length s ≤ at → n ≡ min (length (crunchedBody l s)) 65536
   measured-end h =
-      let none : bodyFrom l m (drop at s) ≡ [] = rw (drop-of-length-le s h) (body-end l m) in
+      let none : crunchedFrom l m (drop at s) ≡ [] = rw (drop-of-length-le s h) (body-end l m) in
       omega (arith, ap length none, k .gives, k .low)
 
-  module _ (g : T (proper l)) (h : at < length s) {o : Move} (e : o ≡ stepOf l m (drop at s)) {r : ℕ} (q : r ≡ min (n + length (written o)) 65536) where
-    parts : length (bodyFrom l m (drop at s)) ≡ length (written o) + length (bodyFrom l (o .mode) (drop (at + o .used) s))
-    parts = ap length (body-at l g s m h e) ∙ length-append (written o) (bodyFrom l (o .mode) (drop (at + o .used) s))
+  module _ {o : Move} {r : ℕ} (q : r ≡ min (n + length (written o)) 65536) (e : o ≡ crunchStep l m (rest s at)) (h : at < length s) (g : T (proper l)) where
+    parts : length (crunchedFrom l m (drop at s)) ≡ length (written o) + length (crunchedFrom l (o .mode) (drop (at + o .used) s))
+    parts = ap length (body-at l s m e h g) ∙ length-append (written o) (crunchedFrom l (o .mode) (drop (at + o .used) s))
 
-    pub measured-full : r ≡ 65536 → r ≡ min (length (bodyOf l s)) 65536
+    pub measured-full : r ≡ 65536 → r ≡ min (length (crunchedBody l s)) 65536
     measured-full f = omega (arith, parts, k .gives)
 
     pub measured-turn : (r ≡ 65536 → ⊥) → Measured l s (o .mode) r (at + o .used)
-    measured-turn f = record { within = used-at l g s m h e .1; low = omega arith; gives = omega (arith, parts, k .gives) }
+    measured-turn f = record { within = step-within l s m e h g; low = omega arith; gives = omega (arith, parts, k .gives) }
+
+-- a length with what a step writes behind it
+module _ (n : ℕ) {begun : ℕ} where
+  pub prefix-small : (prefixed : Bool) → begun ≡ n + length (prefixOf prefixed) → n < 65536 → begun ≤ 65536
+  prefix-small prefixed e h = omega (arith, length-prefix prefixed)
+
+  module _ (o : Move) (e : begun ≡ n + length (prefixOf (o .prefixed))) where
+    pub longer-full : 65536 - begun ≤ o .count → n < 65536 → 65536 ≡ min (n + length (written o)) 65536
+    longer-full h k = omega (arith, length-prefix (o .prefixed), length-written o)
+
+    pub longer-less : o .count < 65536 - begun → begun + o .count ≡ min (n + length (written o)) 65536
+    longer-less h = omega (arith, length-written o)
 
 -- ---- the 64 in front of a TSB token
 
@@ -134,6 +166,9 @@ pub record Filling (first : List ℕ) (at byte count : ℕ) (out : List ℕ) (k 
   pub within : k ≤ count
   pub sized : length out ≡ length first
   pub gives : sets out (at + k) (replicate (count - k) byte) ≡ sets first at (replicate count byte)
+
+pub fill-room : {buffer : List ℕ} {at : ℕ} (count byte : ℕ) → Room buffer at (replicate count byte) → at + count ≤ length buffer
+fill-room count byte r = omega (arith, r .room, length-replicate count byte)
 
 pub filling-start : (first : List ℕ) (at byte count : ℕ) → Filling first at byte count first 0
 filling-start first at byte count =

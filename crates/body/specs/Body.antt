@@ -6,7 +6,7 @@ use mathlib.Core.Bool.{Bool, true, false}
 use mathlib.Core.List.{List, [], _∷_, _++_}
 use lib.ListN.{length, drop, replicate}
 use Rattle.body.specs.Lexicon.{Lexicon}
-use Rattle.body.specs.Steps.{stepOf}
+use Rattle.body.specs.Steps.{crunchStep}
 use Rattle.body.specs.declared.moves.Mode.{Mode}
 use Rattle.body.specs.declared.moves.Mode.the-variants.{Plain}
 use Rattle.body.specs.declared.moves.Move.{Move}
@@ -21,19 +21,19 @@ unfoldable pub written : Move → List ℕ
 written o = prefixOf (o .prefixed) ++ replicate (o .count) (o .byte)
 
 -- a step, and then the rest of the text from behind it on
-abbrev pub onward : (Mode → List ℕ → List ℕ) → List ℕ → Move → List ℕ
-onward rest t o = written o ++ rest (o .mode) (drop (o .used) t)
+abbrev pub moveThen : (Mode → List ℕ → List ℕ) → List ℕ → Move → List ℕ
+moveThen rest t o = written o ++ rest (o .mode) (drop (o .used) t)
 
 -- the text left in a mode, in at most so many steps
-unfoldable pub within : Lexicon → ℕ → Mode → List ℕ → List ℕ
-within l zero m t = []
-within l (suc k) m [] = []
-within l (suc k) m (b ∷ s) = onward (within l k) (b ∷ s) (stepOf l m (b ∷ s))
+unfoldable pub crunchedWithin : Lexicon → ℕ → Mode → List ℕ → List ℕ
+crunchedWithin l zero m t = []
+crunchedWithin l (suc k) m [] = []
+crunchedWithin l (suc k) m (b ∷ s) = moveThen (crunchedWithin l k) (b ∷ s) (crunchStep l m (b ∷ s))
 
 -- the text left in a mode
-unfoldable pub bodyFrom : Lexicon → Mode → List ℕ → List ℕ
-bodyFrom l m t = within l (length t) m t
+unfoldable pub crunchedFrom : Lexicon → Mode → List ℕ → List ℕ
+crunchedFrom l m t = crunchedWithin l (length t) m t
 
 -- a whole body
-abbrev pub bodyOf : Lexicon → List ℕ → List ℕ
-bodyOf l t = bodyFrom l Plain t
+abbrev pub crunchedBody : Lexicon → List ℕ → List ℕ
+crunchedBody l t = crunchedFrom l Plain t

@@ -96,9 +96,9 @@ dataQuoteStep b = elim (eqb b 0x22) [ true ↦ one 0x22 Data | false ↦ one (up
 
 -- ---- all modes; in a remark all is copied
 
-unfoldable pub stepOf : Lexicon → Mode → List ℕ → Move
-stepOf l Plain t = plainStep l t
-stepOf l String t = stringStep t
-stepOf l Remark t = one (first t) Remark
-stepOf l Data t = dataStep (first t)
-stepOf l DataQuote t = dataQuoteStep (first t)
+unfoldable pub crunchStep : Lexicon → Mode → List ℕ → Move
+crunchStep l Plain t = plainStep l t
+crunchStep l String t = stringStep t
+crunchStep l Remark t = one (first t) Remark
+crunchStep l Data t = dataStep (first t)
+crunchStep l DataQuote t = dataQuoteStep (first t)

@@ -5,7 +5,7 @@ ghost use mathlib.Core.Path.{_≡_};
 ghost use Prim.Native.Nat.{_+_, _<_, min};
 ghost use lib.ListN.{length, replicate};
 ghost use Rattle.lent.specs.Stores.{Room, Put};
-ghost use Rattle.body.specs.Body.{prefixOf, written, bodyOf};
+ghost use Rattle.body.specs.Body.{prefixOf, written, crunchedBody};
 ghost use Rattle.body.specs.Lexicon.{lexicon};
 ghost use Rattle.body.specs.Lent.{Lends};
 
@@ -26,14 +26,24 @@ pub fn measure_body(
     demoted: &[bool],
 ) -> usize
     requires { ⌜ Lends (now bytes) (now starts) (now tokens) (now live) (now demoted) ⌝ }
-    ensures { λ r. ⌜ r ≡ min (length (bodyOf (lexicon (now (live .entry)) (now (demoted .entry))) (now (text .entry)))) 65536 ⌝ }
+    ensures { λ r. ⌜ r ≡ min (length (crunchedBody (lexicon (now (live .entry)) (now (demoted .entry))) (now (text .entry)))) 65536 ⌝ }
 {
     let known = survey::survey_body(text, live);
     let mut at: usize = 0;
     let mut mode = Mode::Plain;
     let mut n: usize = 0;
     while at < text.len() {
-        let m = step::step(text, at, mode, known, bytes, starts, tokens, live, demoted);
+        let m = step::step(
+            &text[at..],
+            mode,
+            at < known.last,
+            known.tsb,
+            bytes,
+            starts,
+            tokens,
+            live,
+            demoted,
+        );
         n = longer(n, m);
         if n == 65536 {
             return n;
@@ -79,15 +89,25 @@ pub fn write_body(
     live: &[bool],
     demoted: &[bool],
 ) -> usize
-    requires { ⌜ Lends (now bytes) (now starts) (now tokens) (now live) (now demoted) × Room (now out) 0 (bodyOf (lexicon (now live) (now demoted)) (now text)) ⌝ }
-    ensures { λ r. ⌜ Put (now (out .entry)) 0 (bodyOf (lexicon (now (live .entry)) (now (demoted .entry))) (now (text .entry))) r (now (out .exit)) ⌝ }
+    requires { ⌜ Lends (now bytes) (now starts) (now tokens) (now live) (now demoted) × Room (now out) 0 (crunchedBody (lexicon (now live) (now demoted)) (now text)) ⌝ }
+    ensures { λ r. ⌜ Put (now (out .entry)) 0 (crunchedBody (lexicon (now (live .entry)) (now (demoted .entry))) (now (text .entry))) r (now (out .exit)) ⌝ }
 {
     let known = survey::survey_body(text, live);
     let mut at: usize = 0;
     let mut mode = Mode::Plain;
     let mut n: usize = 0;
     while at < text.len() {
-        let m = step::step(text, at, mode, known, bytes, starts, tokens, live, demoted);
+        let m = step::step(
+            &text[at..],
+            mode,
+            at < known.last,
+            known.tsb,
+            bytes,
+            starts,
+            tokens,
+            live,
+            demoted,
+        );
         n = put_move(out, n, m);
         at += m.used;
         let next = m.mode;

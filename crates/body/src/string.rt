@@ -6,10 +6,10 @@ use escapes::Escape;
 use escapes::places;
 ghost use mathlib.Core.Path.{_≡_};
 ghost use Prim.Native.Nat.{_<_};
-ghost use lib.ListN.{length, drop};
-ghost use Rattle.escapes.specs.Places.{equals, behindLast};
+ghost use lib.ListN.{length};
 ghost use Rattle.tables.specs.Words.{SpellsWords};
-ghost use Rattle.body.specs.Steps.{lettered as letteredOf, stringByte, stringStep};
+ghost use Rattle.body.specs.Lent.{Closes};
+ghost use Rattle.body.specs.Steps.{first, lettered as letteredOf, stringByte, stringStep};
 
 // a to z become 41 to 5A, A to Z become C1 to DA.
 fn lettered(b: u8) -> u8
@@ -34,32 +34,32 @@ fn string_byte(b: u8) -> Move
     moves::one(lettered(b), Mode::String)
 }
 
-// An escape, or a byte. A byte 22 that an escape makes ends nothing.
-pub fn string_step(
-    text: &[u8],
-    at: usize,
-    last: usize,
-    bytes: &[u8],
-    starts: &[u16],
-    tokens: &[u8],
-) -> Move
-    requires { ⌜ (at < length (now text)) × (last ≡ behindLast (equals 0x7D) (now text)) × SpellsWords (now bytes) (now starts) (now tokens) ⌝ }
-    ensures { λ r. ⌜ r ≡ stringStep (drop at (now (text .entry))) ⌝ }
+// An escape, or a byte. A byte 22 that an escape makes ends nothing. Where no } follows, `closes` may be false.
+pub fn string_step(rest: &[u8], closes: bool, bytes: &[u8], starts: &[u16], tokens: &[u8]) -> Move
+    requires { ⌜ (0 < length (now rest)) × Closes closes (now rest) × SpellsWords (now bytes) (now starts) (now tokens) ⌝ }
+    ensures { λ r. ⌜ r ≡ stringStep (now (rest .entry)) ⌝ }
 {
-    let b = text[at];
+    let b = rest[0];
     if b != 0x7B {
         return string_byte(b);
     }
-    if last <= at {
-        return string_byte(b);
+    if closes {
+        return brace_step(rest, bytes, starts, tokens);
     }
-    let from = at + 1;
-    let n = places::before_byte(&text[from..], 0x7D);
-    if text.len() - from <= n {
-        return string_byte(b);
+    string_byte(b)
+}
+
+// A {, the first } behind it and a known escape between them; otherwise the { is a byte like others.
+fn brace_step(rest: &[u8], bytes: &[u8], starts: &[u16], tokens: &[u8]) -> Move
+    requires { ⌜ (0 < length (now rest)) × (first (now rest) ≡ 0x7B) × SpellsWords (now bytes) (now starts) (now tokens) ⌝ }
+    ensures { λ r. ⌜ r ≡ stringStep (now (rest .entry)) ⌝ }
+{
+    let n = places::before_byte(&rest[1..], 0x7D);
+    if rest.len() - 1 <= n {
+        return string_byte(0x7B);
     }
-    let to = from + n;
-    match escapes::resolve_petscii_escape(&text[from..to], bytes, starts, tokens) {
+    let to = n + 1;
+    match escapes::resolve_petscii_escape(&rest[1..to], bytes, starts, tokens) {
         Escape::Byte { byte, count } => Move {
             prefixed: false,
             byte,
@@ -67,6 +67,6 @@ pub fn string_step(
             mode: Mode::String,
             used: n + 2,
         },
-        Escape::Unknown => string_byte(b),
+        Escape::Unknown => string_byte(0x7B),
     }
 }

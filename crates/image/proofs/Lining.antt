@@ -17,7 +17,7 @@ use Rattle.lines.specs.TextLines.{isBlank}
 use Rattle.lines.proofs.Blanks.{blank-trimmed}
 use Rattle.lines.proofs.Numbers.{moved, moved-line}
 use Rattle.body.specs.Lexicon.{Lexicon}
-use Rattle.body.specs.Body.{bodyOf}
+use Rattle.body.specs.Body.{crunchedBody}
 use Rattle.readers.specs.NumberedBody.{NumberedBody}
 use Rattle.layout.specs.Layout.{endAddress, linesBytes, lineBytes}
 use Rattle.image.specs.Crunched.{numberedLine, numberedLines, textLine, lastLink, crunchLines}
@@ -54,7 +54,7 @@ module _ (words : Lexicon) (k address : ℕ) (line : List ℕ) where
 
   -- a numbered line, whose body is measured up to 65,536
   module _ {m : Numbering} {number from to : ℕ} (t : m ≡ Numbered number from to) (e : m ≡ numbering line) {n : ℕ}
-      (is : n ≡ min (length (bodyOf words (take (to - from) (drop from line)))) 65536) where
+      (is : n ≡ min (length (crunchedBody words (take (to - from) (drop from line)))) 65536) where
     pub behind-line : address + 5 + n ≤ 0xFFFF → done (address + 5 + n) ≡ addressBehind words k address line
     unfolding endAddress
     behind-line h =
@@ -107,7 +107,7 @@ module _ (words : Lexicon) (k : ℕ) (b : ℕ) (l : List ℕ) where
   moved-lines (OutOfRange v) = refl
   moved-lines (Numbered n f t) =
       let e : suc t - suc f ≡ t - f = omega arith in
-      ap (λ (x : ℕ). done (record { number = n; body = bodyOf words (take x (drop f l)) } ∷ [])) e
+      ap (λ (x : ℕ). done (record { number = n; body = crunchedBody words (take x (drop f l)) } ∷ [])) e
 
   pub text-blank : isBlank b ≡ true → textLine words k (b ∷ l) ≡ textLine words k l
   unfolding textLine

@@ -17,13 +17,13 @@ use Rattle.lines.specs.Numbering.{numbering}
 use Rattle.lines.specs.TextLines.{linesOf}
 use Rattle.guess.specs.Guess.{WordSets, wordSets}
 use Rattle.body.specs.Lexicon.{Lexicon, lexicon}
-use Rattle.body.specs.Body.{bodyFrom, bodyOf}
+use Rattle.body.specs.Body.{crunchedBody}
 use Rattle.readers.specs.NumberedBody.{NumberedBody}
 use Rattle.layout.specs.Layout.{endAddress, imageOf}
 
 -- the number and the crunched body of a line whose body's text runs from one place to another
 abbrev pub numberedLine : Lexicon → List ℕ → ℕ → ℕ → ℕ → NumberedBody
-numberedLine words line number from to = record { number = number; body = bodyOf words (take (to - from) (drop from line)) }
+numberedLine words line number from to = record { number = number; body = crunchedBody words (take (to - from) (drop from line)) }
 
 -- the lines of the image that the k-th text line gives: one, or none where it is blank
 abbrev pub numberedLines : Lexicon → ℕ → List ℕ → Numbering → Answer (List NumberedBody)

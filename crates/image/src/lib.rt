@@ -18,7 +18,7 @@ ghost use Rattle.lent.specs.Stores.{HasRoom};
 ghost use Rattle.tables.specs.Words.{SpellsWords};
 ghost use Rattle.body.specs.Lent.{Lends};
 ghost use Rattle.body.specs.Lexicon.{lexicon};
-ghost use Rattle.body.specs.Body.{bodyOf};
+ghost use Rattle.body.specs.Body.{crunchedBody};
 ghost use Rattle.layout.specs.Layout.{lineBytes, linesBytes, twoBytes};
 ghost use Rattle.image.specs.Crunched.{crunched, textLine, wordsOf};
 ghost use Rattle.image.specs.Passes.{textImage, addressBehind, sizedAnswer, given};
@@ -314,8 +314,8 @@ fn put_line(
     live: &[bool],
     demoted: &[bool],
 ) -> usize
-    requires { ⌜ Lends (now bytes) (now starts) (now tokens) (now live) (now demoted) × (address ≤ 0xFFFF) × Room (now out) at (lineBytes address number (bodyOf (lexicon (now live) (now demoted)) (now text))) ⌝ }
-    ensures { λ r. ⌜ Put (now (out .entry)) at (lineBytes address number (bodyOf (lexicon (now (live .entry)) (now (demoted .entry))) (now (text .entry)))) r (now (out .exit)) ⌝ }
+    requires { ⌜ Lends (now bytes) (now starts) (now tokens) (now live) (now demoted) × (address ≤ 0xFFFF) × Room (now out) at (lineBytes address number (crunchedBody (lexicon (now live) (now demoted)) (now text))) ⌝ }
+    ensures { λ r. ⌜ Put (now (out .entry)) at (lineBytes address number (crunchedBody (lexicon (now (live .entry)) (now (demoted .entry))) (now (text .entry)))) r (now (out .exit)) ⌝ }
 {
     let from = at + 4;
     let length = body::write_body(&mut out[from..], text, bytes, starts, tokens, live, demoted);

@@ -20,9 +20,9 @@ use Rattle.escapes.specs.Places.{before, further, behindLast}
 use Rattle.escapes.specs.Numbers.{digitOf, numberAfter, numberOf, hexOf, unsigned, countOf}
 use Rattle.escapes.specs.Keys.{keyNames, controlByte, keyWith, keyed, keyEscape}
 use Rattle.escapes.specs.Escape.{nameEscape, repeated, starred, escapeOf}
-use Rattle.body.specs.Body.{written, within, bodyFrom}
+use Rattle.body.specs.Body.{written, crunchedWithin, crunchedFrom}
 use Rattle.body.specs.Lexicon.{liveWord}
-use Rattle.body.specs.Steps.{opened, otherStep, plainStep, lettered, stringByte, escaped, braced, stringStep, dataStep, dataQuoteStep, stepOf}
+use Rattle.body.specs.Steps.{opened, otherStep, plainStep, lettered, stringByte, escaped, braced, stringStep, dataStep, dataQuoteStep, crunchStep}
 use Rattle.lines.specs.Domain.{checkedText}
 use Rattle.lines.specs.Numbering.{numbering}
 use Rattle.lines.specs.TextLines.{linesOf as textLinesOf}
@@ -83,5 +83,5 @@ pub proved-table :
     × (bodiesOf linkStep printsZero ≡ ten (0x99 ∷ 0x20 ∷ 0x22 ∷ 0x00 ∷ 0x22 ∷ []))
     -- "Auto, `10 DIR=5:HIRES 0,1`: body 44 49 52 B2 35 3A 64 01 20 30 2C 31"
     × (linesIn "10 DIR=5:HIRES 0,1" ≡ ten (0x44 ∷ 0x49 ∷ 0x52 ∷ 0xB2 ∷ 0x35 ∷ 0x3A ∷ 0x64 ∷ 0x01 ∷ 0x20 ∷ 0x30 ∷ 0x2C ∷ 0x31 ∷ []))
-unfolding crunched crunchedLines crunchLines textLine lastLink endAddress imageOf checkedText textLinesOf numbering wordSets overview linesFrom bodiesFrom linkStep terminatorStep beforeZero bodyFrom within written stepOf plainStep otherStep opened stringStep braced escaped stringByte lettered dataStep dataQuoteStep liveWord v2Words operators romWords counted keep isWord tsbWords wordIn liveIn nameIn firstThat alike same begins escapeOf starred repeated nameEscape keyEscape keyed keyWith controlByte keyNames countOf unsigned hexOf numberOf numberAfter digitOf behindLast further before escapeNames cbmLetters ctrlDigits trim leading solid countsWith upper between
+unfolding crunched crunchedLines crunchLines textLine lastLink endAddress imageOf checkedText textLinesOf numbering wordSets overview linesFrom bodiesFrom linkStep terminatorStep beforeZero crunchedFrom crunchedWithin written crunchStep plainStep otherStep opened stringStep braced escaped stringByte lettered dataStep dataQuoteStep liveWord v2Words operators romWords counted keep isWord tsbWords wordIn liveIn nameIn firstThat alike same begins escapeOf starred repeated nameEscape keyEscape keyed keyWith controlByte keyNames countOf unsigned hexOf numberOf numberAfter digitOf behindLast further before escapeNames cbmLetters ctrlDigits trim leading solid countsWith upper between
 proved-table = (refl, refl, refl, refl, refl, refl, refl, refl, refl, refl, refl, refl, refl, refl, refl, refl, refl, refl, refl)

@@ -2,8 +2,7 @@
 -- Assumes nothing.
 use Prim.Native.Nat.{_-_}
 use native.Mathlib.Omega.{arith}
-use lib.ListN.{length-replicate}
-use Rattle.body.proofs.Writing.{Filling, filling-start, filling-turn, filling-end}
+use Rattle.body.proofs.Writing.{Filling, filling-start, filling-turn, filling-end, fill-room}
 use borrow.Author.Needs.{needs}
 use Rattle.body.proofs.fill.Statement.{statement}
 use Rattle.body.proofs.fill.Tie as tie
@@ -15,31 +14,22 @@ abbrev μ-loop : tie.MeasureT-loop
 μ-loop out₀ at byte count k₀ out k = count - k
 
 loop-holds : tie.Need-loop-holds Inv-loop μ-loop
-loop-holds c = filling-start _ _ _ _
+loop-holds c = search filling-start
 
 add-out : tie.Need-add-out Inv-loop μ-loop
-add-out c = omega (arith, c .before .before .pre .room, length-replicate (c .before .before .args .count) (c .before .before .args .byte))
+add-out c = omega (arith, fill-room)
 
 slice-write-out : tie.Need-slice-write-out Inv-loop μ-loop
-slice-write-out c = omega (arith, c .before .before .pre .room, length-replicate (c .before .before .args .count) (c .before .before .args .byte))
-
-add-k : tie.Need-add-k Inv-loop μ-loop
-add-k c = omega arith
-
-loop-less : tie.Need-loop-less Inv-loop μ-loop
-loop-less c = search needs
+slice-write-out c = omega (arith, fill-room)
 
 loop-again : tie.Need-loop-again Inv-loop μ-loop
-loop-again c = filling-turn (c .before .loop .inv) (c .loop-test .taken)
+loop-again c = search filling-turn
 
 add-result : tie.Need-add-result Inv-loop μ-loop
-add-result c = omega (arith, c .before .before .pre .room, length-replicate (c .before .before .args .count) (c .before .before .args .byte))
-
-same-length : tie.Need-same-length Inv-loop μ-loop
-same-length c = c .before .loop .inv .sized
+add-result c = omega (arith, fill-room)
 
 returns : tie.Need-returns Inv-loop μ-loop
-returns c = filling-end (c .before .loop .inv) (c .loop-test .left)
+returns c = search filling-end
 
 pub fill-spec : {M : Type 1} → statement M
 fill-spec =
@@ -50,9 +40,9 @@ fill-spec =
     loop-holds
     add-out
     slice-write-out
-    add-k
-    loop-less
+    (λ c. search needs)
+    (λ c. search needs)
     loop-again
     add-result
-    same-length
+    (λ c. search needs)
     returns)

@@ -6,19 +6,13 @@ use Rattle.body.proofs.put_prefix.Statement.{statement}
 use Rattle.body.proofs.put_prefix.Tie as tie
 
 slice-write-out : tie.Need-slice-write-out
-slice-write-out c = prefix-room (c .before .pre) (c .if1 .taken)
-
-add-result : tie.Need-add-result
-add-result c = search needs
-
-same-length : tie.Need-same-length
-same-length c = search needs
+slice-write-out c = search prefix-room
 
 returns : tie.Need-returns
-returns c = prefix-put (c .if1 .taken)
+returns c = search prefix-put
 
 returns-2 : tie.Need-returns-2
-returns-2 c = prefix-none (c .if1 .left)
+returns-2 c = search prefix-none
 
 pub put-prefix-spec : {M : Type 1} → statement M
-put-prefix-spec = tie.close (tie.spec slice-write-out add-result same-length returns returns-2)
+put-prefix-spec = tie.close (tie.spec slice-write-out (λ c. search needs) (λ c. search needs) returns returns-2)

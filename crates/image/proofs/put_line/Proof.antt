@@ -4,7 +4,7 @@ use native.Mathlib.Omega.{arith}
 use denote.Ref.{now}
 use lib.ListN.{length-set}
 use Rattle.body.specs.Lexicon.{lexicon}
-use Rattle.body.specs.Body.{bodyOf}
+use Rattle.body.specs.Body.{crunchedBody}
 use Rattle.lent.proofs.Storing.{put-long}
 use Rattle.image.proofs.Laying.{line-room, tail-room, tail-fits, put-line-bytes}
 use borrow.Author.Needs.{needs}
@@ -15,10 +15,10 @@ add-from : tie.Need-add-from
 add-from c = search needs
 
 sub-write-body : tie.Need-sub-write-body
-sub-write-body c = omega (arith, line-room (c .before .before .before .before .before .before .before .args .address) (c .before .before .before .before .before .before .before .args .number) (bodyOf (lexicon (now (c .before .before .before .before .before .before .before .args .live)) (now (c .before .before .before .before .before .before .before .args .demoted))) (now (c .before .before .before .before .before .before .before .args .text))) (c .before .before .before .before .before .before .before .pre .2))
+sub-write-body c = omega (arith, line-room (c .before .before .before .before .before .before .before .args .address) (c .before .before .before .before .before .before .before .args .number) (crunchedBody (lexicon (now (c .before .before .before .before .before .before .before .args .live)) (now (c .before .before .before .before .before .before .before .args .demoted))) (now (c .before .before .before .before .before .before .before .args .text))) (c .before .before .before .before .before .before .before .pre .2))
 
 part-write-body-start : tie.Need-part-write-body-start
-part-write-body-start c = omega (arith, line-room (c .before .before .before .before .before .before .before .args .address) (c .before .before .before .before .before .before .before .args .number) (bodyOf (lexicon (now (c .before .before .before .before .before .before .before .args .live)) (now (c .before .before .before .before .before .before .before .args .demoted))) (now (c .before .before .before .before .before .before .before .args .text))) (c .before .before .before .before .before .before .before .pre .2))
+part-write-body-start c = omega (arith, line-room (c .before .before .before .before .before .before .before .args .address) (c .before .before .before .before .before .before .before .args .number) (crunchedBody (lexicon (now (c .before .before .before .before .before .before .before .args .live)) (now (c .before .before .before .before .before .before .before .args .demoted))) (now (c .before .before .before .before .before .before .before .args .text))) (c .before .before .before .before .before .before .before .pre .2))
 
 part-write-body-end : tie.Need-part-write-body-end
 part-write-body-end c = search needs

@@ -15,20 +15,8 @@ returns c = live-unasked (lexicon (now (c .before .before .before .before .befor
 match-tsb-in-requires : tie.Need-match-tsb-in-requires
 match-tsb-in-requires c κs = (c .before .before .before .before .before .before .before .pre .1 .words, c .before .before .before .before .before .before .before .pre .1 .lives)
 
-enum-known-index : tie.Need-enum-known-index
-enum-known-index c = search needs
-
 match-tsb-in-requires-2 : tie.Need-match-tsb-in-requires-2
 match-tsb-in-requires-2 c κs = (c .before .before .before .before .before .before .before .before .before .before .before .pre .1 .words, c .before .before .before .before .before .before .before .before .before .before .before .pre .1 .demotes)
-
-enum-told : tie.Need-enum-told
-enum-told c = search needs
-
-enum-told-2 : tie.Need-enum-told-2
-enum-told-2 c = search needs
-
-enum-told-3 : tie.Need-enum-told-3
-enum-told-3 c = search needs
 
 returns-2 : tie.Need-returns-2
 returns-2 c = live-blocked (lexicon (now (c .before .before .before .before .before .before .before .before .before .before .before .before .before .before .args .live)) (now (c .before .before .before .before .before .before .before .before .before .before .before .before .before .before .args .demoted))) _ (c .before .before .before .before .before .before .match-tsb-in .ensures) (c .before .before .match-tsb-in2 .ensures) (c .enum-told .given .1)
@@ -45,11 +33,11 @@ live-word-spec =
     (tie.spec
     returns
     match-tsb-in-requires
-    enum-known-index
+    (λ c. search needs)
     match-tsb-in-requires-2
-    enum-told
-    enum-told-2
-    enum-told-3
+    (λ c. search needs)
+    (λ c. search needs)
+    (λ c. search needs)
     returns-2
     returns-3
     returns-4)

@@ -5,14 +5,8 @@ use borrow.Author.Needs.{needs}
 use Rattle.body.proofs.survey.survey_body.Statement.{statement}
 use Rattle.body.proofs.survey.survey_body.Tie as tie
 
-behind-last-requires : tie.Need-behind-last-requires
-behind-last-requires c κs = search needs
-
-any-live-requires : tie.Need-any-live-requires
-any-live-requires c κs = search needs
-
 returns : tie.Need-returns
 returns c = surveyed _ _ (c .before .behind-last .ensures) (c .any-live .ensures)
 
 pub survey-body-spec : {M : Type 1} → statement M
-survey-body-spec = tie.close (tie.spec behind-last-requires any-live-requires returns)
+survey-body-spec = tie.close (tie.spec (λ c κs. search needs) (λ c κs. search needs) returns)
