@@ -14,16 +14,32 @@ use lib.Seq.{drop-cons}
 use borrow.Author.Tests.{eqb-true}
 use Rattle.ascii.specs.Bytes.{upper, between, isLetter}
 use Rattle.words.specs.Compare.{begins}
-use Rattle.words.specs.Find.{Entry, firstThat, wordIn, liveIn}
+use Rattle.words.specs.Find.{Entry, firstThat, wordIn, amongIn}
+use Rattle.words.specs.declared.Match.{Match}
 use Rattle.words.specs.declared.Match.the-variants.{Word, Nothing}
 use Rattle.words.proofs.Search.{and-left, and-right}
 use Rattle.words.proofs.Sameness.{T-true}
 use Rattle.tables.specs.Rom.{v2Words, operators as operatorWords}
 use Rattle.tables.specs.Tsb.{tsbWords}
-use Rattle.body.specs.Lent.{anyLive}
+use Rattle.tables.specs.Sets.{isDemoted, isLive, liveWord}
+use Rattle.tables.specs.declared.sets.Sets.{Sets}
 use Rattle.body.specs.Lexicon.{Lexicon, lexicon}
-use Rattle.body.specs.Proper.{startsAs, allStart, proper}
 use Rattle.body.specs.Steps.{first}
+
+-- ---- the rule of a lexicon: each TSB and each V2 word begins with a letter, and no operator does
+
+-- a word that begins with a letter, or one that begins with another byte
+unfoldable pub startsAs : Bool → List ℕ → Bool
+startsAs r [] = false
+startsAs true (b ∷ w) = isLetter b
+startsAs false (b ∷ w) = not (isLetter b)
+
+unfoldable pub allStart : Bool → List Entry → Bool
+allStart r [] = true
+allStart r (e ∷ es) = startsAs r (e .word) && allStart r es
+
+unfoldable pub proper : Lexicon → Bool
+proper l = allStart true (l .tsb) && (allStart true (l .v2) && allStart false (l .operators))
 
 -- ---- a word at the front of a text
 
@@ -112,60 +128,33 @@ module _ (r : Bool) (es : List Entry) (a : T (allStart r es)) (t : List ℕ) whe
   unfolding wordIn
   word-takes q = found-takes t (λ k w. begins w t) (λ k w g. g) r es 0 a q
 
-  module _ (set : List Bool) where
-    pub live-none : isLetter (first t) ≡ not r → liveIn set es t ≡ Nothing
-    unfolding liveIn
-    live-none n = none-found t (λ k w. getD set k false && begins w t) (λ k w q. and-second (getD set k false) (begins w t) q) r es 0 a n
+  module _ (set : ℕ → Bool) where
+    among-none : isLetter (first t) ≡ not r → amongIn set es t ≡ Nothing
+    unfolding amongIn
+    among-none n = none-found t (λ k w. set k && begins w t) (λ k w q. and-second (set k) (begins w t) q) r es 0 a n
 
-    pub live-takes : {i u token : ℕ} → liveIn set es t ≡ Word i u token → Takes t u
-    unfolding liveIn
-    live-takes q = found-takes t (λ k w. getD set k false && begins w t) (λ k w g. and-second (getD set k false) (begins w t) g) r es 0 a q
+    among-takes : {i u token : ℕ} → amongIn set es t ≡ Word i u token → Takes t u
+    unfolding amongIn
+    among-takes q = found-takes t (λ k w. set k && begins w t) (λ k w g. and-second (set k) (begins w t) g) r es 0 a q
 
--- an empty set holds no word
-none-live : (set : List Bool) → anyLive set ≡ false → (k : ℕ) → getD set k false ≡ false
-unfolding anyLive
-none-live [] q k = refl
-none-live (true ∷ set) q k = absurd (true≢false q)
-none-live (false ∷ set) q zero = refl
-none-live (false ∷ set) q (suc k) = none-live set q k
+  module _ (s : Sets) where
+    pub live-none : isLetter (first t) ≡ not r → liveWord s es t ≡ Nothing
+    unfolding liveWord
+    live-none n = rw (liveWord, among-none (isDemoted s) n, among-none (isLive s) n)
 
-pub live-empty : (set : List Bool) → anyLive set ≡ false → (es : List Entry) (t : List ℕ) → liveIn set es t ≡ Nothing
-unfolding liveIn firstThat
-live-empty set q es t = go es 0
-  where
-    go : (es′ : List Entry) (k : ℕ) → firstThat (λ i w. getD set i false && begins w t) es′ k ≡ Nothing
-    go [] k = refl
-    go (e ∷ es′) k = rw (firstThat, none-live set q k) (go es′ (suc k))
-
--- the loop that looks for a live word: none of the i passed is
-pub record NoneLive (set : List Bool) (i : ℕ) : Type 0 where
-  pub within : i ≤ length set
-  pub gives : anyLive (drop i set) ≡ anyLive set
-
-pub none-start : (set : List Bool) → NoneLive set 0
-none-start set = record { within = omega arith; gives = refl }
-
-module _ {set : List Bool} {i : ℕ} (k : NoneLive set i) where
-  pub none-end : length set ≤ i → false ≡ anyLive set
-  unfolding anyLive
-  none-end h = rw (drop-of-length-le set h) at (k .gives)
-
-  module _ (h : i < length set) where
-    pub none-turn : getD set i false ≡ false → NoneLive set (i + 1)
-    unfolding anyLive
-    none-turn e =
-        let s : anyLive (drop i set) ≡ anyLive (drop (i + 1) set) = rw (add-one, drop-cons set i false h, anyLive, e) in
-        record { within = omega arith; gives = sym s ∙ k .gives }
-
-    pub none-stop : getD set i false ≡ true → true ≡ anyLive set
-    unfolding anyLive
-    none-stop e = let s : anyLive (drop i set) ≡ true = rw (drop-cons set i false h, anyLive, e) in sym s ∙ k .gives
+    pub live-takes : {i u token : ℕ} → liveWord s es t ≡ Word i u token → Takes t u
+    unfolding liveWord
+    live-takes {i} {u} {token} e = go (amongIn (isDemoted s) es t) e
+      where
+        go : (d : Match) → elim d [ Word j v c ↦ Nothing | Nothing ↦ amongIn (isLive s) es t ] ≡ Word i u token → Takes t u
+        go (Word j v c) q = let z : _≡_ {A = ℕ} 0 1 = cc in absurd (omega arith)
+        go Nothing q = among-takes (isLive s) q
 
 -- ---- document 01's lists
 
-pub document-proper : (live demoted : List Bool) → T (proper (lexicon live demoted))
+pub document-proper : (s : Sets) → T (proper (lexicon s))
 unfolding proper allStart startsAs tsbWords v2Words operatorWords upper between
-document-proper live demoted = tt
+document-proper s = tt
 
 module _ (l : Lexicon) (g : T (proper l)) where
   pub tsb-start : T (allStart true (l .tsb))

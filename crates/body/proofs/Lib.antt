@@ -1,5 +1,4 @@
 pub mod Beginnings
-pub mod Named
 pub mod PlainSteps
 pub mod Progress
 pub mod Run

@@ -9,17 +9,16 @@ use lib.Dec.{T, eqb}
 use lib.ListN.{length, getD, List·getD-eq-default}
 use borrow.Author.Tests.{eq-eqb, ne-eqb, eqb-true}
 use Rattle.ascii.specs.Bytes.{upper, between, isLetter}
-use Rattle.words.specs.Find.{wordIn, liveIn}
+use Rattle.words.specs.Find.{wordIn}
 use Rattle.words.specs.declared.Match.{Match}
 use Rattle.words.specs.declared.Match.the-variants.{Word, Nothing}
-use Rattle.body.specs.Lent.{anyLive}
-use Rattle.body.specs.Lexicon.{Lexicon, liveWord}
-use Rattle.body.specs.Proper.{proper}
+use Rattle.tables.specs.Sets.{liveWord}
+use Rattle.body.specs.Lexicon.{Lexicon}
 use Rattle.body.specs.Steps.{first, one, token, opened, otherStep, plainStep}
 use Rattle.body.specs.declared.moves.Mode.{Mode}
 use Rattle.body.specs.declared.moves.Mode.the-variants.{Plain, String, Remark, Data}
 use Rattle.body.specs.declared.moves.Move.{Move}
-use Rattle.body.proofs.Beginnings.{word-none, live-none, live-empty, tsb-start, v2-start, operators-start}
+use Rattle.body.proofs.Beginnings.{proper, word-none, live-none, tsb-start, v2-start, operators-start}
 
 -- ---- a byte that begins no word
 
@@ -62,35 +61,6 @@ module _ {k : ℕ} where
   unfolding opened
   opened-plain e f = simp (ne-eqb _ _ e, ne-eqb _ _ f)
 
--- ---- a live TSB word
-
-module _ (l : Lexicon) (t : List ℕ) where
-  pub live-unasked : anyLive (l .live) ≡ false → Nothing ≡ liveWord l t
-  unfolding liveWord
-  live-unasked e = go (liveIn (l .demoted) (l .tsb) t)
-    where
-      go : (d : Match) → Nothing ≡ elim d [ Word i u k ↦ Nothing | Nothing ↦ liveIn (l .live) (l .tsb) t ]
-      go (Word i u k) = refl
-      go Nothing = sym (live-empty (l .live) e (l .tsb) t)
-
-  module _ {w : Match} (p : w ≡ liveIn (l .live) (l .tsb) t) where
-    pub live-missing : w ≡ Nothing → Nothing ≡ liveWord l t
-    unfolding liveWord
-    live-missing e = go (liveIn (l .demoted) (l .tsb) t)
-      where
-        go : (d : Match) → Nothing ≡ elim d [ Word i u k ↦ Nothing | Nothing ↦ liveIn (l .live) (l .tsb) t ]
-        go (Word i u k) = refl
-        go Nothing = sym e ∙ p
-
-    module _ {d : Match} (q : d ≡ liveIn (l .demoted) (l .tsb) t) where
-      pub live-blocked : {i u k : ℕ} → d ≡ Word i u k → Nothing ≡ liveWord l t
-      unfolding liveWord
-      live-blocked e = rw (liveWord, sym q ∙ e)
-
-      pub live-found : d ≡ Nothing → {i u k : ℕ} → w ≡ Word i u k → Word i u k ≡ liveWord l t
-      unfolding liveWord
-      live-found e f = rw (liveWord, sym q ∙ e) (sym f ∙ p)
-
 -- ---- all of it
 
 pub letter-known : {x : Bool} (b : ℕ) → x ≡ true → x ≡ isLetter b → isLetter b ≡ true
@@ -104,9 +74,8 @@ letter-no-quote b e = go (eqb b 0x22) refl
     go true q = absurd (false≢true (ap isLetter (sym (eqb-true b 0x22 q)) ∙ e))
     go false q = q
 
-no-tsb : (l : Lexicon) (t : List ℕ) → T (proper l) → isLetter (first t) ≡ false → liveWord l t ≡ Nothing
-unfolding liveWord
-no-tsb l t g a = rw (liveWord, live-none true (l .tsb) (tsb-start l g) t (l .demoted) a, live-none true (l .tsb) (tsb-start l g) t (l .live) a)
+no-tsb : (l : Lexicon) (t : List ℕ) → T (proper l) → isLetter (first t) ≡ false → liveWord (l .sets) (l .tsb) t ≡ Nothing
+no-tsb l t g a = live-none true (l .tsb) (tsb-start l g) t (l .sets) a
 
 module _ (l : Lexicon) (t : List ℕ) {r : Move} where
   pub plain-quote : r ≡ one (first t) String → first t ≡ 0x22 → r ≡ plainStep l t
@@ -115,16 +84,16 @@ module _ (l : Lexicon) (t : List ℕ) {r : Move} where
 
   -- a letter: m is the live TSB word there, v the V2 word
   module _ {m : Match} where
-    pub letter-tsb : {i u k : ℕ} → r ≡ token true k Plain u → m ≡ Word i u k → m ≡ liveWord l t → isLetter (first t) ≡ true → r ≡ plainStep l t
+    pub letter-tsb : {i u k : ℕ} → r ≡ token true k Plain u → m ≡ Word i u k → m ≡ liveWord (l .sets) (l .tsb) t → isLetter (first t) ≡ true → r ≡ plainStep l t
     unfolding plainStep
     letter-tsb q e p a = rw (plainStep, letter-no-quote _ a, sym p ∙ e) q
 
     pub letter-v2 : {v : Match} {i u k : ℕ} {behind : Mode} → r ≡ token false k behind u → behind ≡ opened k → v ≡ Word i u k → v ≡ wordIn (l .v2) t
-        → m ≡ Nothing → m ≡ liveWord l t → isLetter (first t) ≡ true → r ≡ plainStep l t
+        → m ≡ Nothing → m ≡ liveWord (l .sets) (l .tsb) t → isLetter (first t) ≡ true → r ≡ plainStep l t
     unfolding plainStep
     letter-v2 q o e p n live a = rw (plainStep, letter-no-quote _ a, sym live ∙ n, sym p ∙ e, ← o) q
 
-    pub letter-other : {v : Match} → r ≡ otherStep t → v ≡ Nothing → v ≡ wordIn (l .v2) t → m ≡ Nothing → m ≡ liveWord l t → isLetter (first t) ≡ true
+    pub letter-other : {v : Match} → r ≡ otherStep t → v ≡ Nothing → v ≡ wordIn (l .v2) t → m ≡ Nothing → m ≡ liveWord (l .sets) (l .tsb) t → isLetter (first t) ≡ true
         → T (proper l) → r ≡ plainStep l t
     unfolding plainStep
     letter-other q e p n live a g =

@@ -10,20 +10,20 @@ use lib.Dec.{T, eqb, ltb}
 use lib.ListN.{length, getD, take, List·getD-eq-default}
 use borrow.Author.Tests.{eqb-true, ltb-true}
 use Rattle.ascii.specs.Bytes.{upper}
-use Rattle.words.specs.Find.{wordIn, liveIn}
+use Rattle.words.specs.Find.{wordIn}
 use Rattle.words.specs.declared.Match.{Match}
 use Rattle.words.specs.declared.Match.the-variants.{Word, Nothing}
 use Rattle.escapes.specs.Escape.{escapeOf}
-use Rattle.escapes.specs.Places.{equals, before}
+use Rattle.ascii.specs.Search.{equals, before}
 use Rattle.escapes.specs.declared.Escape.{Escape}
 use Rattle.escapes.specs.declared.Escape.the-variants.{Byte, Unknown}
-use Rattle.body.specs.Lexicon.{Lexicon, liveWord}
-use Rattle.body.specs.Proper.{proper}
+use Rattle.tables.specs.Sets.{liveWord}
+use Rattle.body.specs.Lexicon.{Lexicon}
 use Rattle.body.specs.Steps.{first, one, token, opened, otherStep, plainStep, lettered, stringByte, escaped, braced, stringStep, dataStep, dataQuoteStep, crunchStep}
 use Rattle.body.specs.declared.moves.Mode.{Mode}
 use Rattle.body.specs.declared.moves.Mode.the-variants.{Plain, String, Remark, Data, DataQuote}
 use Rattle.body.specs.declared.moves.Move.{Move}
-use Rattle.body.proofs.Beginnings.{Takes, word-takes, live-takes, tsb-start, v2-start, operators-start}
+use Rattle.body.proofs.Beginnings.{proper, Takes, word-takes, live-takes, tsb-start, v2-start, operators-start}
 
 -- the move takes text
 abbrev Moves : List ℕ → Move → Type 0
@@ -62,19 +62,11 @@ module _ (t : List ℕ) (h : 0 < length t) where
       (λ _. by-test t (eqb (first t) 0x3F) (one 0x99 Plain) (one (upper (first t)) Plain) (λ _. one-takes) (λ _. one-takes))
 
   module _ (l : Lexicon) (g : T (proper l)) where
-    tsb-takes : {i u k : ℕ} → liveWord l t ≡ Word i u k → Takes t u
-    unfolding liveWord
-    tsb-takes {i} {u} {k} e = go (liveIn (l .demoted) (l .tsb) t) e
-      where
-        go : (d : Match) → elim d [ Word j v c ↦ Nothing | Nothing ↦ liveIn (l .live) (l .tsb) t ] ≡ Word i u k → Takes t u
-        go (Word j v c) q = let z : _≡_ {A = ℕ} 0 1 = cc in absurd (omega arith)
-        go Nothing q = live-takes true (l .tsb) (tsb-start l g) t (l .live) q
-
     plain-takes : Moves t (plainStep l t)
     unfolding plainStep
     plain-takes =
         by-test t (eqb (first t) 0x22) (one 0x22 String) _ (λ _. one-takes) (λ _.
-        by-match t (liveWord l t) (λ u k. token true k Plain u) _ (λ i u k e. tsb-takes e) (λ _.
+        by-match t (liveWord (l .sets) (l .tsb) t) (λ u k. token true k Plain u) _ (λ i u k e. live-takes true (l .tsb) (tsb-start l g) t (l .sets) e) (λ _.
         by-match t (wordIn (l .v2) t) (λ u k. token false k (opened k) u) _ (λ i u k e. word-takes true (l .v2) (v2-start l g) t e) (λ _.
         by-match t (wordIn (l .operators) t) (λ u k. token false k Plain u) (otherStep t)
         (λ i u k e. word-takes false (l .operators) (operators-start l g) t e) (λ _. other-takes))))

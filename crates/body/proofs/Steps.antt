@@ -1,42 +1,50 @@
--- A step in each mode, and what is found once to a body.
+-- A step in each mode, and the last } of a body.
 -- Assumes nothing.
-use Prim.Native.Nat.{ℕ, _-_, _≤_}
-use mathlib.Core.Path.{_≡_, refl, ap, _∙_}
+use Prim.Native.Nat.{ℕ, suc, _+_, _-_, _≤_}
+use mathlib.Core.Path.{_≡_, refl, sym, _∙_}
 use mathlib.Core.Bool.{Bool, true, false}
 use mathlib.Core.List.{List}
 use native.Mathlib.Omega.{arith}
 use lib.Dec.{ltb}
 use lib.ListN.{length, take, drop}
 use borrow.Author.Tests.{ltb-false}
-use Rattle.escapes.specs.Places.{equals, before, behindLast}
-use Rattle.escapes.proofs.Placing.{tail-is, none-behind}
-use Rattle.body.specs.Lent.{Closes, anyLive, surveyOf}
+use mir.Syntax.{w64}
+use mir.Val.{Fits}
+use Rattle.ascii.specs.Search.{equals, before, last}
+use Rattle.ascii.specs.declared.search.Found.{Found}
+use Rattle.ascii.specs.declared.search.Found.the-variants.{At, Nowhere}
+use Rattle.ascii.proofs.Searching.{tail, last-within, Behind, none-behind}
+use Rattle.body.specs.BraceHelpers.{behindBrace, Closes}
 use Rattle.body.specs.Lexicon.{Lexicon}
 use Rattle.body.specs.Steps.{first, one, plainStep, stringStep, dataStep, dataQuoteStep, crunchStep}
 use Rattle.body.specs.declared.moves.Mode.{Mode}
 use Rattle.body.specs.declared.moves.Mode.the-variants.{Plain, String, Remark, Data, DataQuote}
 use Rattle.body.specs.declared.moves.Move.{Move}
-use Rattle.body.specs.declared.survey.Survey.{Survey}
 
--- ---- what a survey knows
+-- ---- from where on no } follows
 
-pub tsb-known : {v : Survey} (s : List ℕ) (live : List Bool) → v ≡ surveyOf s live → v .tsb ≡ anyLive live
-tsb-known s live e = ap (λ (x : Survey). x .tsb) e
+pub brace-at : (t : List ℕ) {f : Found} {n : ℕ} → f ≡ At n → f ≡ last (equals 0x7D) t → n + 1 ≡ behindBrace t
+unfolding behindBrace
+brace-at t e p = rw (behindBrace, sym p ∙ e) (omega arith)
 
-pub closes-known : {v : Survey} (s : List ℕ) (live : List Bool) (at : ℕ) → v ≡ surveyOf s live → Closes (ltb at (v .last)) (take (length s - at) (drop at s))
-closes-known {v} s live at e = go (ltb at (v .last)) refl
+pub brace-nowhere : (t : List ℕ) {f : Found} → f ≡ Nowhere → f ≡ last (equals 0x7D) t → 0 ≡ behindBrace t
+unfolding behindBrace
+brace-nowhere t e p = rw (behindBrace, sym p ∙ e)
+
+pub brace-fits : (t : List ℕ) {f : Found} {n : ℕ} → f ≡ At n → f ≡ last (equals 0x7D) t → Fits w64 (length t) → Fits w64 (n + 1)
+brace-fits t e p f = record { fits = omega (arith, f .fits, last-within (equals 0x7D) t (sym p ∙ e)) }
+
+pub closes-known : (s : List ℕ) (at : ℕ) {place : ℕ} → place ≡ behindBrace s → Closes (ltb at place) (take (length s - at) (drop at s))
+unfolding behindBrace
+closes-known s at {place} e = go (ltb at place) refl
   where
-    last : v .last ≡ behindLast (equals 0x7D) s
-    last = ap (λ (x : Survey). x .last) e
+    behind : (f : Found) → elim f [ At n ↦ suc n | Nowhere ↦ 0 ] ≤ at → Behind f at
+    behind (At n) h = omega arith
+    behind Nowhere h = tt
 
-    go : (b : Bool) → ltb at (v .last) ≡ b → Closes b (take (length s - at) (drop at s))
+    go : (b : Bool) → ltb at place ≡ b → Closes b (take (length s - at) (drop at s))
     go true p = tt
-    go false p =
-        rw (tail-is at s) (none-behind (equals 0x7D) s at (omega (arith, last, ltb-false at (v .last) p)))
-
-pub surveyed : (s : List ℕ) (live : List Bool) {last : ℕ} {tsb : Bool} → last ≡ behindLast (equals 0x7D) s → tsb ≡ anyLive live
-    → _≡_ {A = Survey} (record { last = last; tsb = tsb }) (surveyOf s live)
-surveyed s live e f = rw (e, f)
+    go false p = rw (tail s at) (none-behind (equals 0x7D) s at (behind (last (equals 0x7D) s) (omega (arith, e, ltb-false at place p))))
 
 -- ---- the modes
 

@@ -2,7 +2,7 @@
 -- Assumes nothing.
 use Prim.Native.Nat.{ℕ, suc, _+_, _-_, _≤_, _<_}
 use mathlib.Core.Path.{_≡_, refl, sym, ap, _∙_}
-use mathlib.Core.Bool.{Bool, true, false}
+use mathlib.Core.Bool.{Bool, true, false, not}
 use mathlib.Core.List.{List, [], _∷_}
 use native.Mathlib.Omega.{arith}
 use lib.Dec.{eqb}
@@ -11,11 +11,11 @@ use borrow.Author.Tests.{eq-eqb, ne-eqb, lt-ltb, le-ltb}
 use Rattle.ascii.specs.Bytes.{upper, between}
 use Rattle.ascii.proofs.Ranges.{between-in}
 use Rattle.escapes.specs.Escape.{escapeOf}
-use Rattle.escapes.specs.Places.{equals, before}
+use Rattle.ascii.specs.Search.{equals, before, front}
 use Rattle.escapes.specs.declared.Escape.{Escape}
 use Rattle.escapes.specs.declared.Escape.the-variants.{Byte, Unknown}
-use Rattle.escapes.proofs.Placing.{tail-is}
-use Rattle.body.specs.Lent.{Closes}
+use Rattle.ascii.proofs.Searching.{tail}
+use Rattle.body.specs.BraceHelpers.{Closes}
 use Rattle.body.specs.Steps.{first, one, lettered, stringByte, escaped, braced, stringStep, dataStep, dataQuoteStep}
 use Rattle.body.specs.declared.moves.Mode.the-variants.{Plain, String, Data, DataQuote}
 use Rattle.body.specs.declared.moves.Move.{Move}
@@ -70,11 +70,11 @@ not-closed t n q h e p l =
 
 -- no } follows, as was said
 none-behind-first : (t : List ℕ) → before (equals 0x7D) t ≡ length t → length (drop 1 t) ≤ before (equals 0x7D) (drop 1 t)
-unfolding before
+unfolding before front
 none-behind-first [] e = omega arith
 none-behind-first (b ∷ s) e = go (eqb b 0x7D) e
   where
-    go : (x : Bool) → elim x [ true ↦ 0 | false ↦ suc (before (equals 0x7D) s) ] ≡ suc (length s) → length s ≤ before (equals 0x7D) s
+    go : (x : Bool) → elim (not x) [ true ↦ suc (before (equals 0x7D) s) | false ↦ 0 ] ≡ suc (length s) → length s ≤ before (equals 0x7D) s
     go true f = absurd (omega arith)
     go false f = omega arith
 
@@ -85,7 +85,7 @@ brace-last t q f k h e =
 
 module _ (t : List ℕ) {n : ℕ} where
   ahead : n ≡ before (equals 0x7D) (take (length t - 1) (drop 1 t)) → n ≡ before (equals 0x7D) (drop 1 t)
-  ahead p = p ∙ ap (before (equals 0x7D)) (tail-is 1 t)
+  ahead p = p ∙ ap (before (equals 0x7D)) (tail t 1)
 
   pub brace-open : {r : Move} → r ≡ stringByte 0x7B → length t - 1 ≤ n → n ≡ before (equals 0x7D) (take (length t - 1) (drop 1 t))
       → 0 < length t → first t ≡ 0x7B → r ≡ stringStep t

@@ -2,32 +2,32 @@
 -- Assumes nothing.
 use Prim.Native.Nat.{ℕ}
 use Prim.Native.String.{String}
-use mathlib.Core.Bool.{not}
 use mathlib.Core.Path.{_≡_, refl}
+use mathlib.Core.Bool.{true, false}
 use mathlib.Core.List.{List, [], _∷_, _++_, map}
 use Rattle.ascii.specs.Bytes.{between, upper}
-use Rattle.ascii.specs.Trim.{trim, leading, solid, countsWith}
-use Rattle.words.specs.Compare.{begins, alike, same}
-use Rattle.words.specs.Find.{firstThat, wordIn, liveIn, nameIn}
+use Rattle.ascii.specs.Search.{before, last}
+use Rattle.ascii.specs.Trim.{trim}
+use Rattle.words.specs.Compare.{same}
+use Rattle.words.specs.Find.{nameIn, meaning}
 use Rattle.tables.specs.Spelling.{bytesOf}
 use Rattle.tables.specs.Escapes.{escapeNames, cbmLetters, ctrlDigits}
-use Rattle.tables.specs.Rom.{romWords, counted, keep, isWord, v2Words, operators}
+use Rattle.tables.specs.Rom.{v2Words, operators}
+use Rattle.tables.specs.Sets.{liveWord}
 use Rattle.tables.specs.Tsb.{tsbWords}
-use Rattle.escapes.specs.Places.{before, further, behindLast}
 use Rattle.escapes.specs.Numbers.{digitOf, numberAfter, numberOf, hexOf, unsigned, countOf}
 use Rattle.escapes.specs.Keys.{keyNames, controlByte, keyWith, keyed, keyEscape}
-use Rattle.escapes.specs.Escape.{nameEscape, repeated, starred, escapeOf}
-use Rattle.body.specs.Body.{written, crunchedWithin, crunchedFrom, crunchedBody}
-use Rattle.body.specs.Lexicon.{Lexicon, lexicon, liveWord}
-use Rattle.body.specs.Steps.{opened, otherStep, plainStep, lettered, stringByte, escaped, braced, stringStep, dataStep, dataQuoteStep, crunchStep}
+use Rattle.escapes.specs.Escape.{nameEscape, repeated, starred, countedName, escapeOf}
+use Rattle.body.specs.Body.{crunchedFrom, crunchedBody}
+use Rattle.body.specs.Lexicon.{Lexicon, lexicon}
 
 -- no TSB word is live
 abbrev pub v2Lexicon : Lexicon
-v2Lexicon = lexicon [] []
+v2Lexicon = lexicon (record { tsb = false; demoted = [] })
 
 -- every TSB word is live but one, which is demoted
 abbrev pub allBut : List ℕ → Lexicon
-allBut w = lexicon (map (λ e. not (same w (e .word))) tsbWords) (map (λ e. same w (e .word)) tsbWords)
+allBut w = lexicon (record { tsb = true; demoted = map (λ e. same w (e .word)) tsbWords })
 
 infix 60 _gives_
 abbrev pub _gives_ : String → List ℕ → Type 0
@@ -63,5 +63,5 @@ pub body-table :
     ≡ 0x44 ∷ 0x49 ∷ 0x52 ∷ 0xB2 ∷ 0x35 ∷ 0x3A ∷ 0x64 ∷ 0x01 ∷ 0x20 ∷ 0x30 ∷ 0x2C ∷ 0x31 ∷ [])
     × (crunchedBody (allBut (bytesOf "DO")) (bytesOf "downb:dir") ≡ 0x44 ∷ 0x4F ∷ 0x57 ∷ 0x4E ∷ 0x42 ∷ 0x3A ∷ 0x64 ∷ 0x4A ∷ [])
     × (crunchedBody (allBut []) (bytesOf "do:downb:on key") ≡ 0x64 ∷ 0x22 ∷ 0x3A ∷ 0x64 ∷ 0x15 ∷ 0x3A ∷ 0x64 ∷ 0x37 ∷ [])
-unfolding crunchedFrom crunchedWithin written crunchStep plainStep otherStep opened stringStep braced escaped stringByte lettered dataStep dataQuoteStep liveWord v2Words operators romWords counted keep isWord tsbWords wordIn liveIn nameIn firstThat alike same begins escapeOf starred repeated nameEscape keyEscape keyed keyWith controlByte keyNames countOf unsigned hexOf numberOf numberAfter digitOf behindLast further before escapeNames cbmLetters ctrlDigits trim leading solid countsWith upper between
+unfolding crunchedFrom liveWord v2Words operators tsbWords nameIn meaning escapeOf countedName starred repeated nameEscape keyEscape keyed keyWith controlByte keyNames countOf unsigned hexOf numberOf numberAfter digitOf escapeNames cbmLetters ctrlDigits last before trim upper between same
 body-table = (refl, refl, refl, refl, refl, refl, refl, refl, refl, refl, refl, refl, refl, refl, refl, refl, refl, refl, refl, refl, refl, refl)

@@ -11,17 +11,16 @@ use lib.ListN.{length, take, drop, set, replicate, length-append, length-set, le
 use lib.Seq.{sets, drop-drop}
 use mir.Syntax.{w64}
 use mir.Val.{Fits}
-use Rattle.escapes.proofs.Placing.{tail-is}
+use Rattle.ascii.proofs.Searching.{tail}
 use Rattle.lent.specs.Stores.{Room, Put}
 use Rattle.lent.proofs.Storing.{put-long, put-as, room-as, room-first, room-second, put-both, put-none}
 use Rattle.body.specs.Body.{prefixOf, written, crunchedFrom, crunchedBody}
 use Rattle.body.specs.Lexicon.{Lexicon}
-use Rattle.body.specs.Proper.{proper}
 use Rattle.body.specs.Steps.{crunchStep}
 use Rattle.body.specs.declared.moves.Mode.{Mode}
 use Rattle.body.specs.declared.moves.Mode.the-variants.{Plain}
 use Rattle.body.specs.declared.moves.Move.{Move}
-use Rattle.body.proofs.Beginnings.{Takes}
+use Rattle.body.proofs.Beginnings.{proper, Takes}
 use Rattle.body.proofs.Progress.{step-takes}
 use Rattle.body.proofs.Run.{length-prefix, length-written, body-end, body-step}
 
@@ -33,7 +32,7 @@ rest s at = take (length s - at) (drop at s)
 
 module _ (l : Lexicon) (s : List ℕ) (m : Mode) {at : ℕ} {o : Move} (e : o ≡ crunchStep l m (rest s at)) (h : at < length s) (g : T (proper l)) where
   here : o ≡ crunchStep l m (drop at s)
-  here = e ∙ ap (crunchStep l m) (tail-is at s)
+  here = e ∙ ap (crunchStep l m) (tail s at)
 
   some : 0 < length (drop at s)
   some = omega (arith, length-drop at s)
@@ -42,20 +41,20 @@ module _ (l : Lexicon) (s : List ℕ) (m : Mode) {at : ℕ} {o : Move} (e : o �
   takes = rw here (step-takes l g m (drop at s) some)
 
   -- what is owed at a place, taken apart: the step, and what is owed behind it
-  pub body-at : crunchedFrom l m (drop at s) ≡ written o ++ crunchedFrom l (o .mode) (drop (at + o .used) s)
+  body-at : crunchedFrom l m (drop at s) ≡ written o ++ crunchedFrom l (o .mode) (drop (at + o .used) s)
   body-at = rw (← drop-drop (o .used) at s) (body-step l g m (drop at s) some here)
 
-  pub step-within : at + o .used ≤ length s
+  step-within : at + o .used ≤ length s
   step-within = omega (arith, takes .most, length-drop at s)
 
-  pub step-less : length s - (at + o .used) < length s - at
+  step-less : length s - (at + o .used) < length s - at
   step-less = omega (arith, takes .more, step-within)
 
-  pub step-fits : Fits w64 (length s) → Fits w64 (at + o .used)
+  step-fits : Fits w64 (length s) → Fits w64 (at + o .used)
   step-fits f = record { fits = omega (arith, f .fits, step-within) }
 
 pub rest-some : (s : List ℕ) {at : ℕ} → at < length s → 0 < length (rest s at)
-rest-some s {at} h = rw (tail-is at s) (omega (arith, length-drop at s))
+rest-some s {at} h = rw (tail s at) (omega (arith, length-drop at s))
 
 -- ---- writing
 
@@ -78,6 +77,12 @@ module _ {l : Lexicon} {s first : List ℕ} {m : Mode} {out : List ℕ} {n at : 
   module _ {o : Move} (e : o ≡ crunchStep l m (rest s at)) (h : at < length s) (g : T (proper l)) where
     owing : Room out n (written o ++ crunchedFrom l (o .mode) (drop (at + o .used) s))
     owing = room-as (sym (body-at l s m e h g)) (k .room)
+
+    pub owed-less : length s - (at + o .used) < length s - at
+    owed-less = step-less l s m e h g
+
+    pub owed-fits : Fits w64 (length s) → Fits w64 (at + o .used)
+    owed-fits = step-fits l s m e h g
 
     pub owed-room : Room out n (written o)
     owed-room = room-first (written o) (crunchedFrom l (o .mode) (drop (at + o .used) s)) owing
@@ -108,6 +113,13 @@ module _ {l : Lexicon} {s : List ℕ} {m : Mode} {n at : ℕ} (k : Measured l s 
   measured-end h =
       let none : crunchedFrom l m (drop at s) ≡ [] = rw (drop-of-length-le s h) (body-end l m) in
       omega (arith, ap length none, k .gives, k .low)
+
+  module _ {o : Move} (e : o ≡ crunchStep l m (rest s at)) (h : at < length s) (g : T (proper l)) where
+    pub measured-less : length s - (at + o .used) < length s - at
+    measured-less = step-less l s m e h g
+
+    pub measured-fits : Fits w64 (length s) → Fits w64 (at + o .used)
+    measured-fits = step-fits l s m e h g
 
   module _ {o : Move} {r : ℕ} (q : r ≡ min (n + length (written o)) 65536) (e : o ≡ crunchStep l m (rest s at)) (h : at < length s) (g : T (proper l)) where
     parts : length (crunchedFrom l m (drop at s)) ≡ length (written o) + length (crunchedFrom l (o .mode) (drop (at + o .used) s))

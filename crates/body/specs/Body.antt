@@ -1,10 +1,11 @@
 -- A body, crunched: the steps one after the other, in plain mode at the start (document 01, "Crunching one body"). Every step takes
--- text, so the definition counts down the text's length; proofs/Run.antt has the two equations that hide this.
+-- text; proofs/Run.antt has the two equations that hide the count of `again`.
 -- Assumes nothing.
-use Prim.Native.Nat.{ℕ, zero, suc}
+use Prim.Native.Nat.{ℕ, suc}
 use mathlib.Core.Bool.{Bool, true, false}
 use mathlib.Core.List.{List, [], _∷_, _++_}
 use lib.ListN.{length, drop, replicate}
+use Rattle.steps.specs.Again.{again}
 use Rattle.body.specs.Lexicon.{Lexicon}
 use Rattle.body.specs.Steps.{crunchStep}
 use Rattle.body.specs.declared.moves.Mode.{Mode}
@@ -21,18 +22,17 @@ unfoldable pub written : Move → List ℕ
 written o = prefixOf (o .prefixed) ++ replicate (o .count) (o .byte)
 
 -- a step, and then the rest of the text from behind it on
-abbrev pub moveThen : (Mode → List ℕ → List ℕ) → List ℕ → Move → List ℕ
-moveThen rest t o = written o ++ rest (o .mode) (drop (o .used) t)
+abbrev pub moveThen : (Mode × List ℕ → List ℕ) → List ℕ → Move → List ℕ
+moveThen more t o = written o ++ more (o .mode, drop (o .used) t)
 
--- the text left in a mode, in at most so many steps
-unfoldable pub crunchedWithin : Lexicon → ℕ → Mode → List ℕ → List ℕ
-crunchedWithin l zero m t = []
-crunchedWithin l (suc k) m [] = []
-crunchedWithin l (suc k) m (b ∷ s) = moveThen (crunchedWithin l k) (b ∷ s) (crunchStep l m (b ∷ s))
+-- what the text left gives in a mode
+unfoldable pub crunchOn : Lexicon → (Mode × List ℕ → List ℕ) → Mode × List ℕ → List ℕ
+unfolding crunchStep written
+crunchOn l more x = elim (x .1) [ [] ↦ [] | b ∷ s ↦ moveThen more (x .1) (crunchStep l (x .0) (x .1)) ]
 
--- the text left in a mode
 unfoldable pub crunchedFrom : Lexicon → Mode → List ℕ → List ℕ
-crunchedFrom l m t = crunchedWithin l (length t) m t
+unfolding again crunchOn
+crunchedFrom l m t = again [] (crunchOn l) (suc (length t)) (m, t)
 
 -- a whole body
 abbrev pub crunchedBody : Lexicon → List ℕ → List ℕ

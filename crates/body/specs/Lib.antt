@@ -1,5 +1,4 @@
 pub mod Body
-pub mod Lent
+pub mod BraceHelpers
 pub mod Lexicon
-pub mod Proper
 pub mod Steps

@@ -9,10 +9,11 @@ use Rattle.ascii.specs.Bytes.{between, upper}
 use Rattle.words.specs.Find.{wordIn}
 use Rattle.words.specs.declared.Match.the-variants.{Word, Nothing}
 use Rattle.escapes.specs.Escape.{escapeOf}
-use Rattle.escapes.specs.Places.{equals, before}
+use Rattle.ascii.specs.Search.{equals, before}
 use Rattle.escapes.specs.declared.Escape.{Escape}
 use Rattle.escapes.specs.declared.Escape.the-variants.{Byte, Unknown}
-use Rattle.body.specs.Lexicon.{Lexicon, liveWord}
+use Rattle.tables.specs.Sets.{liveWord}
+use Rattle.body.specs.Lexicon.{Lexicon}
 use Rattle.body.specs.declared.moves.Mode.{Mode}
 use Rattle.body.specs.declared.moves.Mode.the-variants.{Plain, String, Remark, Data, DataQuote}
 use Rattle.body.specs.declared.moves.Move.{Move}
@@ -37,6 +38,7 @@ opened k = cond (eqb k 0x8F) Remark (cond (eqb k 0x83) Data Plain)
 
 -- pi, CF 80, gives FF; ? gives 99; a-z raised; else copied
 unfoldable pub otherStep : List ℕ → Move
+unfolding upper
 otherStep t =
     elim (eqb (first t) 0xCF && eqb (getD t 1 0) 0x80) [
       | true ↦ token false 0xFF Plain 2
@@ -45,10 +47,11 @@ otherStep t =
 
 -- first that applies: a quote, a live TSB word, a V2 word, an operator, another byte
 unfoldable pub plainStep : Lexicon → List ℕ → Move
+unfolding liveWord wordIn opened otherStep
 plainStep l t =
     elim (eqb (first t) 0x22) [
       | true ↦ one 0x22 String
-      | false ↦ elim (liveWord l t) [
+      | false ↦ elim (liveWord (l .sets) (l .tsb) t) [
         | Word i u k ↦ token true k Plain u
         | Nothing ↦ elim (wordIn (l .v2) t) [
           | Word i u k ↦ token false k (opened k) u
@@ -61,22 +64,27 @@ plainStep l t =
 
 -- a-z become 41 to 5A, A-Z become C1 to DA
 unfoldable pub lettered : ℕ → ℕ
+unfolding between
 lettered b = cond (between 97 122 b) (b - 32) (cond (between 65 90 b) (b + 0x80) b)
 
 -- a quote in the text ends the mode
 unfoldable pub stringByte : ℕ → Move
+unfolding lettered
 stringByte b = elim (eqb b 0x22) [ true ↦ one 0x22 Plain | false ↦ one (lettered b) String ]
 
 -- a brace, and the escape of the n bytes behind it; where that is unknown the brace is a byte like others
 unfoldable pub escaped : ℕ → Escape → Move
+unfolding stringByte
 escaped n (Byte b count) = record { prefixed = false; byte = b; count = count; mode = String; used = n + 2 }
 escaped n Unknown = stringByte 0x7B
 
 -- a brace and the text behind it, n bytes of which stand in front of the first closing brace
 unfoldable pub braced : List ℕ → ℕ → Move
+unfolding escaped escapeOf stringByte
 braced s n = elim (ltb n (length s)) [ true ↦ escaped n (escapeOf (take n s)) | false ↦ stringByte 0x7B ]
 
 unfoldable pub stringStep : List ℕ → Move
+unfolding braced stringByte before
 stringStep [] = stringByte 0
 stringStep (b ∷ s) = elim (eqb b 0x7B) [ true ↦ braced s (before (equals 0x7D) s) | false ↦ stringByte b ]
 
@@ -84,6 +92,7 @@ stringStep (b ∷ s) = elim (eqb b 0x7B) [ true ↦ braced s (before (equals 0x7
 
 -- a quote opens a quoted part, a colon returns to plain, a-z raised
 unfoldable pub dataStep : ℕ → Move
+unfolding upper
 dataStep b =
     elim (eqb b 0x22) [
       | true ↦ one 0x22 DataQuote
@@ -92,11 +101,13 @@ dataStep b =
 
 -- copied through its closing quote, with a-z raised
 unfoldable pub dataQuoteStep : ℕ → Move
+unfolding upper
 dataQuoteStep b = elim (eqb b 0x22) [ true ↦ one 0x22 Data | false ↦ one (upper b) DataQuote ]
 
 -- ---- all modes; in a remark all is copied
 
 unfoldable pub crunchStep : Lexicon → Mode → List ℕ → Move
+unfolding plainStep stringStep dataStep dataQuoteStep
 crunchStep l Plain t = plainStep l t
 crunchStep l String t = stringStep t
 crunchStep l Remark t = one (first t) Remark

@@ -1,49 +1,36 @@
 // One body, crunched: its length, and its bytes written into a lent buffer from that buffer's first byte on.
 use crate::moves::Mode;
 use crate::moves::Move;
+use ascii::search;
+use ascii::search::Found;
+use ascii::search::Kind;
+use tables::sets::Sets;
 ghost use mathlib.Core.Path.{_≡_};
 ghost use Prim.Native.Nat.{_+_, _<_, min};
 ghost use lib.ListN.{length, replicate};
 ghost use Rattle.lent.specs.Stores.{Room, Put};
+ghost use Rattle.tables.specs.WordsHelpers.{SpellsWords};
 ghost use Rattle.body.specs.Body.{prefixOf, written, crunchedBody};
 ghost use Rattle.body.specs.Lexicon.{lexicon};
-ghost use Rattle.body.specs.Lent.{Lends};
+ghost use Rattle.body.specs.BraceHelpers.{behindBrace};
 
 mod data;
 pub mod moves;
 mod plain;
 mod step;
 mod string;
-mod survey;
 
 // The length of a body, or 65,536 where it is that or more.
-pub fn measure_body(
-    text: &[u8],
-    bytes: &[u8],
-    starts: &[u16],
-    tokens: &[u8],
-    live: &[bool],
-    demoted: &[bool],
-) -> usize
-    requires { ⌜ Lends (now bytes) (now starts) (now tokens) (now live) (now demoted) ⌝ }
-    ensures { λ r. ⌜ r ≡ min (length (crunchedBody (lexicon (now (live .entry)) (now (demoted .entry))) (now (text .entry)))) 65536 ⌝ }
+pub fn measure_body(text: &[u8], bytes: &[u8], index: &[u16], sets: Sets) -> usize
+    requires { ⌜ SpellsWords (now bytes) (now index) ⌝ }
+    ensures { λ r. ⌜ r ≡ min (length (crunchedBody (lexicon sets) (now (text .entry)))) 65536 ⌝ }
 {
-    let known = survey::survey_body(text, live);
+    let last = behind_brace(text);
     let mut at: usize = 0;
     let mut mode = Mode::Plain;
     let mut n: usize = 0;
     while at < text.len() {
-        let m = step::step(
-            &text[at..],
-            mode,
-            at < known.last,
-            known.tsb,
-            bytes,
-            starts,
-            tokens,
-            live,
-            demoted,
-        );
+        let m = step::step(&text[at..], mode, at < last, bytes, index, sets);
         n = longer(n, m);
         if n == 65536 {
             return n;
@@ -53,6 +40,16 @@ pub fn measure_body(
         mode = next;
     }
     n
+}
+
+// The place behind the last }, 0 where there is none.
+fn behind_brace(text: &[u8]) -> usize
+    ensures { λ r. ⌜ r ≡ behindBrace (now (text .entry)) ⌝ }
+{
+    match search::last(text, Kind::Is(0x7D)) {
+        Found::At(n) => n + 1,
+        Found::Nowhere => 0,
+    }
 }
 
 // A length with what a step writes behind it, up to 65,536.
@@ -80,34 +77,16 @@ fn behind_prefix(n: usize, prefixed: bool) -> usize
 }
 
 // Writes a body at the start of a buffer that has room for it, and answers its length.
-pub fn write_body(
-    out: &mut [u8],
-    text: &[u8],
-    bytes: &[u8],
-    starts: &[u16],
-    tokens: &[u8],
-    live: &[bool],
-    demoted: &[bool],
-) -> usize
-    requires { ⌜ Lends (now bytes) (now starts) (now tokens) (now live) (now demoted) × Room (now out) 0 (crunchedBody (lexicon (now live) (now demoted)) (now text)) ⌝ }
-    ensures { λ r. ⌜ Put (now (out .entry)) 0 (crunchedBody (lexicon (now (live .entry)) (now (demoted .entry))) (now (text .entry))) r (now (out .exit)) ⌝ }
+pub fn write_body(out: &mut [u8], text: &[u8], bytes: &[u8], index: &[u16], sets: Sets) -> usize
+    requires { ⌜ SpellsWords (now bytes) (now index) × Room (now out) 0 (crunchedBody (lexicon sets) (now text)) ⌝ }
+    ensures { λ r. ⌜ Put (now (out .entry)) 0 (crunchedBody (lexicon sets) (now (text .entry))) r (now (out .exit)) ⌝ }
 {
-    let known = survey::survey_body(text, live);
+    let last = behind_brace(text);
     let mut at: usize = 0;
     let mut mode = Mode::Plain;
     let mut n: usize = 0;
     while at < text.len() {
-        let m = step::step(
-            &text[at..],
-            mode,
-            at < known.last,
-            known.tsb,
-            bytes,
-            starts,
-            tokens,
-            live,
-            demoted,
-        );
+        let m = step::step(&text[at..], mode, at < last, bytes, index, sets);
         n = put_move(out, n, m);
         at += m.used;
         let next = m.mode;

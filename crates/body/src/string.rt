@@ -2,13 +2,14 @@
 use crate::moves;
 use crate::moves::Mode;
 use crate::moves::Move;
+use ascii::search;
+use ascii::search::Kind;
 use escapes::Escape;
-use escapes::places;
 ghost use mathlib.Core.Path.{_≡_};
 ghost use Prim.Native.Nat.{_<_};
 ghost use lib.ListN.{length};
-ghost use Rattle.tables.specs.Words.{SpellsWords};
-ghost use Rattle.body.specs.Lent.{Closes};
+ghost use Rattle.tables.specs.WordsHelpers.{SpellsWords};
+ghost use Rattle.body.specs.BraceHelpers.{Closes};
 ghost use Rattle.body.specs.Steps.{first, lettered as letteredOf, stringByte, stringStep};
 
 // a to z become 41 to 5A, A to Z become C1 to DA.
@@ -35,8 +36,8 @@ fn string_byte(b: u8) -> Move
 }
 
 // An escape, or a byte. A byte 22 that an escape makes ends nothing. Where no } follows, `closes` may be false.
-pub fn string_step(rest: &[u8], closes: bool, bytes: &[u8], starts: &[u16], tokens: &[u8]) -> Move
-    requires { ⌜ (0 < length (now rest)) × Closes closes (now rest) × SpellsWords (now bytes) (now starts) (now tokens) ⌝ }
+pub fn string_step(rest: &[u8], closes: bool, bytes: &[u8], index: &[u16]) -> Move
+    requires { ⌜ (0 < length (now rest)) × Closes closes (now rest) × SpellsWords (now bytes) (now index) ⌝ }
     ensures { λ r. ⌜ r ≡ stringStep (now (rest .entry)) ⌝ }
 {
     let b = rest[0];
@@ -44,22 +45,22 @@ pub fn string_step(rest: &[u8], closes: bool, bytes: &[u8], starts: &[u16], toke
         return string_byte(b);
     }
     if closes {
-        return brace_step(rest, bytes, starts, tokens);
+        return brace_step(rest, bytes, index);
     }
     string_byte(b)
 }
 
 // A {, the first } behind it and a known escape between them; otherwise the { is a byte like others.
-fn brace_step(rest: &[u8], bytes: &[u8], starts: &[u16], tokens: &[u8]) -> Move
-    requires { ⌜ (0 < length (now rest)) × (first (now rest) ≡ 0x7B) × SpellsWords (now bytes) (now starts) (now tokens) ⌝ }
+fn brace_step(rest: &[u8], bytes: &[u8], index: &[u16]) -> Move
+    requires { ⌜ (0 < length (now rest)) × (first (now rest) ≡ 0x7B) × SpellsWords (now bytes) (now index) ⌝ }
     ensures { λ r. ⌜ r ≡ stringStep (now (rest .entry)) ⌝ }
 {
-    let n = places::before_byte(&rest[1..], 0x7D);
+    let n = search::before(&rest[1..], Kind::Is(0x7D));
     if rest.len() - 1 <= n {
         return string_byte(0x7B);
     }
     let to = n + 1;
-    match escapes::resolve_petscii_escape(&rest[1..to], bytes, starts, tokens) {
+    match escapes::resolve_petscii_escape(&rest[1..to], bytes, index) {
         Escape::Byte { byte, count } => Move {
             prefixed: false,
             byte,

@@ -1,36 +1,42 @@
 -- `body::write_body` meets its contract.
 -- Assumes nothing.
 use Prim.Native.Nat.{_-_}
+use denote.Ref.{now}
 use lib.ListN.{length}
+use mir.Syntax.{w64}
+use mir.Val.{Fits}
 use Rattle.body.specs.Lexicon.{lexicon}
 use Rattle.body.proofs.Beginnings.{document-proper}
-use Rattle.body.proofs.Writing.{Owed, owed-start, owed-room, owed-turn, owed-end, rest-some, step-fits, step-less}
-use Rattle.body.proofs.Steps.{closes-known, tsb-known}
-use Rattle.body.proofs.Named.{the}
+use Rattle.body.proofs.Writing.{Owed, owed-start, owed-room, owed-turn, owed-end, rest-some, owed-fits, owed-less}
+use Rattle.body.proofs.Steps.{closes-known}
+use native.Mathlib.Omega.{arith}
 use borrow.Author.Needs.{needs}
 use Rattle.body.proofs.write_body.Statement.{statement}
 use Rattle.body.proofs.write_body.Tie as tie
 
 abbrev Inv-loop : tie.InvT-loop
-Inv-loop out₀ text bytes starts tokens live demoted known at₀ mode₀ n₀ out at mode n = Owed (lexicon live demoted) text out₀ mode out n at
+Inv-loop out₀ text bytes index sets last at₀ mode₀ n₀ out at mode n = Owed (lexicon sets) text out₀ mode out n at
 
 abbrev μ-loop : tie.MeasureT-loop
-μ-loop out₀ text bytes starts tokens live demoted known at₀ mode₀ n₀ out at mode n = length text - at
+μ-loop out₀ text bytes index sets last at₀ mode₀ n₀ out at mode n = length text - at
+
+text-fits : (c : tie.Start Inv-loop μ-loop) → Fits w64 (length (now (c .args .text)))
+text-fits c = record { fits = omega arith }
 
 loop-holds : tie.Need-loop-holds Inv-loop μ-loop
 loop-holds c = search owed-start
 
 step-requires : tie.Need-step-requires Inv-loop μ-loop
-step-requires c κs = search (rest-some, closes-known, tsb-known)
+step-requires c κs = search (rest-some, closes-known)
 
 put-move-requires : tie.Need-put-move-requires Inv-loop μ-loop
 put-move-requires c κs = search (owed-room, document-proper)
 
 add-at : tie.Need-add-at Inv-loop μ-loop
-add-at c = search (step-fits, document-proper, the (tie.Start Inv-loop μ-loop) (search) .good .1 .0 .0)
+add-at c = search (owed-fits, document-proper, text-fits (search))
 
 loop-less : tie.Need-loop-less Inv-loop μ-loop
-loop-less c = search (step-less, document-proper)
+loop-less c = search (owed-less, document-proper)
 
 loop-again : tie.Need-loop-again Inv-loop μ-loop
 loop-again c = search (owed-turn, document-proper)

@@ -1,7 +1,7 @@
 -- `body::data::data_quote_step` meets its contract.
 -- Assumes nothing.
 use Rattle.body.proofs.StringSteps.{quoted-quote, quoted-other}
-use Rattle.body.proofs.Named.{the}
+use Rattle.steps.proofs.The.{the}
 use borrow.Author.Needs.{needs}
 use Rattle.body.proofs.data.data_quote_step.Statement.{statement}
 use Rattle.body.proofs.data.data_quote_step.Tie as tie

@@ -1,7 +1,7 @@
 -- `body::data::data_step` meets its contract.
 -- Assumes nothing.
 use Rattle.body.proofs.StringSteps.{data-quote, data-colon, data-other}
-use Rattle.body.proofs.Named.{the}
+use Rattle.steps.proofs.The.{the}
 use borrow.Author.Needs.{needs}
 use Rattle.body.proofs.data.data_step.Statement.{statement}
 use Rattle.body.proofs.data.data_step.Tie as tie

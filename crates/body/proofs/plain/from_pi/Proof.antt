@@ -1,7 +1,7 @@
 -- `body::plain::from_pi` meets its contract.
 -- Assumes nothing.
 use Rattle.body.proofs.PlainSteps.{other-pi, other-no-pi, other-short}
-use Rattle.body.proofs.Named.{the}
+use Rattle.steps.proofs.The.{the}
 use borrow.Author.Needs.{needs}
 use Rattle.body.proofs.plain.from_pi.Statement.{statement}
 use Rattle.body.proofs.plain.from_pi.Tie as tie

@@ -1,7 +1,7 @@
 -- `body::plain::opened` meets its contract.
 -- Assumes nothing.
 use Rattle.body.proofs.PlainSteps.{opened-remark, opened-data, opened-plain}
-use Rattle.body.proofs.Named.{the}
+use Rattle.steps.proofs.The.{the}
 use Rattle.body.proofs.plain.opened.Statement.{statement}
 use Rattle.body.proofs.plain.opened.Tie as tie
 

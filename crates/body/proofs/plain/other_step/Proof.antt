@@ -1,7 +1,7 @@
 -- `body::plain::other_step` meets its contract.
 -- Assumes nothing.
 use Rattle.body.proofs.PlainSteps.{other-print, other-raised}
-use Rattle.body.proofs.Named.{the}
+use Rattle.steps.proofs.The.{the}
 use borrow.Author.Needs.{needs}
 use Rattle.body.proofs.plain.other_step.Statement.{statement}
 use Rattle.body.proofs.plain.other_step.Tie as tie

@@ -2,7 +2,7 @@
 -- Assumes nothing.
 use Rattle.body.proofs.Beginnings.{document-proper}
 use Rattle.body.proofs.PlainSteps.{plain-quote, other-operator, other-none, letter-known}
-use Rattle.body.proofs.Named.{the}
+use Rattle.steps.proofs.The.{the}
 use borrow.Author.Needs.{needs}
 use Rattle.body.proofs.plain.plain_step.Statement.{statement}
 use Rattle.body.proofs.plain.plain_step.Tie as tie

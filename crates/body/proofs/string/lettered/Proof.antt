@@ -2,7 +2,7 @@
 -- Assumes nothing.
 use native.Mathlib.Omega.{arith}
 use Rattle.body.proofs.StringSteps.{lettered-small, lettered-capital, lettered-other, capital-to, raised-from}
-use Rattle.body.proofs.Named.{the}
+use Rattle.steps.proofs.The.{the}
 use borrow.Author.Needs.{needs}
 use Rattle.body.proofs.string.lettered.Statement.{statement}
 use Rattle.body.proofs.string.lettered.Tie as tie

@@ -1,7 +1,7 @@
 -- `body::string::string_byte` meets its contract.
 -- Assumes nothing.
 use Rattle.body.proofs.StringSteps.{string-quote, string-other}
-use Rattle.body.proofs.Named.{the}
+use Rattle.steps.proofs.The.{the}
 use borrow.Author.Needs.{needs}
 use Rattle.body.proofs.string.string_byte.Statement.{statement}
 use Rattle.body.proofs.string.string_byte.Tie as tie

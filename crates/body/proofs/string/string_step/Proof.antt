@@ -1,7 +1,7 @@
 -- `body::string::string_step` meets its contract.
 -- Assumes nothing.
 use Rattle.body.proofs.StringSteps.{brace-last, brace-none}
-use Rattle.body.proofs.Named.{the}
+use Rattle.steps.proofs.The.{the}
 use borrow.Author.Needs.{needs}
 use Rattle.body.proofs.string.string_step.Statement.{statement}
 use Rattle.body.proofs.string.string_step.Tie as tie
