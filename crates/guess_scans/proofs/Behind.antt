@@ -2,21 +2,31 @@
 -- Assumes nothing.
 use Prim.Native.Nat.{ℕ, zero, suc, _+_, _-_, _≤_, _<_}
 use mathlib.Core.Path.{_≡_, refl, sym, ap, _∙_}
-use mathlib.Core.Bool.{Bool, true, false}
+use mathlib.Core.Bool.{Bool, true, false, not}
 use mathlib.Core.List.{List, [], _∷_}
-use native.Mathlib.Numerals.{add-one}
 use native.Mathlib.Omega.{arith}
 use lib.Dec.{eqb}
-use lib.ListN.{length, getD, take, drop, drop-of-length-le, length-drop}
-use lib.Seq.{drop-cons, drop-drop}
+use lib.ListN.{length, getD, take, drop, length-drop, drop-of-length-le}
+use lib.Seq.{drop-drop}
 use borrow.Author.Tests.{eq-eqb, ne-eqb}
-use Rattle.escapes.specs.Places.{equals, before, behindLast}
-use Rattle.escapes.proofs.Placing.{none-behind}
-use Rattle.lines.specs.Front.{startsWith, frontOf}
-use Rattle.lines.specs.declared.front.Kind.{Kind}
-use Rattle.lines.proofs.Fronts.{front-le, starts-long}
-use Rattle.lines.proofs.Parts.{tail, taken, left, either}
-use Rattle.guess_scans.specs.Ahead.{closing, behindList, behindBlanks, assigns}
+use mir.Syntax.{w64}
+use mir.Val.{Fits}
+use Rattle.ascii.specs.Search.{equals, ofKind, startsWith, front, before, past}
+use Rattle.ascii.specs.declared.search.Kind.{Kind}
+use Rattle.ascii.proofs.Searching.{tail, here, starts-long}
+use Rattle.lines.proofs.Parts.{taken, left, either}
+use Rattle.guess_scans.specs.Ahead.{closing, behindList, assigns}
+use Rattle.guess_scans.specs.ScanHelpers.{NoneFrom}
+
+-- what is left of a text from a place on, as it is lent
+abbrev pub rest : List ℕ → ℕ → List ℕ
+rest t a = take (length t - a) (drop a t)
+
+pub rest-long : (t : List ℕ) (a : ℕ) → length (rest t a) ≡ length t - a
+rest-long t a = ap length (tail t a) ∙ length-drop a t
+
+pub rest-some : (t : List ℕ) {a : ℕ} → a < length t → 0 < length (rest t a)
+rest-some t {a} h = omega (arith, rest-long t a)
 
 -- ---- a byte of a list
 
@@ -48,41 +58,39 @@ pub record Listed (s : List ℕ) (depth i : ℕ) : Type 0 where
 pub listed-start : (s : List ℕ) → Listed s 0 0
 listed-start s = record { within = omega arith; shallow = omega arith; gives = omega arith }
 
-module _ {s : List ℕ} {depth i : ℕ} (k : Listed s depth i) where
-  pub listed-end : length s ≤ i → i ≡ closing 0 s
+module _ {s : List ℕ} {depth i : ℕ} where
+  pub listed-end : length s ≤ i → Listed s depth i → i ≡ closing 0 s
   unfolding closing
-  listed-end h = let e : closing depth (drop i s) ≡ 0 = rw (drop-of-length-le s h) in omega arith
+  listed-end h k = let e : closing depth (drop i s) ≡ 0 = rw (drop-of-length-le s h) in omega arith
 
-  module _ (h : i < length s) where
-    here : drop i s ≡ getD s i 0 ∷ drop (i + 1) s
-    here = rw add-one (drop-cons s i 0 h)
+  pub listed-closed : depth ≡ 0 → getD s i 0 ≡ 0x29 → i < length s → Listed s depth i → i + 1 ≡ closing 0 s
+  listed-closed z e h k =
+      let c : closing depth (drop i s) ≡ 1 = ap (closing depth) (here s i h) ∙ ap (λ (d : ℕ). closing d (getD s i 0 ∷ drop (i + 1) s)) z ∙ close-last _ _ e in
+      omega arith
 
-    pub listed-closed : getD s i 0 ≡ 0x29 → depth ≡ 0 → i + 1 ≡ closing 0 s
-    listed-closed e z =
-        let c : closing depth (drop i s) ≡ 1 = ap (closing depth) here ∙ ap (λ (d : ℕ). closing d (getD s i 0 ∷ drop (i + 1) s)) z ∙ close-last _ _ e in
-        omega arith
+  pub listed-up : (depth ≡ 0 → ⊥) → getD s i 0 ≡ 0x29 → i < length s → Listed s depth i → Listed s (depth - 1) (i + 1)
+  listed-up n e h k =
+      let d : depth ≡ suc (depth - 1) = omega arith in
+      let c : closing depth (drop i s) ≡ suc (closing (depth - 1) (drop (i + 1) s)) =
+      ap (closing depth) (here s i h) ∙ ap (λ (x : ℕ). closing x (getD s i 0 ∷ drop (i + 1) s)) d ∙ close-one _ _ (depth - 1) e in
+      record { within = omega arith; shallow = omega arith; gives = omega arith }
 
-    pub listed-up : getD s i 0 ≡ 0x29 → (depth ≡ 0 → ⊥) → Listed s (depth - 1) (i + 1)
-    listed-up e n =
-        let d : depth ≡ suc (depth - 1) = omega arith in
-        let c : closing depth (drop i s) ≡ suc (closing (depth - 1) (drop (i + 1) s)) =
-        ap (closing depth) here ∙ ap (λ (x : ℕ). closing x (getD s i 0 ∷ drop (i + 1) s)) d ∙ close-one _ _ (depth - 1) e in
-        record { within = omega arith; shallow = omega arith; gives = omega arith }
+  pub listed-down : getD s i 0 ≡ 0x28 → i < length s → Listed s depth i → Listed s (depth + 1) (i + 1)
+  listed-down e h k =
+      let d : depth + 1 ≡ suc depth = omega arith in
+      let c : closing depth (drop i s) ≡ suc (closing (depth + 1) (drop (i + 1) s)) =
+      ap (closing depth) (here s i h) ∙ open-one _ _ depth (λ f. omega arith) e ∙ ap (λ (x : ℕ). suc (closing x (drop (i + 1) s))) (sym d) in
+      record { within = omega arith; shallow = omega arith; gives = omega arith }
 
-    module _ (n : getD s i 0 ≡ 0x29 → ⊥) where
-      pub listed-down : getD s i 0 ≡ 0x28 → Listed s (depth + 1) (i + 1)
-      listed-down e =
-          let d : depth + 1 ≡ suc depth = omega arith in
-          let c : closing depth (drop i s) ≡ suc (closing (depth + 1) (drop (i + 1) s)) =
-          ap (closing depth) here ∙ open-one _ _ depth n e ∙ ap (λ (x : ℕ). suc (closing x (drop (i + 1) s))) (sym d) in
-          record { within = omega arith; shallow = omega arith; gives = omega arith }
+  pub listed-on : (getD s i 0 ≡ 0x29 → ⊥) → (getD s i 0 ≡ 0x28 → ⊥) → i < length s → Listed s depth i → Listed s depth (i + 1)
+  listed-on n m h k =
+      let c : closing depth (drop i s) ≡ suc (closing depth (drop (i + 1) s)) = ap (closing depth) (here s i h) ∙ keep _ _ depth n m in
+      record { within = omega arith; shallow = omega arith; gives = omega arith }
 
-      pub listed-on : (getD s i 0 ≡ 0x28 → ⊥) → Listed s depth (i + 1)
-      listed-on m =
-          let c : closing depth (drop i s) ≡ suc (closing depth (drop (i + 1) s)) = ap (closing depth) here ∙ keep _ _ depth n m in
-          record { within = omega arith; shallow = omega arith; gives = omega arith }
+  pub listed-above : 0x29 < getD s i 0 → i < length s → Listed s depth i → Listed s depth (i + 1)
+  listed-above a h k = listed-on (λ e. omega arith) (λ e. omega arith) h k
 
-pub closing-le : (s : List ℕ) (d : ℕ) → closing d s ≤ length s
+closing-le : (s : List ℕ) (d : ℕ) → closing d s ≤ length s
 unfolding closing
 closing-le [] d = omega arith
 closing-le (b ∷ s) d = go (eqb b 0x29) (eqb b 0x28) (closing-le s) d
@@ -96,90 +104,68 @@ closing-le (b ∷ s) d = go (eqb b 0x29) (eqb b 0x28) (closing-le s) d
 
 -- ---- an assignment
 
--- what is left of a text from a place on, as it is lent
-abbrev pub rest : List ℕ → ℕ → List ℕ
-rest t a = take (length t - a) (drop a t)
+-- a text that starts with a byte has one
+pub opens : (b : ℕ) (s : List ℕ) {x : Bool} → x ≡ true → x ≡ startsWith b s → 1 ≤ length s
+opens b s e q = starts-long b s (sym q ∙ e)
 
-pub rest-long : (t : List ℕ) (a : ℕ) → length (rest t a) ≡ length t - a
-rest-long t a = ap length (tail t a) ∙ length-drop a t
+pub list-within : (s : List ℕ) {n : ℕ} {x : Bool} → n ≡ closing 0 (rest s 1) → x ≡ true → x ≡ startsWith 0x28 s → 1 + n ≤ length s
+list-within s c e q = omega (arith, closing-le (rest s 1) 0, rest-long s 1, opens 0x28 s e q)
 
-module _ (blank : Kind) (t : List ℕ) {a : ℕ} (p : a ≡ frontOf blank t) where
-  pub blanks-within : a ≤ length t
-  blanks-within = omega (arith, front-le blank t)
+pub list-fits : (t : List ℕ) (a : ℕ) {n : ℕ} {x : Bool} → n ≡ closing 0 (rest (rest t a) 1) → x ≡ true → x ≡ startsWith 0x28 (rest t a) → Fits w64 (length t) → Fits w64 (1 + n)
+list-fits t a c e q f = record { fits = omega (arith, f .fits, list-within (rest t a) c e q, rest-long t a) }
 
-  passed : rest t a ≡ behindBlanks blank t
-  unfolding behindBlanks
-  passed = tail t a ∙ ap (λ (n : ℕ). drop n t) p
+module _ (blank : Kind) (t : List ℕ) {a : ℕ} where
+  passed : a ≡ front (ofKind blank) t → rest t a ≡ past (ofKind blank) t
+  passed p = tail t a ∙ ap (λ (n : ℕ). drop n t) p
 
-  module _ {x : Bool} (q : x ≡ startsWith 0x28 (rest t a)) where
-    told : startsWith 0x28 (behindBlanks blank t) ≡ x
-    told = sym (q ∙ ap (startsWith 0x28) passed)
+  told : {x : Bool} → x ≡ startsWith 0x28 (rest t a) → a ≡ front (ofKind blank) t → startsWith 0x28 (past (ofKind blank) t) ≡ x
+  told q p = sym (q ∙ ap (startsWith 0x28) (passed p))
 
-    pub assigns-plain : {y : Bool} → x ≡ false → y ≡ startsWith 0x3D (rest t a) → y ≡ assigns blank t
-    unfolding assigns
-    assigns-plain e r = r ∙ ap (startsWith 0x3D) passed ∙ sym (left _ _ (told ∙ e))
+  pub assigns-plain : {x y : Bool} → y ≡ startsWith 0x3D (rest t a) → x ≡ false → x ≡ startsWith 0x28 (rest t a) → a ≡ front (ofKind blank) t → y ≡ assigns blank t
+  unfolding assigns
+  assigns-plain r e q p = r ∙ ap (startsWith 0x3D) (passed p) ∙ sym (left _ _ (told q p ∙ e))
 
-    module _ (e : x ≡ true) where
-      pub list-opens : 1 ≤ length (rest t a)
-      list-opens = starts-long 0x28 (rest t a) (sym q ∙ e)
-
-      module _ {n : ℕ} (c : n ≡ closing 0 (rest (rest t a) 1)) where
-        pub list-within : 1 + n ≤ length (rest t a)
-        list-within = omega (arith, closing-le (rest (rest t a) 1) 0, rest-long (rest t a) 1, list-opens)
-
-        pub list-small : 1 + n ≤ length t
-        list-small = omega (arith, list-within, rest-long t a)
-
-        listed : rest (rest t a) (1 + n) ≡ behindList (behindBlanks blank t)
-        unfolding behindList
-        listed =
-            let i : closing 0 (rest (rest t a) 1) ≡ closing 0 (drop 1 (behindBlanks blank t)) = ap (closing 0) (tail (rest t a) 1 ∙ ap (drop 1) passed) in
-            let m : 1 + n ≡ suc (closing 0 (drop 1 (behindBlanks blank t))) = omega arith in
-            tail (rest t a) (1 + n) ∙ ap (λ (k : ℕ). drop k (rest t a)) m ∙ ap (drop (suc (closing 0 (drop 1 (behindBlanks blank t))))) passed
-
-        module _ {m : ℕ} (f : m ≡ frontOf blank (rest (rest t a) (1 + n))) where
-          pub more-within : m ≤ length (rest (rest t a) (1 + n))
-          more-within = omega (arith, front-le blank (rest (rest t a) (1 + n)))
-
-          behind : rest (rest (rest t a) (1 + n)) m ≡ behindBlanks blank (behindList (behindBlanks blank t))
-          unfolding behindBlanks
-          behind =
-              tail (rest (rest t a) (1 + n)) m ∙ ap (λ (k : ℕ). drop k (rest (rest t a) (1 + n))) f
-              ∙ ap (λ (l : List ℕ). drop (frontOf blank l) l) listed
-
-          pub assigns-list : {y : Bool} → y ≡ startsWith 0x3D (rest (rest (rest t a) (1 + n)) m) → y ≡ assigns blank t
-          unfolding assigns
-          assigns-list r = r ∙ ap (startsWith 0x3D) behind ∙ sym (taken _ _ (told ∙ e))
+  pub assigns-list : {x y : Bool} {n m : ℕ} → y ≡ startsWith 0x3D (rest (rest (rest t a) (1 + n)) m) → m ≡ front (ofKind blank) (rest (rest t a) (1 + n))
+      → n ≡ closing 0 (rest (rest t a) 1) → x ≡ true → x ≡ startsWith 0x28 (rest t a) → a ≡ front (ofKind blank) t → y ≡ assigns blank t
+  unfolding assigns behindList
+  assigns-list {x} {y} {n} {m} r f c e q p =
+      let u = past (ofKind blank) t in
+      let i : closing 0 (rest (rest t a) 1) ≡ closing 0 (drop 1 u) = ap (closing 0) (tail (rest t a) 1 ∙ ap (drop 1) (passed p)) in
+      let k : 1 + n ≡ suc (closing 0 (drop 1 u)) = omega arith in
+      let listed : rest (rest t a) (1 + n) ≡ behindList u =
+      tail (rest t a) (1 + n) ∙ ap (λ (j : ℕ). drop j (rest t a)) k ∙ ap (drop (suc (closing 0 (drop 1 u)))) (passed p) in
+      let behind : rest (rest (rest t a) (1 + n)) m ≡ past (ofKind blank) (behindList u) =
+      tail (rest (rest t a) (1 + n)) m ∙ ap (λ (j : ℕ). drop j (rest (rest t a) (1 + n))) f ∙ ap (past (ofKind blank)) listed in
+      r ∙ ap (startsWith 0x3D) behind ∙ sym (taken _ _ (told q p ∙ e))
 
 -- ---- no assignment where no = follows
 
 -- a text without a byte does not start with it
 starts-without : (x : ℕ) (s : List ℕ) → before (equals x) s ≡ length s → startsWith x s ≡ false
-unfolding before startsWith
+unfolding before startsWith front
 starts-without x [] h = refl
 starts-without x (b ∷ s) h = go (eqb b x) h
   where
-    go : (r : Bool) → elim r [ true ↦ 0 | false ↦ suc (before (equals x) s) ] ≡ suc (length s) → r ≡ false
+    go : (r : Bool) → elim (not r) [ true ↦ suc (before (equals x) s) | false ↦ 0 ] ≡ suc (length s) → r ≡ false
     go true e = absurd (omega arith)
     go false e = refl
 
-module _ (line : List ℕ) {last k : ℕ} (p : last ≡ behindLast (equals 0x3D) line) (h : last ≤ k) where
+module _ (line : List ℕ) {last k : ℕ} (p : NoneFrom line last) (h : last ≤ k) where
   starts-later : (m : ℕ) → k ≤ m → startsWith 0x3D (drop m line) ≡ false
-  starts-later m l = starts-without 0x3D (drop m line) (none-behind (equals 0x3D) line m (omega arith))
+  starts-later m l = starts-without 0x3D (drop m line) (p .none m (omega arith))
 
-  blanks-later : (blank : Kind) (m : ℕ) → k ≤ m → startsWith 0x3D (behindBlanks blank (drop m line)) ≡ false
-  unfolding behindBlanks
+  blanks-later : (blank : Kind) (m : ℕ) → k ≤ m → startsWith 0x3D (past (ofKind blank) (drop m line)) ≡ false
   blanks-later blank m l =
-      let a : ℕ = frontOf blank (drop m line) in
+      let a : ℕ = front (ofKind blank) (drop m line) in
       ap (startsWith 0x3D) (drop-drop a m line) ∙ starts-later (m + a) (omega arith)
 
   -- either = that is looked for would stand at a place from k on
   pub none-assigned : (blank : Kind) → assigns blank (drop k line) ≡ false
-  unfolding assigns behindBlanks behindList
+  unfolding assigns behindList
   none-assigned blank =
-      let a : ℕ = frontOf blank (drop k line) in
+      let a : ℕ = front (ofKind blank) (drop k line) in
       let n : ℕ = suc (closing 0 (drop 1 (drop a (drop k line)))) in
       let e : drop n (drop a (drop k line)) ≡ drop (k + a + n) line = ap (drop n) (drop-drop a k line) ∙ drop-drop n (k + a) line in
       either (λ (x : Bool). x ≡ false) (startsWith 0x28 (drop a (drop k line))) _ _
-      (λ _. ap (λ (l : List ℕ). startsWith 0x3D (behindBlanks blank l)) e ∙ blanks-later blank (k + a + n) (omega arith))
+      (λ _. ap (λ (l : List ℕ). startsWith 0x3D (past (ofKind blank) l)) e ∙ blanks-later blank (k + a + n) (omega arith))
       (λ _. blanks-later blank k (omega arith))

@@ -64,9 +64,12 @@ none-begun t [] k i n = refl
 none-begun t (e ∷ es) k i n =
     left _ _ (not-begun (e .word) t (and-left (initial (e .word)) _ i) n) ∙ none-begun t es (suc k) (and-right (initial (e .word)) _ i) n
 
-pub no-word : (t : List ℕ) → isLetter (getD t 0 0) ≡ false → Nothing ≡ wordIn tsbWords t
+no-word : (t : List ℕ) → isLetter (getD t 0 0) ≡ false → Nothing ≡ wordIn tsbWords t
 unfolding wordIn
 no-word t n = sym (none-begun t tsbWords 0 tsb-initials n)
+
+pub no-letter : (t : List ℕ) {x : Bool} → x ≡ false → x ≡ isLetter (getD t 0 0) → Nothing ≡ wordIn tsbWords t
+no-letter t e p = no-word t (sym p ∙ e)
 
 pub no-word-empty : (t : List ℕ) → length t ≡ 0 → Nothing ≡ wordIn tsbWords t
 unfolding between upper

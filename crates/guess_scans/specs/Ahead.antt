@@ -6,8 +6,8 @@ use mathlib.Core.Bool.{Bool, true, false}
 use mathlib.Core.List.{List, [], _∷_}
 use lib.Dec.{eqb}
 use lib.ListN.{drop}
-use Rattle.lines.specs.Front.{startsWith, frontOf}
-use Rattle.lines.specs.declared.front.Kind.{Kind}
+use Rattle.ascii.specs.Search.{ofKind, startsWith, front, past}
+use Rattle.ascii.specs.declared.search.Kind.{Kind}
 
 -- how many bytes a list takes behind its opening parenthesis, so many lists being open within it: through the closing one, or to the
 -- end; quotes count for nothing
@@ -24,14 +24,9 @@ unfoldable pub behindList : List ℕ → List ℕ
 unfolding closing
 behindList t = drop (suc (closing 0 (drop 1 t))) t
 
--- what follows the blanks in front
-unfoldable pub behindBlanks : Kind → List ℕ → List ℕ
-unfolding frontOf
-behindBlanks blank t = drop (frontOf blank t) t
-
 -- an assignment follows a name: =, or a list in parentheses and =, with blanks before each
 unfoldable pub assigns : Kind → List ℕ → Bool
-unfolding startsWith behindBlanks behindList
+unfolding startsWith front behindList
 assigns blank t =
-    let r = behindBlanks blank t in
-    elim (startsWith 0x28 r) [ true ↦ startsWith 0x3D (behindBlanks blank (behindList r)) | false ↦ startsWith 0x3D r ]
+    let r = past (ofKind blank) t in
+    elim (startsWith 0x28 r) [ true ↦ startsWith 0x3D (past (ofKind blank) (behindList r)) | false ↦ startsWith 0x3D r ]

@@ -1,4 +1,5 @@
 pub mod Ahead
 pub mod Evidence
 pub mod Places
+pub mod ScanHelpers
 pub mod Variables

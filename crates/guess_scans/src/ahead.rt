@@ -1,25 +1,25 @@
 // What stands at a place and behind it: a TSB word, a list in parentheses, an assignment.
-use lines::front;
-use lines::front::Kind;
+use ascii::search;
+use ascii::search::Kind;
 use words::Match;
 ghost use mathlib.Core.Path.{_≡_};
 ghost use Rattle.words.specs.Find.{wordIn};
 ghost use Rattle.tables.specs.Tsb.{tsbWords};
-ghost use Rattle.tables.specs.Words.{SpellsWords};
+ghost use Rattle.tables.specs.WordsHelpers.{SpellsWords};
 ghost use Rattle.guess_scans.specs.Ahead.{closing as closingOf, assigns as assignsOf};
 
 // The TSB word that a text begins with. Each begins with a letter, so any other byte is not looked up.
-pub fn tsb_word(text: &[u8], bytes: &[u8], starts: &[u16], tokens: &[u8]) -> Match
-    requires { ⌜ SpellsWords (now bytes) (now starts) (now tokens) ⌝ }
+pub fn tsb_word(text: &[u8], bytes: &[u8], index: &[u16]) -> Match
+    requires { ⌜ SpellsWords (now bytes) (now index) ⌝ }
     ensures { λ r. ⌜ r ≡ wordIn tsbWords (now (text .entry)) ⌝ }
 {
     if text.len() == 0 {
         return Match::Nothing;
     }
-    if !ascii::is_letter(text[0]) {
-        return Match::Nothing;
+    if ascii::is_letter(text[0]) {
+        return tables::matching::match_tsb(text, bytes, index);
     }
-    tables::matching::match_tsb(bytes, starts, tokens, text)
+    Match::Nothing
 }
 
 // How many bytes a list takes behind its opening parenthesis: up to the closing one, or to the end. Most bytes are above both: they
@@ -57,13 +57,13 @@ fn closing(text: &[u8]) -> usize
 pub fn assigns(text: &[u8], blank: Kind) -> bool
     ensures { λ r. ⌜ r ≡ assignsOf blank (now (text .entry)) ⌝ }
 {
-    let blanks = front::front(text, blank);
+    let blanks = search::front(text, blank);
     let rest = &text[blanks..];
-    if !front::starts_with(rest, 0x28) {
-        return front::starts_with(rest, 0x3D);
+    if search::starts_with(rest, 0x28) {
+        let list = 1 + closing(&rest[1..]);
+        let behind = &rest[list..];
+        let more = search::front(behind, blank);
+        return search::starts_with(&behind[more..], 0x3D);
     }
-    let list = 1 + closing(&rest[1..]);
-    let behind = &rest[list..];
-    let more = front::front(behind, blank);
-    front::starts_with(&behind[more..], 0x3D)
+    search::starts_with(rest, 0x3D)
 }

@@ -2,21 +2,21 @@
 use crate::ahead;
 use crate::place;
 use crate::place::Place;
-use lines::front;
-use lines::front::Kind;
+use ascii::search;
+use ascii::search::Kind;
 use words::Match;
 ghost use mathlib.Core.Path.{_≡_};
 ghost use Prim.Native.Nat.{_≤_, _<_};
 ghost use lib.ListN.{length};
-ghost use Rattle.tables.specs.Words.{SpellsWords};
-ghost use Rattle.guess_scans.specs.Evidence.{isElse, assigned as assignedOf, called, proves as provesOf, wordProves, stepOf, plainStep, numberLength, lineEvidence};
+ghost use Rattle.tables.specs.WordsHelpers.{SpellsWords};
+ghost use Rattle.guess_scans.specs.Evidence.{isElse, assigned as assignedOf, called, proves as provesOf, wordProves, wordStep, statementStep, evidenceStep, numberLength, lineEvidence};
 
-pub enum Step {
+pub enum EvidenceStep {
     // A TSB word that proves it.
     Proved,
     // A remark: the rest of the line counts for nothing.
     Remark,
-    Move { used: usize, place: Place },
+    On { used: usize, place: Place },
 }
 
 // Whether a word of so many bytes is ELSE.
@@ -33,10 +33,10 @@ fn is_else(used: usize, text: &[u8]) -> bool
 fn assigned(text: &[u8]) -> bool
     ensures { λ r. ⌜ r ≡ assignedOf (now (text .entry)) ⌝ }
 {
-    if front::starts_with(text, 0x25) {
+    if search::starts_with(text, 0x25) {
         return ahead::assigns(&text[1..], Kind::White);
     }
-    if front::starts_with(text, 0x24) {
+    if search::starts_with(text, 0x24) {
         return ahead::assigns(&text[1..], Kind::White);
     }
     ahead::assigns(text, Kind::White)
@@ -46,8 +46,8 @@ fn assigned(text: &[u8]) -> bool
 fn is_called(text: &[u8]) -> bool
     ensures { λ r. ⌜ r ≡ called (now (text .entry)) ⌝ }
 {
-    let blanks = front::front(text, Kind::White);
-    front::starts_with(&text[blanks..], 0x28)
+    let blanks = search::front(text, Kind::White);
+    search::starts_with(&text[blanks..], 0x28)
 }
 
 // Whether a TSB word of so many bytes in front of a text proves that the text is TSB.
@@ -65,11 +65,11 @@ fn proves(start: bool, text: &[u8], used: usize) -> bool
 }
 
 // Whether a TSB word stands in front of a text, and proves that the text is TSB.
-fn word_proves(place: Place, text: &[u8], bytes: &[u8], starts: &[u16], tokens: &[u8]) -> bool
-    requires { ⌜ SpellsWords (now bytes) (now starts) (now tokens) ⌝ }
+fn word_proves(place: Place, text: &[u8], bytes: &[u8], index: &[u16]) -> bool
+    requires { ⌜ SpellsWords (now bytes) (now index) ⌝ }
     ensures { λ r. ⌜ r ≡ wordProves place (now (text .entry)) ⌝ }
 {
-    match ahead::tsb_word(text, bytes, starts, tokens) {
+    match ahead::tsb_word(text, bytes, index) {
         Match::Word {
             index: _,
             used,
@@ -79,76 +79,84 @@ fn word_proves(place: Place, text: &[u8], bytes: &[u8], starts: &[u16], tokens: 
     }
 }
 
-fn moved(used: usize, place: Place) -> Step
-    ensures { λ r. ⌜ r ≡ Step.Move used place ⌝ }
+fn on(used: usize, place: Place) -> EvidenceStep
+    ensures { λ r. ⌜ r ≡ EvidenceStep.On used place ⌝ }
 {
-    Step::Move { used, place }
+    EvidenceStep::On { used, place }
 }
 
-// A step outside strings and DATA.
-fn plain_step(place: Place, text: &[u8], bytes: &[u8], starts: &[u16], tokens: &[u8]) -> Step
-    requires { ⌜ SpellsWords (now bytes) (now starts) (now tokens) × (0 < length (now text)) ⌝ }
-    ensures { λ r. ⌜ r ≡ plainStep place (now (text .entry)) ⌝ }
+// A step on through a statement.
+fn word_step(place: Place, text: &[u8], bytes: &[u8], index: &[u16]) -> EvidenceStep
+    requires { ⌜ SpellsWords (now bytes) (now index) × (0 < length (now text)) ⌝ }
+    ensures { λ r. ⌜ r ≡ wordStep place (now (text .entry)) ⌝ }
 {
     let b = text[0];
-    // A space begins no word: it is asked for first, since no byte is more frequent.
-    if b == 0x20 {
-        return moved(1, place);
-    }
-    if b == 0x22 {
-        return moved(1, Place::Quoted);
-    }
-    if words::begins(b"REM", text) {
-        return Step::Remark;
-    }
-    if words::begins(b"DATA", text) {
-        return moved(4, Place::Data);
-    }
     if b == 0x3A {
-        return moved(1, Place::Start);
+        return on(1, Place::Start);
     }
-    if front::is_kind(b, Kind::White) {
-        return moved(1, place);
+    if search::is_kind(b, Kind::White) {
+        return on(1, place);
     }
-    if word_proves(place, text, bytes, starts, tokens) {
-        return Step::Proved;
+    if word_proves(place, text, bytes, index) {
+        return EvidenceStep::Proved;
     }
-    moved(1, Place::Within)
+    on(1, Place::Within)
 }
 
-fn next_step(place: Place, text: &[u8], bytes: &[u8], starts: &[u16], tokens: &[u8]) -> Step
-    requires { ⌜ SpellsWords (now bytes) (now starts) (now tokens) × (0 < length (now text)) ⌝ }
-    ensures { λ r. ⌜ r ≡ stepOf place (now (text .entry)) ⌝ }
+// A step outside strings and DATA. A space begins no word: it is asked for first, since no byte is more frequent.
+fn statement_step(place: Place, text: &[u8], bytes: &[u8], index: &[u16]) -> EvidenceStep
+    requires { ⌜ SpellsWords (now bytes) (now index) × (0 < length (now text)) ⌝ }
+    ensures { λ r. ⌜ r ≡ statementStep place (now (text .entry)) ⌝ }
+{
+    let b = text[0];
+    if b == 0x20 {
+        return on(1, place);
+    }
+    if b == 0x22 {
+        return on(1, Place::Quoted);
+    }
+    if words::begins(b"REM", text) {
+        return EvidenceStep::Remark;
+    }
+    if words::begins(b"DATA", text) {
+        return on(4, Place::Data);
+    }
+    word_step(place, text, bytes, index)
+}
+
+fn evidence_step(place: Place, text: &[u8], bytes: &[u8], index: &[u16]) -> EvidenceStep
+    requires { ⌜ SpellsWords (now bytes) (now index) × (0 < length (now text)) ⌝ }
+    ensures { λ r. ⌜ r ≡ evidenceStep place (now (text .entry)) ⌝ }
 {
     if place::is_plain(place) {
-        return plain_step(place, text, bytes, starts, tokens);
+        return statement_step(place, text, bytes, index);
     }
-    moved(1, place::aside(place, text[0]))
+    on(1, place::aside(place, text[0]))
 }
 
 // Where the first statement of a line begins: behind white space and digits.
 fn number_length(line: &[u8]) -> usize
     ensures { λ r. ⌜ r ≡ numberLength (now (line .entry)) ⌝ }
 {
-    let blanks = front::front(line, Kind::White);
-    blanks + front::front(&line[blanks..], Kind::Digit)
+    let blanks = search::front(line, Kind::White);
+    blanks + search::front(&line[blanks..], Kind::Digit)
 }
 
-pub fn line_evidence(line: &[u8], bytes: &[u8], starts: &[u16], tokens: &[u8]) -> bool
-    requires { ⌜ SpellsWords (now bytes) (now starts) (now tokens) ⌝ }
+pub fn line_evidence(line: &[u8], bytes: &[u8], index: &[u16]) -> bool
+    requires { ⌜ SpellsWords (now bytes) (now index) ⌝ }
     ensures { λ r. ⌜ r ≡ lineEvidence (now (line .entry)) ⌝ }
 {
     let mut i = number_length(line);
     let mut place = Place::Start;
     while i < line.len() {
-        match next_step(place, &line[i..], bytes, starts, tokens) {
-            Step::Proved => {
+        match evidence_step(place, &line[i..], bytes, index) {
+            EvidenceStep::Proved => {
                 return true;
             }
-            Step::Remark => {
+            EvidenceStep::Remark => {
                 return false;
             }
-            Step::Move { used, place: next } => {
+            EvidenceStep::On { used, place: next } => {
                 i += used;
                 place = next;
             }

@@ -2,60 +2,47 @@
 use crate::ahead;
 use crate::place;
 use crate::place::Place;
-use escapes::places;
-use lines::front;
-use lines::front::Kind;
+use ascii::search;
+use ascii::search::Found;
+use ascii::search::Kind;
 use words::Match;
 ghost use mathlib.Core.Path.{_≡_};
+ghost use mathlib.Core.List.{reverse};
 ghost use Prim.Native.Nat.{_+_, _≤_, _<_};
-ghost use lib.ListN.{length, drop};
-ghost use Rattle.escapes.specs.Places.{equals, behindLast};
-ghost use Rattle.tables.specs.Words.{SpellsWords};
-ghost use Rattle.guess_scans.specs.Variables.{solidBefore, afterDim, isName, wordPass, plainPass, passOf, lineNames};
+ghost use lib.ListN.{length, take, drop};
+ghost use Rattle.tables.specs.WordsHelpers.{SpellsWords};
+ghost use Rattle.guess_scans.specs.Variables.{afterDim, isName, wordPass, plainPass, passOf, lineNames};
+ghost use Rattle.guess_scans.specs.ScanHelpers.{behindEquals, NoneFrom};
 
 pub enum Pass {
     // A remark: the rest of the line counts for nothing.
     Remark,
-    Move { used: usize, place: Place },
+    On { used: usize, place: Place },
     // A TSB word, by its place in the list, that is a variable.
     Name { index: usize, used: usize },
 }
 
-// The place behind the last byte before i that is no white space; 0 where there is none.
-fn solid_before(line: &[u8], i: usize) -> usize
-    requires { ⌜ i ≤ length (now line) ⌝ }
-    ensures { λ r. ⌜ r ≡ solidBefore (now (line .entry)) i ⌝ }
-{
-    let mut e: usize = i;
-    while 0 < e {
-        if !front::is_kind(line[e - 1], Kind::White) {
-            return e;
-        }
-        e -= 1;
-    }
-    e
-}
-
-// Whether DIM stands before i.
+// Whether DIM stands before i, with white space at most between.
 fn after_dim(line: &[u8], i: usize) -> bool
     requires { ⌜ i ≤ length (now line) ⌝ }
-    ensures { λ r. ⌜ r ≡ afterDim (now (line .entry)) i ⌝ }
+    ensures { λ r. ⌜ r ≡ afterDim (reverse (take i (now (line .entry)))) ⌝ }
 {
     if i < 4 {
         return false;
     }
-    let e = solid_before(line, i);
+    let e = search::solid(&line[..i], Kind::White);
     if e < 3 {
         return false;
     }
-    words::alike(b"DIM", &line[e - 3..e])
+    let from = e - 3;
+    words::begins(b"DIM", &line[from..e])
 }
 
-// Whether a TSB word of so many bytes at i is a variable. Where the last = stands before the word's end nothing is assigned to, and
-// no list in parentheses is gone through.
+// Whether a TSB word of so many bytes at i is a variable. Where no = stands behind the word nothing is assigned to, and no list in
+// parentheses is gone through.
 fn is_name(line: &[u8], i: usize, used: usize, last: usize) -> bool
-    requires { ⌜ (i + used ≤ length (now line)) × (last ≡ behindLast (equals 0x3D) (now line)) ⌝ }
-    ensures { λ r. ⌜ r ≡ isName (now (line .entry)) i used ⌝ }
+    requires { ⌜ (i + used ≤ length (now line)) × NoneFrom (now line) last ⌝ }
+    ensures { λ r. ⌜ r ≡ isName (reverse (take i (now (line .entry)))) (drop i (now (line .entry))) used ⌝ }
 {
     let behind = i + used;
     if last <= behind {
@@ -67,101 +54,89 @@ fn is_name(line: &[u8], i: usize, used: usize, last: usize) -> bool
     after_dim(line, i)
 }
 
-fn moved(used: usize, place: Place) -> Pass
-    ensures { λ r. ⌜ r ≡ Pass.Move used place ⌝ }
+fn on(used: usize, place: Place) -> Pass
+    ensures { λ r. ⌜ r ≡ Pass.On used place ⌝ }
 {
-    Pass::Move { used, place }
+    Pass::On { used, place }
 }
 
 // A step at a place where a TSB word may stand.
-fn word_pass(
-    line: &[u8],
-    i: usize,
-    last: usize,
-    bytes: &[u8],
-    starts: &[u16],
-    tokens: &[u8],
-) -> Pass
-    requires { ⌜ SpellsWords (now bytes) (now starts) (now tokens) × (i ≤ length (now line)) × (last ≡ behindLast (equals 0x3D) (now line)) ⌝ }
-    ensures { λ r. ⌜ r ≡ wordPass (now (line .entry)) i ⌝ }
+fn word_pass(line: &[u8], i: usize, last: usize, bytes: &[u8], index: &[u16]) -> Pass
+    requires { ⌜ SpellsWords (now bytes) (now index) × (i ≤ length (now line)) × NoneFrom (now line) last ⌝ }
+    ensures { λ r. ⌜ r ≡ wordPass (reverse (take i (now (line .entry)))) (drop i (now (line .entry))) ⌝ }
 {
-    match ahead::tsb_word(&line[i..], bytes, starts, tokens) {
+    match ahead::tsb_word(&line[i..], bytes, index) {
         Match::Word {
-            index,
+            index: word,
             used,
             token: _,
         } => {
             if is_name(line, i, used, last) {
-                return Pass::Name { index, used };
+                return Pass::Name { index: word, used };
             }
-            moved(used, Place::Within)
+            on(used, Place::Within)
         }
-        Match::Nothing => moved(1, Place::Within),
+        Match::Nothing => on(1, Place::Within),
     }
 }
 
 // A step outside strings and DATA.
-fn plain_pass(
-    line: &[u8],
-    i: usize,
-    last: usize,
-    bytes: &[u8],
-    starts: &[u16],
-    tokens: &[u8],
-) -> Pass
-    requires { ⌜ SpellsWords (now bytes) (now starts) (now tokens) × (i < length (now line)) × (last ≡ behindLast (equals 0x3D) (now line)) ⌝ }
-    ensures { λ r. ⌜ r ≡ plainPass (now (line .entry)) i ⌝ }
+fn plain_pass(line: &[u8], i: usize, last: usize, bytes: &[u8], index: &[u16]) -> Pass
+    requires { ⌜ SpellsWords (now bytes) (now index) × (i < length (now line)) × NoneFrom (now line) last ⌝ }
+    ensures { λ r. ⌜ r ≡ plainPass (reverse (take i (now (line .entry)))) (drop i (now (line .entry))) ⌝ }
 {
     if line[i] == 0x22 {
-        return moved(1, Place::Quoted);
+        return on(1, Place::Quoted);
     }
     let text = &line[i..];
     if words::begins(b"REM", text) {
         return Pass::Remark;
     }
     if words::begins(b"DATA", text) {
-        return moved(4, Place::Data);
+        return on(4, Place::Data);
     }
-    word_pass(line, i, last, bytes, starts, tokens)
+    word_pass(line, i, last, bytes, index)
 }
 
-fn next_pass(
-    line: &[u8],
-    i: usize,
-    place: Place,
-    last: usize,
-    bytes: &[u8],
-    starts: &[u16],
-    tokens: &[u8],
-) -> Pass
-    requires { ⌜ SpellsWords (now bytes) (now starts) (now tokens) × (i < length (now line)) × (last ≡ behindLast (equals 0x3D) (now line)) ⌝ }
-    ensures { λ r. ⌜ r ≡ passOf (now (line .entry)) i place ⌝ }
+fn next_pass(line: &[u8], i: usize, place: Place, last: usize, bytes: &[u8], index: &[u16]) -> Pass
+    requires { ⌜ SpellsWords (now bytes) (now index) × (i < length (now line)) × NoneFrom (now line) last ⌝ }
+    ensures { λ r. ⌜ r ≡ passOf (reverse (take i (now (line .entry)))) place (drop i (now (line .entry))) ⌝ }
 {
     if place::is_plain(place) {
-        return plain_pass(line, i, last, bytes, starts, tokens);
+        return plain_pass(line, i, last, bytes, index);
     }
-    moved(1, place::aside(place, line[i]))
+    on(1, place::aside(place, line[i]))
 }
 
-// Adds the words that the line uses as variables to those that were found. The place behind the last = is found once to a line.
-pub fn line_names(line: &[u8], bytes: &[u8], starts: &[u16], tokens: &[u8], found: &mut [bool])
-    requires { ⌜ SpellsWords (now bytes) (now starts) (now tokens) × (123 ≤ length (now found)) ⌝ }
+// A place behind which no = stands.
+fn behind_equals(line: &[u8]) -> usize
+    ensures { λ r. ⌜ r ≡ behindEquals (now (line .entry)) ⌝ }
+{
+    match search::last(line, Kind::Is(0x3D)) {
+        Found::At(n) => n + 1,
+        Found::Nowhere => 0,
+    }
+}
+
+// Adds the words that the line uses as variables to those that were found. The last = is looked for once to a line.
+pub fn line_names(line: &[u8], bytes: &[u8], index: &[u16], found: &mut [bool])
+    requires { ⌜ SpellsWords (now bytes) (now index) × (123 ≤ length (now found)) ⌝ }
     ensures { λ r. ⌜ now (found .exit) ≡ lineNames (now (line .entry)) (now (found .entry)) ⌝ }
 {
-    let last = places::behind_last(line, 0x3D);
+    let last = behind_equals(line);
     let mut i: usize = 0;
     let mut place = Place::Within;
     while i < line.len() {
-        match next_pass(line, i, place, last, bytes, starts, tokens) {
+        match next_pass(line, i, place, last, bytes, index) {
             Pass::Remark => {
                 return;
             }
-            Pass::Move { used, place: next } => {
+            Pass::On { used, place: next } => {
                 i += used;
                 place = next;
             }
-            Pass::Name { index, used } => {
-                found[index] = true;
+            Pass::Name { index: word, used } => {
+                found[word] = true;
                 i += used;
                 place = Place::Within;
             }
