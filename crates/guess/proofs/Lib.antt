@@ -1,3 +1,3 @@
-pub mod Sets
 pub mod Table
 pub mod Texts
+pub mod Tight

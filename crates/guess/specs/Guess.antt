@@ -2,14 +2,15 @@
 -- Assumes nothing.
 use Prim.Native.Nat.{ℕ}
 use mathlib.Core.Path.{_≡_}
-use mathlib.Core.Bool.{Bool, true, false, not}
-use mathlib.Core.List.{List, [], _∷_, map}
+use mathlib.Core.Bool.{Bool, true, false}
+use mathlib.Core.List.{List, [], _∷_}
 use lib.ListN.{replicate}
 use Rattle.refusals.specs.Answer.{Answer, done, refused, numbered, andThen}
 use Rattle.tables.specs.declared.dialect.Dialect.{Dialect}
 use Rattle.tables.specs.declared.dialect.Dialect.the-variants.{Auto, BasicV2, Tsb}
+use Rattle.tables.specs.declared.sets.Sets.{Sets}
 use Rattle.lines.specs.Domain.{checkedText}
-use Rattle.lines.specs.TextLines.{linesOf}
+use Rattle.lines.specs.TextLines.{textLines}
 use Rattle.lines.specs.declared.split.LineRule.{LineRule}
 use Rattle.lines.specs.declared.split.LineRule.the-variants.{AsGiven, AfterCr}
 use Rattle.guess_scans.specs.Evidence.{lineEvidence}
@@ -26,8 +27,8 @@ anyEvidence [] = false
 anyEvidence (l ∷ ls) = elim (lineEvidence l) [ true ↦ true | false ↦ anyEvidence ls ]
 
 unfoldable pub evidence : LineRule → List ℕ → Bool
-unfolding anyEvidence linesOf
-evidence rule t = anyEvidence (linesOf rule t)
+unfolding anyEvidence textLines
+evidence rule t = anyEvidence (textLines rule t)
 
 -- each line adds to the words found before it
 unfoldable pub allNames : List (List ℕ) → List Bool → List Bool
@@ -35,15 +36,13 @@ unfolding lineNames
 allNames [] found = found
 allNames (l ∷ ls) found = allNames ls (lineNames l found)
 
-abbrev pub none : List Bool
-none = replicate 123 false
-
-abbrev pub all : List Bool
-all = replicate 123 true
+-- no word is demoted
+abbrev pub noneDemoted : List Bool
+noneDemoted = replicate 123 false
 
 unfoldable pub names : LineRule → List ℕ → List Bool
-unfolding allNames linesOf
-names rule t = allNames (linesOf rule t) none
+unfolding allNames textLines
+names rule t = allNames (textLines rule t) noneDemoted
 
 -- ---- the resolved dialect: the text as given
 
@@ -65,16 +64,12 @@ resolvedAnswer (Refused r) = refused (numbered r)
 -- BasicV2 none. Auto makes none live unless tsb_statement_evidence holds; then words found by tsb_words_used_as_variables are demoted
 -- and the others live.")
 
-pub record WordSets : Type 0 where
-  pub live : List Bool
-  pub demoted : List Bool
-
-unfoldable pub wordSets : Dialect → List ℕ → WordSets
+unfoldable pub wordSets : Dialect → List ℕ → Sets
 unfolding evidence names
-wordSets Tsb t = record { live = all; demoted = none }
-wordSets BasicV2 t = record { live = none; demoted = none }
+wordSets Tsb t = record { tsb = true; demoted = noneDemoted }
+wordSets BasicV2 t = record { tsb = false; demoted = noneDemoted }
 wordSets Auto t =
     elim (evidence AfterCr t) [
-      | true ↦ record { live = map not (names AfterCr t); demoted = names AfterCr t }
-      | false ↦ record { live = none; demoted = none }
+      | true ↦ record { tsb = true; demoted = names AfterCr t }
+      | false ↦ record { tsb = false; demoted = noneDemoted }
     ]

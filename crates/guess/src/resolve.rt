@@ -2,19 +2,18 @@
 use guess_scans::evidence;
 use guess_scans::variables;
 use lines::domain;
-use lines::domain::Checked;
+use lines::domain::TextCheck;
 use lines::split;
 use lines::split::LineRule;
 use refusals::Refusal;
 use tables::dialect::Dialect;
+use tables::sets::Sets;
 use tables::spellings;
 ghost use mathlib.Core.Path.{_≡_};
-ghost use mathlib.Core.Bool.{not};
-ghost use mathlib.Core.List.{map};
 ghost use Prim.Native.Nat.{_≤_};
-ghost use lib.ListN.{length, replicate};
-ghost use Rattle.tables.specs.Words.{SpellsWords};
-ghost use Rattle.lines.specs.TextLines.{linesOf};
+ghost use lib.ListN.{length};
+ghost use Rattle.tables.specs.WordsHelpers.{SpellsWords};
+ghost use Rattle.lines.specs.TextLines.{textLines};
 ghost use Rattle.guess.specs.Guess.{evidence as evidenceOf, allNames, guessedDialect, resolved, resolvedAnswer, wordSets};
 
 pub enum Resolved {
@@ -23,14 +22,8 @@ pub enum Resolved {
 }
 
 // Whether a line of the text proves that it is TSB.
-pub fn text_evidence(
-    text: &[u8],
-    rule: LineRule,
-    bytes: &[u8],
-    starts: &[u16],
-    tokens: &[u8],
-) -> bool
-    requires { ⌜ SpellsWords (now bytes) (now starts) (now tokens) ⌝ }
+pub fn text_evidence(text: &[u8], rule: LineRule, bytes: &[u8], index: &[u16]) -> bool
+    requires { ⌜ SpellsWords (now bytes) (now index) ⌝ }
     ensures { λ r. ⌜ r ≡ evidenceOf rule (now (text .entry)) ⌝ }
 {
     let mut at: usize = 0;
@@ -39,7 +32,7 @@ pub fn text_evidence(
         // The blanks in front of a line prove nothing.
         let begin = line.begin;
         let end = line.end;
-        if evidence::line_evidence(&text[begin..end], bytes, starts, tokens) {
+        if evidence::line_evidence(&text[begin..end], bytes, index) {
             return true;
         }
         at = line.next;
@@ -48,22 +41,15 @@ pub fn text_evidence(
 }
 
 // Adds the words that the text uses as variables to those that were found.
-fn text_names(
-    text: &[u8],
-    rule: LineRule,
-    bytes: &[u8],
-    starts: &[u16],
-    tokens: &[u8],
-    found: &mut [bool],
-)
-    requires { ⌜ SpellsWords (now bytes) (now starts) (now tokens) × (123 ≤ length (now found)) ⌝ }
-    ensures { λ r. ⌜ now (found .exit) ≡ allNames (linesOf rule (now (text .entry))) (now (found .entry)) ⌝ }
+fn text_names(text: &[u8], rule: LineRule, bytes: &[u8], index: &[u16], found: &mut [bool])
+    requires { ⌜ SpellsWords (now bytes) (now index) × (123 ≤ length (now found)) ⌝ }
+    ensures { λ r. ⌜ now (found .exit) ≡ allNames (textLines rule (now (text .entry))) (now (found .entry)) ⌝ }
 {
     let mut at: usize = 0;
     while at < text.len() {
         let line = split::next_line(text, at, rule);
         let end = line.end;
-        variables::line_names(&text[at..end], bytes, starts, tokens, found);
+        variables::line_names(&text[at..end], bytes, index, found);
         at = line.next;
     }
 }
@@ -78,8 +64,7 @@ fn guessed(text: &[u8], dialect: Dialect) -> Dialect
                 text,
                 LineRule::AsGiven,
                 &spellings::WORD_BYTES,
-                &spellings::WORD_STARTS,
-                &spellings::WORD_TOKENS,
+                &spellings::WORD_INDEX,
             ) {
                 Dialect::Tsb
             } else {
@@ -96,55 +81,31 @@ pub fn resolved_dialect(text: &[u8], dialect: Dialect) -> Resolved
     ensures { λ r. ⌜ resolvedAnswer r ≡ resolved dialect (now (text .entry)) ⌝ }
 {
     match domain::check_text(text) {
-        Checked::Fine => Resolved::Is(guessed(text, dialect)),
-        Checked::Refused(refusal) => Resolved::Refused(refusal),
+        TextCheck::Fine => Resolved::Is(guessed(text, dialect)),
+        TextCheck::Refused(refusal) => Resolved::Refused(refusal),
     }
 }
 
-fn fill(set: &mut [bool], value: bool)
-    ensures { λ r. ⌜ now (set .exit) ≡ replicate (length (now (set .entry))) value ⌝ }
+// The TSB words that are live when a text is crunched, and those that are demoted.
+pub fn word_sets(text: &[u8], dialect: Dialect, bytes: &[u8], index: &[u16]) -> Sets
+    requires { ⌜ SpellsWords (now bytes) (now index) ⌝ }
+    ensures { λ r. ⌜ r ≡ wordSets dialect (now (text .entry)) ⌝ }
 {
-    let mut i: usize = 0;
-    while i < set.len() {
-        set[i] = value;
-        i += 1;
-    }
-}
-
-// Makes one set hold the words that the other does not.
-fn oppose(set: &mut [bool], other: &[bool])
-    requires { ⌜ length (now set) ≡ length (now other) ⌝ }
-    ensures { λ r. ⌜ now (set .exit) ≡ map not (now (other .entry)) ⌝ }
-{
-    let mut i: usize = 0;
-    while i < set.len() {
-        set[i] = !other[i];
-        i += 1;
-    }
-}
-
-// The TSB words that are live when a text is crunched, and those that are demoted, as two sets of 123.
-pub fn word_sets(
-    text: &[u8],
-    dialect: Dialect,
-    bytes: &[u8],
-    starts: &[u16],
-    tokens: &[u8],
-    live: &mut [bool],
-    demoted: &mut [bool],
-)
-    requires { ⌜ SpellsWords (now bytes) (now starts) (now tokens) × (length (now live) ≡ 123) × (length (now demoted) ≡ 123) ⌝ }
-    ensures { λ r. ⌜ record { live = now (live .exit); demoted = now (demoted .exit) } ≡ wordSets dialect (now (text .entry)) ⌝ }
-{
-    fill(live, false);
-    fill(demoted, false);
+    let mut demoted = [false; 123];
     match dialect {
-        Dialect::BasicV2 => {}
-        Dialect::Tsb => fill(live, true),
+        Dialect::BasicV2 => Sets {
+            tsb: false,
+            demoted,
+        },
+        Dialect::Tsb => Sets { tsb: true, demoted },
         Dialect::Auto => {
-            if text_evidence(text, LineRule::AfterCr, bytes, starts, tokens) {
-                text_names(text, LineRule::AfterCr, bytes, starts, tokens, demoted);
-                oppose(live, demoted);
+            if text_evidence(text, LineRule::AfterCr, bytes, index) {
+                text_names(text, LineRule::AfterCr, bytes, index, &mut demoted);
+                return Sets { tsb: true, demoted };
+            }
+            Sets {
+                tsb: false,
+                demoted,
             }
         }
     }
