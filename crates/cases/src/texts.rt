@@ -5,6 +5,7 @@ use crate::rooms;
 use frames::Answer;
 use guess::resolve;
 use guess::resolve::Resolved;
+use image::Options;
 use tables::dialect;
 use tables::dialect::Named;
 
@@ -21,7 +22,7 @@ pub fn crunch(payload: &[u8], room: &mut [u8]) -> bool {
         return Answer::malformed().send();
     };
     rooms::fill(&mut room[0..size]);
-    let outcome = image::crunch(&payload[7..], load, dialect, &mut room[0..size]);
+    let outcome = image::crunch(&payload[7..], Options { load, dialect }, &mut room[0..size]);
     frames::length_of(outcome).send_with(&room[0..size])
 }
 
@@ -33,8 +34,7 @@ pub fn room_for_crunch(payload: &[u8]) -> bool {
     match dialect::dialect_by_number(payload[2]) {
         Named::Known(dialect) => frames::length_of(image::room(
             &payload[3..],
-            load,
-            dialect,
+            Options { load, dialect },
         )).send(),
         Named::Refused(_) => Answer::malformed().send(),
     }

@@ -1,4 +1,5 @@
 // Crunches a text: standard input to standard output.
+use image::Options;
 use input::Input;
 use libc::STDIN_FILENO;
 use refusals::Refusal;
@@ -10,7 +11,11 @@ const LOAD: u16 = 0x0801;
 fn crunch_text(text: &[u8]) {
     // No image is longer: its last link is at most 0xFFFF.
     let mut image = [0u8; 65_536];
-    let outcome = image::crunch(text, LOAD, Dialect::Auto, &mut image);
+    let options = Options {
+        load: LOAD,
+        dialect: Dialect::Auto,
+    };
+    let outcome = image::crunch(text, options, &mut image);
     output::write_outcome(outcome, &image);
 }
 

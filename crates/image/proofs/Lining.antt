@@ -1,27 +1,32 @@
 -- What a text line comes to, case by case, and the lines behind it.
 -- Assumes nothing.
 use Prim.Native.Nat.{ℕ, suc, _+_, _-_, _≤_, _<_, min}
-use mathlib.Core.Path.{_≡_, refl, sym, ap, _∙_, subst}
+use mathlib.Core.Path.{_≡_, refl, sym, ap, _∙_}
 use mathlib.Core.Bool.{Bool, true, false}
 use mathlib.Core.List.{List, [], _∷_, _++_, append-nil, append-assoc}
 use native.Mathlib.Omega.{arith}
 use lib.Dec.{leb}
 use lib.ListN.{length, take, drop}
 use borrow.Author.Tests.{le-leb, lt-leb, leb-true}
+use borrow.Rule.Slice.PartMut.{midOf, putMid}
 use Rattle.refusals.specs.Numbers.{Numbered as Refusal·Numbered, missingLineNumber, lineNumberOutOfRange, addressOverflow}
 use Rattle.refusals.specs.Answer.{Answer, done, refused, mapDone, andThen}
+use Rattle.lent.specs.Stores.{Room, Put}
+use Rattle.lent.proofs.Storing.{room-as, put-as, put-none}
 use Rattle.lines.specs.declared.number.Numbering.{Numbering}
 use Rattle.lines.specs.declared.number.Numbering.the-variants.{Blank, Missing, OutOfRange, Numbered}
-use Rattle.lines.specs.Numbering.{numbering}
-use Rattle.lines.specs.TextLines.{isBlank}
+use Rattle.lines.specs.Numbering.{ReadLine, blankLine, missingNumber, numberTooHigh, numberedText, readLine}
+use Rattle.lines.specs.NumberHelpers.{numbering, told}
+use Rattle.ascii.specs.Search.{isBlank}
 use Rattle.lines.proofs.Blanks.{blank-trimmed}
-use Rattle.lines.proofs.Numbers.{moved, moved-line}
+use Rattle.lines.proofs.Numbers.{read-told, numbered-placed, read-space}
 use Rattle.body.specs.Lexicon.{Lexicon}
 use Rattle.body.specs.Body.{crunchedBody}
 use Rattle.readers.specs.NumberedBody.{NumberedBody}
 use Rattle.layout.specs.Layout.{endAddress, linesBytes, lineBytes}
-use Rattle.image.specs.Crunched.{numberedLine, numberedLines, textLine, lastLink, crunchLines}
-use Rattle.image.specs.Passes.{addressBehind, given}
+use Rattle.image.specs.Crunched.{linesRead, textLine, lastLink, crunchLines}
+use Rattle.image.specs.PassesHelpers.{addressBehind, given, FrameRoom, Framed}
+use Rattle.image.proofs.Laying.{line-room, body-room, frame-room, framed-line}
 
 link-fits : (address : ℕ) (ls : List NumberedBody) → endAddress address ls ≤ 0xFFFF → lastLink address ls ≡ done (endAddress address ls)
 unfolding lastLink
@@ -33,85 +38,114 @@ link-over address ls h = rw (lastLink, lt-leb _ _ h)
 
 -- ---- one line, its numbering known
 
-module _ (words : Lexicon) (k address : ℕ) (line : List ℕ) where
-  by-numbering : {m : Numbering} → m ≡ numbering line → andThen (numberedLines words k line m) (lastLink address) ≡ addressBehind words k address line
-  unfolding addressBehind textLine
-  by-numbering e = ap (λ (x : Numbering). andThen (numberedLines words k line x) (lastLink address)) e
+module _ (words : Lexicon) (k : ℕ) (line : List ℕ) {m x : Numbering} (known : m ≡ x) (is : m ≡ numbering line) where
+  read-as : linesRead words k (told line x) ≡ textLine words k line
+  unfolding textLine
+  read-as = ap (λ (y : Numbering). linesRead words k (told line y)) (sym known) ∙ ap (linesRead words k) (read-told line is)
 
-  module _ {m x : Numbering} (told : m ≡ x) (is : m ≡ numbering line) where
-    known : x ≡ numbering line
-    known = sym told ∙ is
+  behind-as : (address : ℕ) → andThen (linesRead words k (told line x)) (lastLink address) ≡ addressBehind words k address line
+  unfolding addressBehind
+  behind-as address = ap (λ (a : Answer (List NumberedBody)). andThen a (lastLink address)) read-as
 
-  pub behind-blank : {m : Numbering} → m ≡ Blank → m ≡ numbering line → address ≤ 0xFFFF → done address ≡ addressBehind words k address line
+module _ (words : Lexicon) (k address : ℕ) (line : List ℕ) {m : Numbering} where
+  pub behind-blank : m ≡ Blank → m ≡ numbering line → address ≤ 0xFFFF → done address ≡ addressBehind words k address line
   unfolding endAddress
-  behind-blank t e h = sym (link-fits address [] h) ∙ by-numbering (known t e)
+  behind-blank t e h = sym (link-fits address [] h) ∙ behind-as words k line t e address
 
-  pub behind-missing : {m : Numbering} → m ≡ Missing → m ≡ numbering line → refused (missingLineNumber k) ≡ addressBehind words k address line
-  behind-missing t e = by-numbering (known t e)
+  pub behind-missing : m ≡ Missing → m ≡ numbering line → refused (missingLineNumber k) ≡ addressBehind words k address line
+  behind-missing t e = behind-as words k line t e address
 
-  pub behind-range : {m : Numbering} {v : ℕ} → m ≡ OutOfRange v → m ≡ numbering line → refused (lineNumberOutOfRange k v) ≡ addressBehind words k address line
-  behind-range t e = by-numbering (known t e)
+  pub behind-range : {v : ℕ} → m ≡ OutOfRange v → m ≡ numbering line → refused (lineNumberOutOfRange k v) ≡ addressBehind words k address line
+  behind-range t e = behind-as words k line t e address
 
   -- a numbered line, whose body is measured up to 65,536
-  module _ {m : Numbering} {number from to : ℕ} (t : m ≡ Numbered number from to) (e : m ≡ numbering line) {n : ℕ}
-      (is : n ≡ min (length (crunchedBody words (take (to - from) (drop from line)))) 65536) where
+  module _ {number from to n : ℕ} (is : n ≡ min (length (crunchedBody words (take (to - from) (drop from line)))) 65536)
+      (t : m ≡ Numbered number from to) (e : m ≡ numbering line) where
+    abbrev here : NumberedBody
+    here = record { number = number; body = crunchedBody words (take (to - from) (drop from line)) }
+
     pub behind-line : address + 5 + n ≤ 0xFFFF → done (address + 5 + n) ≡ addressBehind words k address line
     unfolding endAddress
     behind-line h =
-        let l = numberedLine words line number from to in
-        let same : n ≡ length (l .body) = omega arith in
-        let fits : address + 5 + length (l .body) ≤ 0xFFFF = omega arith in
-        rw same (sym (link-fits address (l ∷ []) fits) ∙ by-numbering (known t e))
+        let same : n ≡ length (here .body) = omega arith in
+        let fits : address + 5 + length (here .body) ≤ 0xFFFF = omega arith in
+        rw same (sym (link-fits address (here ∷ []) fits) ∙ behind-as words k line t e address)
 
     pub behind-overflow : 0xFFFF < address + 5 + n → refused addressOverflow ≡ addressBehind words k address line
     unfolding endAddress
     behind-overflow h =
-        let l = numberedLine words line number from to in
-        let over : 0xFFFF < address + 5 + length (l .body) = omega arith in
-        sym (link-over address (l ∷ []) over) ∙ by-numbering (known t e)
+        let over : 0xFFFF < address + 5 + length (here .body) = omega arith in
+        sym (link-over address (here ∷ []) over) ∙ behind-as words k line t e address
+
+pub body-up : (line : List ℕ) {m : Numbering} {number from to : ℕ} → m ≡ Numbered number from to → m ≡ numbering line → from ≤ to
+body-up line t e = numbered-placed line t e .up
+
+pub body-within : (line : List ℕ) {m : Numbering} {number from to : ℕ} → m ≡ Numbered number from to → m ≡ numbering line → to ≤ length line
+body-within line t e = numbered-placed line t e .within
 
 -- ---- what a line gives
 
-module _ (words : Lexicon) (line : List ℕ) where
-  by-given : (k : ℕ) {m : Numbering} → m ≡ numbering line → given (numberedLines words k line m) ≡ given (textLine words k line)
-  unfolding textLine
-  by-given k e = ap (λ (x : Numbering). given (numberedLines words k line x)) e
+none-put : (words : Lexicon) (address : ℕ) (line : List ℕ) {buffer : List ℕ} → linesBytes address [] ≡ linesBytes address (given (textLine words 0 line))
+    → Put buffer 0 (linesBytes address (given (textLine words 0 line))) 0 buffer
+unfolding linesBytes
+none-put words address line {buffer} e = put-as e (put-none buffer 0)
 
-  -- the bytes of what a line gives: none, or the one line
-  pub gives-none : (address : ℕ) {m x : Numbering} → m ≡ x → m ≡ numbering line → linesBytes address (given (numberedLines words 0 line x)) ≡ linesBytes address (given (textLine words 0 line))
-  gives-none address t e = ap (linesBytes address) (by-given 0 (sym t ∙ e))
+module _ (words : Lexicon) (address : ℕ) (line : List ℕ) {m : Numbering} where
+  by-given : {x : Numbering} → m ≡ x → m ≡ numbering line → linesBytes address (given (linesRead words 0 (told line x))) ≡ linesBytes address (given (textLine words 0 line))
+  by-given t e = ap (λ (a : Answer (List NumberedBody)). linesBytes address (given a)) (read-as words 0 line t e)
 
-  pub gives-line : (address : ℕ) {m : Numbering} {number from to : ℕ} → m ≡ Numbered number from to → m ≡ numbering line
-      → lineBytes address number (numberedLine words line number from to .body) ≡ linesBytes address (given (textLine words 0 line))
-  unfolding linesBytes
-  gives-line address {m} {number} {from} {to} t e =
-      sym (append-nil (lineBytes address number (numberedLine words line number from to .body))) ∙ gives-none address t e
+  -- none
+  module _ {buffer : List ℕ} where
+    pub blank-put : m ≡ Blank → m ≡ numbering line → Put buffer 0 (linesBytes address (given (textLine words 0 line))) 0 buffer
+    blank-put t e = none-put words address line (by-given t e)
 
-  given-alike : (k : ℕ) (m : Numbering) → given (numberedLines words k line m) ≡ given (numberedLines words 0 line m)
-  given-alike k Blank = refl
-  given-alike k Missing = refl
-  given-alike k (OutOfRange v) = refl
-  given-alike k (Numbered n f t) = refl
+    pub missing-put : m ≡ Missing → m ≡ numbering line → Put buffer 0 (linesBytes address (given (textLine words 0 line))) 0 buffer
+    missing-put t e = none-put words address line (by-given t e)
 
-  -- a line that is not refused gives these lines, whatever its place
-  pub given-is : (k : ℕ) {new : List NumberedBody} → textLine words k line ≡ done new → given (textLine words 0 line) ≡ new
-  unfolding textLine
-  given-is k e = sym (given-alike k (numbering line)) ∙ ap given e
+    pub range-put : {v : ℕ} → m ≡ OutOfRange v → m ≡ numbering line → Put buffer 0 (linesBytes address (given (textLine words 0 line))) 0 buffer
+    range-put t e = none-put words address line (by-given t e)
+
+  -- or the one line
+  module _ {number from to : ℕ} where
+    gives-line : m ≡ Numbered number from to → m ≡ numbering line
+        → lineBytes address number (crunchedBody words (take (to - from) (drop from line))) ≡ linesBytes address (given (textLine words 0 line))
+    unfolding linesBytes
+    gives-line t e = sym (append-nil (lineBytes address number (crunchedBody words (take (to - from) (drop from line))))) ∙ by-given t e
+
+    module _ {buffer : List ℕ} where
+      pub four-room : m ≡ Numbered number from to → m ≡ numbering line → Room buffer 0 (linesBytes address (given (textLine words 0 line))) → 4 ≤ length buffer
+      four-room t e r = omega (arith, line-room address number (crunchedBody words (take (to - from) (drop from line))) (room-as (gives-line t e) r))
+
+      pub given-room : m ≡ Numbered number from to → m ≡ numbering line → Room buffer 0 (linesBytes address (given (textLine words 0 line)))
+          → Room (midOf 4 (length buffer - 4) buffer) 0 (crunchedBody words (take (to - from) (drop from line)))
+      given-room t e r = body-room address number _ (room-as (gives-line t e) r)
+
+      module _ {n : ℕ} {part : List ℕ} (p : Put (midOf 4 (length buffer - 4) buffer) 0 (crunchedBody words (take (to - from) (drop from line))) n part) where
+        pub given-frame : m ≡ Numbered number from to → m ≡ numbering line → Room buffer 0 (linesBytes address (given (textLine words 0 line))) → address ≤ 0xFFFF
+            → FrameRoom address n (putMid 4 (length buffer - 4) buffer part)
+        given-frame t e r low = frame-room address number _ p (room-as (gives-line t e) r) low
+
+        pub given-put : {i : ℕ} {after : List ℕ} → Framed address number n (putMid 4 (length buffer - 4) buffer part) i after → m ≡ Numbered number from to → m ≡ numbering line
+            → Put buffer 0 (linesBytes address (given (textLine words 0 line))) i after
+        given-put f t e = put-as (gives-line t e) (framed-line address number _ p f)
+
+given-alike : (words : Lexicon) (k : ℕ) (r : ReadLine) → given (linesRead words k r) ≡ given (linesRead words 0 r)
+given-alike words k blankLine = refl
+given-alike words k missingNumber = refl
+given-alike words k (numberTooHigh v) = refl
+given-alike words k (numberedText n t) = refl
+
+-- a line that is not refused gives these lines, whatever its place
+pub given-is : (words : Lexicon) (line : List ℕ) (k : ℕ) {new : List NumberedBody} → textLine words k line ≡ done new → given (textLine words 0 line) ≡ new
+unfolding textLine
+given-is words line k e = sym (given-alike words k (readLine line)) ∙ ap given e
 
 -- ---- a blank in front of a line changes nothing of what it gives
 
 module _ (words : Lexicon) (k : ℕ) (b : ℕ) (l : List ℕ) where
-  moved-lines : (m : Numbering) → numberedLines words k (b ∷ l) (moved m) ≡ numberedLines words k l m
-  moved-lines Blank = refl
-  moved-lines Missing = refl
-  moved-lines (OutOfRange v) = refl
-  moved-lines (Numbered n f t) =
-      let e : suc t - suc f ≡ t - f = omega arith in
-      ap (λ (x : ℕ). done (record { number = n; body = crunchedBody words (take x (drop f l)) } ∷ [])) e
-
   pub text-blank : isBlank b ≡ true → textLine words k (b ∷ l) ≡ textLine words k l
   unfolding textLine
-  text-blank q = ap (numberedLines words k (b ∷ l)) (moved-line b l (blank-trimmed b q)) ∙ moved-lines (numbering l)
+  text-blank q = ap (linesRead words k) (read-space b l (blank-trimmed b q))
 
   pub behind-alike : (address : ℕ) → isBlank b ≡ true → addressBehind words k address (b ∷ l) ≡ addressBehind words k address l
   unfolding addressBehind

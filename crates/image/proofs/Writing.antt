@@ -14,14 +14,19 @@ use Rattle.lent.specs.Stores.{HasRoom}
 use Rattle.lent.proofs.Outcomes.{into-done}
 use Rattle.lines.specs.declared.split.TextLine.{TextLine}
 use Rattle.lines.specs.declared.split.LineRule.the-variants.{AfterCr}
-use Rattle.lines.specs.TextLines.{linesOf, lineFrom}
+use Rattle.lines.specs.SplitHelpers.{lineFrom}
+use Rattle.lines.specs.TextLines.{textLines}
 use Rattle.lines.proofs.Splitting.{line-behind}
 use Rattle.body.specs.Lexicon.{Lexicon}
 use Rattle.readers.specs.NumberedBody.{NumberedBody}
 use Rattle.layout.specs.Layout.{twoBytes, linesBytes, endAddress, imageOf}
 use Rattle.layout.proofs.Laying.{image-length, lines-length, lines-append, end-append, end-above}
 use Rattle.image.specs.Crunched.{textLine, crunchLines}
-use Rattle.image.specs.Passes.{textImage, addressBehind, given}
+use Rattle.image.specs.PassesHelpers.{textImage, addressBehind, given}
+use borrow.Rule.Slice.PartMut.{midOf, putMid}
+use mir.Syntax.{w16, w64}
+use mir.Val.{Fits}
+use Rattle.image.proofs.Laying.{part-room, part-put}
 use Rattle.image.proofs.Lining.{Taken, taken, given-is, text-blank}
 use Rattle.image.proofs.Measuring.{Reached, reached-start, reached-turn, turn-before, reached-refused, reached-end, lineAt, lineBehind}
 
@@ -52,19 +57,19 @@ module _ (words : Lexicon) (load : ℕ) (text buffer : List ℕ) where
   room-reached : {at k address : ℕ} → HasRoom buffer (textImage words load text) → (g : Reached words load text at k address) → length (linesBytes load (g .before)) + 4 ≤ length buffer
   unfolding textImage
   room-reached {at} {k} {address} r g =
-      room-before buffer load (g .before) (crunchLines words (suc k) address (linesOf AfterCr (drop at text))) (crunchLines words 1 load (linesOf AfterCr text)) (g .gives) r
+      room-before buffer load (g .before) (crunchLines words (suc k) address (textLines AfterCr (drop at text))) (crunchLines words 1 load (textLines AfterCr text)) (g .gives) r
 
-  pub room-load : load ≤ 0xFFFF → HasRoom buffer (textImage words load text) → Room buffer 0 (twoBytes load)
+  pub room-load : HasRoom buffer (textImage words load text) → Fits w16 load → Room buffer 0 (twoBytes load)
   unfolding reached-start
-  room-load h r = record { room = omega (arith, room-reached r (reached-start words load text h)) }
+  room-load r h = record { room = omega (arith, room-reached r (reached-start words load text (omega (arith, h .fits)))) }
 
-  pub written-start : load ≤ 0xFFFF → HasRoom buffer (textImage words load text) → {from : ℕ} {out : List ℕ} → Put buffer 0 (twoBytes load) from out → Written words load text out from 0 out from
+  pub written-start : {from : ℕ} {out : List ℕ} → Put buffer 0 (twoBytes load) from out → HasRoom buffer (textImage words load text) → Fits w16 load → Written words load text out from 0 out from
   unfolding reached-start linesBytes
-  written-start h r {from} {out} p =
+  written-start {from} {out} p r h =
       record {
         k = 0;
         address = load;
-        reached = reached-start words load text h;
+        reached = reached-start words load text (omega (arith, h .fits));
         room = room-alike buffer out (put-long p) (textImage words load text) r;
         begins = omega (arith, p .ends);
         put = put-none out from;
@@ -75,13 +80,25 @@ module _ {words : Lexicon} {load : ℕ} {text buffer : List ℕ} {from at : ℕ}
   stored-long = omega (arith, w .put .ends, w .begins)
 
   -- the address of the next line is known from the place where it goes
-  pub written-address : (2 ≤ load + to) × (load + to - 2 ≡ w .address) × (w .address ≤ 0xFFFF)
-  written-address = omega (arith, stored-long, lines-length load (w .reached .before), w .reached .stands, w .reached .high)
+  address-is : (2 ≤ load + to) × (load + to - 2 ≡ w .address) × (w .address ≤ 0xFFFF)
+  address-is = omega (arith, stored-long, lines-length load (w .reached .before), w .reached .stands, w .reached .high)
+
+  pub written-low : 2 ≤ load + to
+  written-low = address-is .0
+
+  pub written-high : load + to - 2 ≤ 0xFFFF
+  written-high = omega (arith, address-is)
 
   pub written-long : length out ≡ length buffer
   written-long = put-long (w .put)
 
-  module _ {r : TextLine} (h : at < length text) (is : r ≡ lineFrom AfterCr text at) where
+  pub written-room-end : Room out to (twoBytes 0)
+  written-room-end = record { room = omega (arith, room-reached words load text buffer (w .room) (w .reached), stored-long, written-long) }
+
+  pub written-within : to ≤ length out
+  written-within = omega (arith, written-room-end .room)
+
+  module _ {r : TextLine} (is : r ≡ lineFrom AfterCr text at) (h : at < length text) where
     -- a text that has an image is refused at no line
     found : (a : Answer ℕ) → addressBehind words (suc (w .k)) (w .address) (lineAt text at r) ≡ a → (next : ℕ) × Taken words (suc (w .k)) (w .address) (lineAt text at r) next
     unfolding textImage
@@ -95,29 +112,35 @@ module _ {words : Lexicon} {load : ℕ} {text buffer : List ℕ} {from at : ℕ}
     next-reached : Reached words load text (r .next) (w .k + 1) (here .0)
     next-reached = reached-turn (w .reached) h is (here .1)
 
-    -- what the line gives, at its address
-    module _ {address : ℕ} (there : address ≡ w .address) where
-      new-is : given (textLine words 0 (lineBehind text r)) ≡ here .1 .new
-      new-is = ap given (line-behind (textLine words 0) (text-blank words 0) AfterCr text at is) ∙ given-is words (lineAt text at r) (suc (w .k)) (here .1 .line-is)
+    -- what the line gives
+    new-is : given (textLine words 0 (lineBehind text r)) ≡ here .1 .new
+    new-is = ap given (line-behind (textLine words 0) (text-blank words 0) AfterCr text at is) ∙ given-is words (lineAt text at r) (suc (w .k)) (here .1 .line-is)
 
-      bytes-is : linesBytes address (given (textLine words 0 (lineBehind text r))) ≡ linesBytes (endAddress load (w .reached .before)) (here .1 .new)
-      bytes-is = ap (linesBytes address) new-is ∙ ap (λ (a : ℕ). linesBytes a (here .1 .new)) (there ∙ w .reached .stands)
+    bytes-is : linesBytes (load + to - 2) (given (textLine words 0 (lineBehind text r))) ≡ linesBytes (endAddress load (w .reached .before)) (here .1 .new)
+    bytes-is = ap (linesBytes (load + to - 2)) new-is ∙ ap (λ (a : ℕ). linesBytes a (here .1 .new)) (address-is .1 ∙ w .reached .stands)
 
-      all-is : linesBytes load (w .reached .before) ++ linesBytes (endAddress load (w .reached .before)) (here .1 .new) ≡ linesBytes load (next-reached .before)
-      unfolding next-reached
-      all-is = sym (lines-append load (w .reached .before) (here .1 .new)) ∙ ap (linesBytes load) (sym (turn-before (w .reached) h is (here .1)))
+    all-is : linesBytes load (w .reached .before) ++ linesBytes (endAddress load (w .reached .before)) (here .1 .new) ≡ linesBytes load (next-reached .before)
+    unfolding next-reached
+    all-is = sym (lines-append load (w .reached .before) (here .1 .new)) ∙ ap (linesBytes load) (sym (turn-before (w .reached) h is (here .1)))
 
-      pub written-room : Room out to (linesBytes address (given (textLine words 0 (lineBehind text r))))
-      written-room =
-          let new = linesBytes (endAddress load (w .reached .before)) (here .1 .new) in
-          let e = ap length all-is in
-          rw bytes-is
-          (record {
-            room = omega (arith, room-reached words load text buffer (w .room) next-reached, e, length-append (linesBytes load (w .reached .before)) new, stored-long, written-long);
-          })
+    line-room : Room out to (linesBytes (load + to - 2) (given (textLine words 0 (lineBehind text r))))
+    line-room =
+        let new = linesBytes (endAddress load (w .reached .before)) (here .1 .new) in
+        let e = ap length all-is in
+        rw bytes-is
+        (record {
+          room = omega (arith, room-reached words load text buffer (w .room) next-reached, e, length-append (linesBytes load (w .reached .before)) new, stored-long, written-long);
+        })
 
-      pub written-turn : {to′ : ℕ} {out′ : List ℕ} → Put out to (linesBytes address (given (textLine words 0 (lineBehind text r)))) to′ out′ → Written words load text buffer from (r .next) out′ to′
-      written-turn p =
+    pub written-room : Room (midOf to (length out - to) out) 0 (linesBytes (load + to - 2) (given (textLine words 0 (lineBehind text r))))
+    written-room = part-room line-room
+
+    module _ {n : ℕ} {part : List ℕ} (p : Put (midOf to (length out - to) out) 0 (linesBytes (load + to - 2) (given (textLine words 0 (lineBehind text r)))) n part) where
+      pub written-fits : {whole : List ℕ} → Put whole 0 (twoBytes load) from buffer → Fits w64 (length whole) → Fits w64 (to + n)
+      written-fits first f = record { fits = omega (arith, f .fits, line-room .room, part-put {buffer = out} {at = to} p .ends, written-long, put-long first) }
+
+      pub written-turn : Written words load text buffer from (r .next) (putMid to (length out - to) out part) (to + n)
+      written-turn =
           record {
             k = w .k + 1;
             address = here .0;
@@ -126,16 +149,16 @@ module _ {words : Lexicon} {load : ℕ} {text buffer : List ℕ} {from at : ℕ}
             begins = w .begins;
             put =
                 put-as all-is
-                (put-both (linesBytes load (w .reached .before)) (linesBytes (endAddress load (w .reached .before)) (here .1 .new)) (w .put) (put-as bytes-is p));
+                (put-both (linesBytes load (w .reached .before)) (linesBytes (endAddress load (w .reached .before)) (here .1 .new)) (w .put) (put-as bytes-is (part-put {buffer = out} {at = to} p)));
           }
 
-  pub written-room-end : Room out to (twoBytes 0)
-  written-room-end = record { room = omega (arith, room-reached words load text buffer (w .room) (w .reached), stored-long, written-long) }
+  pub written-same : {n : ℕ} {after whole : List ℕ} → Put out to (twoBytes 0) n after → Put whole 0 (twoBytes load) from buffer → length after ≡ length whole
+  written-same last first = put-long last ∙ written-long ∙ put-long first
 
-  pub written-end : length text ≤ at → {whole : List ℕ} → HasRoom whole (textImage words load text) → Put whole 0 (twoBytes load) from buffer → {n : ℕ} {after : List ℕ} → Put out to (twoBytes 0) n after
+  pub written-end : {n : ℕ} {after whole : List ℕ} → Put out to (twoBytes 0) n after → length text ≤ at → Put whole 0 (twoBytes load) from buffer → HasRoom whole (textImage words load text)
       → _≡_ {A = Lent} (record { answer = done n; buffer = after }) (intoBuffer (textImage words load text) whole)
   unfolding textImage imageOf
-  written-end h {whole} room first last =
+  written-end {n} {after} {whole} last h first room =
       let lines = linesBytes load (w .reached .before) in
       into-done whole (textImage words load text)
       (ap (mapDone (imageOf load)) (reached-end (w .reached) h))

@@ -1,2 +1,2 @@
 pub mod Crunched
-pub mod Passes
+pub mod PassesHelpers

@@ -20,7 +20,7 @@ told l = record { code = lengthCode (l .answer); buffer = l .buffer }
 
 -- the image of a text, the dialect given by its number
 abbrev pub crunchedBy : ℕ → ℕ → List ℕ → Answer (List ℕ)
-crunchedBy dialect load text = andThen (byNumber dialect) (λ d. crunched d load text)
+crunchedBy dialect load text = andThen (byNumber dialect) (λ d. crunched (record { load = load; dialect = d }) text)
 
 -- the load address and the line count
 abbrev pub overviewCode : Answer Overview → Code

@@ -1,4 +1,5 @@
 // The library for C and for Rust: its calls take and give numbers and slices. A dialect is 0 for Auto, 1 for BASIC V2, 2 for TSB.
+use image::Options;
 use readers::Checked;
 use readers::links;
 use refusals::Code;
@@ -19,7 +20,14 @@ pub extern "C" fn moldthatch_crunch(text: &[u8], load: u16, dialect: u8, out: &m
     ensures { λ r. ⌜ record { code = r; buffer = now (out .exit) } ≡ told (intoBuffer (crunchedBy dialect load (now (text .entry))) (now (out .entry))) ⌝ }
 {
     match dialect::dialect_by_number(dialect) {
-        Named::Known(known) => lent::outcome_code(image::crunch(text, load, known, out)),
+        Named::Known(known) => lent::outcome_code(image::crunch(
+            text,
+            Options {
+                load,
+                dialect: known,
+            },
+            out,
+        )),
         Named::Refused(refusal) => refusals::refusal_code(refusal),
     }
 }
@@ -30,7 +38,13 @@ pub extern "C" fn moldthatch_crunch_room(text: &[u8], load: u16, dialect: u8) ->
     ensures { λ r. ⌜ r ≡ lengthCode (roomFor (crunchedBy dialect load (now (text .entry)))) ⌝ }
 {
     match dialect::dialect_by_number(dialect) {
-        Named::Known(known) => lent::outcome_code(image::room(text, load, known)),
+        Named::Known(known) => lent::outcome_code(image::room(
+            text,
+            Options {
+                load,
+                dialect: known,
+            },
+        )),
         Named::Refused(refusal) => refusals::refusal_code(refusal),
     }
 }

@@ -1,49 +1,31 @@
--- `image::crunch_with` meets its contract: the words that are found are the text's.
+-- `image::crunch_with` meets its contract: what is measured decides between the three cases.
 -- Assumes nothing.
-use mathlib.Core.Path.{ap, _∙_}
-use mathlib.Core.List.{List}
-use Prim.Native.Nat.{ℕ}
-use denote.Ref.{now}
-use Rattle.refusals.specs.Answer.{Answer}
-use Rattle.lent.specs.Lent.{intoBuffer}
-use Rattle.image.proofs.Whole.{image-found}
+use Rattle.image.proofs.Whole.{whole-fits, whole-refused, whole-short, whole-stored}
 use borrow.Author.Needs.{needs}
 use Rattle.image.proofs.crunch_with.Statement.{statement}
 use Rattle.image.proofs.crunch_with.Tie as tie
 
-slice-aggregate-word-sets : tie.Need-slice-aggregate-word-sets
-slice-aggregate-word-sets c = search needs
-
-slice-aggregate-word-sets-2 : tie.Need-slice-aggregate-word-sets-2
-slice-aggregate-word-sets-2 c = search needs
-
-word-sets-requires : tie.Need-word-sets-requires
-word-sets-requires c κs = search needs
-
-slice-aggregate-into-buffer : tie.Need-slice-aggregate-into-buffer
-slice-aggregate-into-buffer c = search needs
-
-slice-aggregate-into-buffer-2 : tie.Need-slice-aggregate-into-buffer-2
-slice-aggregate-into-buffer-2 c = search needs
-
-into-buffer-requires : tie.Need-into-buffer-requires
-into-buffer-requires c κs = search needs
-
-same-length : tie.Need-same-length
-same-length c = search needs
-
 returns : tie.Need-returns
-returns c = c .before .before .into-buffer .ensures ∙ ap (λ (a : Answer (List ℕ)). intoBuffer a (now (c .before .before .before .before .before .before .before .before .before .before .before .before .before .before .before .before .args .out))) (image-found _ _ _ (c .before .before .before .before .before .before .before .before .word-sets .ensures))
+returns c = search whole-short
+
+write-requires : tie.Need-write-requires
+write-requires c κs = search whole-fits
+
+returns-2 : tie.Need-returns-2
+returns-2 c = search whole-stored
+
+returns-3 : tie.Need-returns-3
+returns-3 c = search whole-refused
 
 pub crunch-with-spec : {M : Type 1} → statement M
 crunch-with-spec =
     tie.close
     (tie.spec
-    slice-aggregate-word-sets
-    slice-aggregate-word-sets-2
-    word-sets-requires
-    slice-aggregate-into-buffer
-    slice-aggregate-into-buffer-2
-    into-buffer-requires
-    same-length
-    returns)
+    (λ c κs. search needs)
+    (λ c. search needs)
+    returns
+    write-requires
+    (λ c. search needs)
+    (λ c. search needs)
+    returns-2
+    returns-3)
