@@ -18,7 +18,7 @@ use Rattle.readers.specs.Terminators.{terminatorStep}
 use Rattle.layout.specs.Changed.{ChangedWithin, offsetBehind, ChangedLine, lineNow}
 use Rattle.layout.specs.Each.{Each}
 use Rattle.layout.specs.Layout.{twoBytes, linkOf, linesBytes, imageOf, endAddress, Laid}
-use Rattle.layout.specs.Reads.{placedLine, linesAt, placeOf, ReadAs, NoZeros}
+use Rattle.layout.specs.Reads.{leastLoad, placedLine, linesAt, placeOf, ReadAs, NoZeros}
 use Rattle.layout.proofs.Laying.{end-append, lines-append}
 use Rattle.layout.proofs.Middle.{changed-middle, middle-changed}
 use Rattle.layout.proofs.ReadBack.{read-back-by-links, read-back-by-terminators}
@@ -183,12 +183,12 @@ module _ {load : ℕ} {before : List NumberedBody} {l : NumberedBody} {after : L
   pub changed-places : map placeOf (linesAt load 2 (before ++ there-now ∷ after)) ≡ map placeOf (linesAt load 2 (before ++ l ∷ after))
   changed-places = places-kept load 2 before l there-now after body-long
 
-  module _ (up : 0x0100 ≤ load) (laid : Laid load (before ++ l ∷ after)) where
+  module _ (up : leastLoad ≤ load) (laid : Laid load (before ++ l ∷ after)) where
     -- by links, whatever the bodies hold
     pub damage-by-links : ReadAs linkStep load (before ++ there-now ∷ after) s
-    damage-by-links = subst (ReadAs linkStep load (before ++ there-now ∷ after)) (sym changed-image) (read-back-by-links up (changed-laid laid))
+    damage-by-links = subst (ReadAs linkStep load (before ++ there-now ∷ after)) (sym changed-image) (read-back-by-links (changed-laid laid) up)
 
     -- by terminators, where no body holds a zero now
     pub damage-by-terminators : NoZeros (before ++ there-now ∷ after) → ReadAs terminatorStep load (before ++ there-now ∷ after) s
     damage-by-terminators none =
-        subst (ReadAs terminatorStep load (before ++ there-now ∷ after)) (sym changed-image) (read-back-by-terminators up (changed-laid laid) none)
+        subst (ReadAs terminatorStep load (before ++ there-now ∷ after)) (sym changed-image) (read-back-by-terminators (changed-laid laid) up none)

@@ -96,6 +96,12 @@ module _ {s : List ℕ} {p link : ℕ} {l : NumberedBody} {rest : List ℕ} (k :
       let b : take (p + 4 + length (l .body) - (p + 4)) (drop (p + 4) s) ≡ l .body = rw (e, body-there) (take-append-seam (l .body) (0 ∷ rest)) in
       ap (λ (x : List ℕ). record { number = l .number; body = x }) b
 
+  -- by links, where the link's high byte is 0
+  pub stands-end : length s ≤ 1048576 → link < 0x0100 → linkStep s p ≡ done end
+  stands-end long low =
+      let z : getD s (p + 1) 0 ≡ 0 = omega (arith, high-byte) in
+      sym (link-end s p long (omega (arith, long-as)) (omega (arith, long-as)) z)
+
   module _ (long : length s ≤ 1048576) (up : 0x0100 ≤ link) (fits : link ≤ 0xFFFF) (number : l .number ≤ 65535) {a : ℕ} (here : a ≡ addressAt s p) where
     at-place : {to next : ℕ} → to ≡ p + 4 + length (l .body) → next ≡ p + 5 + length (l .body) → lineAt s p to next ≡ placedLine a link p l
     at-place t n = rw (here, link-there fits, number-there number, t, n)

@@ -1,8 +1,10 @@
 -- What a reader reads of an image that was laid out (document 01, "Reading and listing"): all that its calls answer, in one record.
 -- Assumes nothing.
-use Prim.Native.Nat.{ℕ, _+_}
+use Prim.Native.Nat.{ℕ, suc, _+_}
 use mathlib.Core.Path.{_≡_}
+use mathlib.Core.Bool.{cond}
 use mathlib.Core.List.{List, [], _∷_}
+use lib.Dec.{leb}
 use lib.ListN.{length}
 use Rattle.refusals.specs.Answer.{done}
 use Rattle.readers.specs.declared.Line.{Line}
@@ -51,3 +53,12 @@ NoZero body = Each (λ b. b ≡ 0 → ⊥) body
 
 abbrev pub NoZeros : List NumberedBody → Type 0
 NoZeros ls = Each (λ l. NoZero (l .body)) ls
+
+-- every link is the load address plus 5 at least: from here on no link's high byte is 0, which would be the end
+abbrev pub leastLoad : ℕ
+leastLoad = 0x00FB
+
+-- how many of the lines laid out at an address the reader by links finds: all, or none where the first link's high byte is 0
+unfoldable pub linesFound : ℕ → List NumberedBody → ℕ
+linesFound load [] = 0
+linesFound load (l ∷ ls) = cond (leb 0x0100 (linkOf load (l .body))) (suc (length ls)) 0

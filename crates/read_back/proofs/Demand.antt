@@ -4,72 +4,42 @@
 -- Assumes nothing.
 use Prim.Native.Nat.{ℕ, suc, _+_, _≤_}
 use mathlib.Core.Path.{_≡_, refl, sym, ap, _∙_, subst}
-use mathlib.Core.Bool.{Bool, true, false}
 use mathlib.Core.List.{List, [], _∷_, _++_}
 use native.Mathlib.Omega.{arith}
-use lib.Dec.{leb}
 use lib.ListN.{length, take, drop}
 use lib.Seq.{sets, sets-eq, take-at}
-use borrow.Author.Tests.{leb-true, le-leb}
-use Rattle.ascii.specs.Bytes.{isDigit}
-use Rattle.ascii.specs.Trim.{leading, solid, trim}
+use borrow.Author.Tests.{le-leb}
 use Rattle.refusals.specs.Answer.{Answer, done, refused, mapDone, andThen}
 use Rattle.lent.specs.Lent.{intoBuffer}
-use Rattle.tables.specs.declared.dialect.Dialect.{Dialect}
-use Rattle.lines.specs.Front.{frontOf}
-use Rattle.lines.specs.declared.front.Kind.the-variants.{Digit, Space}
-use Rattle.lines.specs.declared.number.Numbering.{Numbering}
-use Rattle.lines.specs.declared.number.Numbering.the-variants.{Blank, Missing, OutOfRange, Numbered}
 use Rattle.lines.specs.declared.split.LineRule.the-variants.{AfterCr}
 use Rattle.lines.specs.Domain.{checkedText}
-use Rattle.lines.specs.Numbering.{digitsIn, withDigits, trimmedLine, numbering}
-use Rattle.lines.specs.TextLines.{linesOf}
+use Rattle.lines.specs.Numbering.{ReadLine, blankLine, missingNumber, numberTooHigh, numberedText, readLine}
+use Rattle.lines.specs.TextLines.{textLines}
+use Rattle.lines.proofs.Numbers.{number-fits}
+use Rattle.body.specs.Body.{crunchedBody}
 use Rattle.body.specs.Lexicon.{Lexicon}
 use Rattle.readers.specs.NumberedBody.{NumberedBody}
 use Rattle.readers.specs.Lines.{Overview, overview}
 use Rattle.readers.specs.Bodies.{bodiesOf}
 use Rattle.readers.specs.Links.{linkStep}
 use Rattle.readers.specs.Terminators.{terminatorStep}
+use Rattle.readers.specs.declared.Checked.the-variants.{Image}
 use Rattle.layout.specs.Each.{Each}
 use Rattle.layout.specs.Layout.{endAddress, imageOf, Laid}
-use Rattle.layout.specs.Reads.{NoZeros}
+use Rattle.layout.specs.Reads.{NoZeros, leastLoad, linesFound}
 use Rattle.layout.specs.Changed.{ChangedLine}
 use Rattle.layout.proofs.Laying.{end-append}
-use Rattle.layout.proofs.ReadBack.{read-back-by-links, read-back-by-terminators}
+use Rattle.layout.proofs.ReadBack.{read-back-by-links, read-back-by-terminators, all-or-none, all-found}
 use Rattle.layout.proofs.Damage.{changed-places, damage-by-links, damage-by-terminators}
-use Rattle.image.specs.Crunched.{numberedLine, numberedLines, textLine, crunchLines, wordsOf, crunchedLines, crunched}
-use Rattle.image.specs.Passes.{addressBehind}
+use Rattle.image.specs.Crunched.{linesRead, textLine, crunchLines, textLexicon, crunchedLines, crunched}
+use Rattle.image.specs.PassesHelpers.{addressBehind}
+use Rattle.image.specs.declared.Options.{Options}
 use Rattle.image.proofs.Lining.{Taken, taken, cons-taken, cons-refused}
 use Rattle.read_back.specs.ReadsBack.{ReadsBack, linesNow, ReadsDamaged}
-use Rattle.read_back.specs.Witness.{Witnessed, readingBack, leftRead}
+use Rattle.read_back.specs.ReadingBack.{LentRead, readingBack, leftRead}
 use Rattle.read_back.specs.declared.ReadBack.{ReadBack}
-use Rattle.read_back.specs.declared.ReadBack.the-variants.{Read}
+use Rattle.read_back.specs.declared.ReadBack.the-variants.{Made}
 use Rattle.read_back.proofs.Tight.{read-back-tight}
-
--- ---- a number that a line has fits 16 bits
-
-module _ (n f t : ℕ) where
-  digits-fit : (x : List ℕ) (a e : ℕ) → withDigits x a e (digitsIn x) ≡ Numbered n f t → n ≤ 65535
-  unfolding withDigits digitsIn
-  digits-fit x a e q = go (leb (digitsIn x .value) 65535) refl q
-    where
-      go : (r : Bool) → leb (digitsIn x .value) 65535 ≡ r
-          → elim r [ true ↦ Numbered (digitsIn x .value) (a + frontOf Digit x + frontOf Space (drop (frontOf Digit x) x)) e | false ↦ OutOfRange (digitsIn x .value) ] ≡ Numbered n f t → n ≤ 65535
-      go true h p = let s : n ≡ digitsIn x .value = cc in omega (arith, leb-true (digitsIn x .value) 65535 h)
-      go false h p = let z : _≡_ {A = ℕ} 0 1 = cc in absurd (omega arith)
-
-  trimmed-fits : (x : List ℕ) (a e : ℕ) → trimmedLine x a e ≡ Numbered n f t → n ≤ 65535
-  unfolding trimmedLine
-  trimmed-fits [] a e q = let z : _≡_ {A = ℕ} 0 1 = cc in absurd (omega arith)
-  trimmed-fits (b ∷ x) a e q = go (isDigit b) q
-    where
-      go : (r : Bool) → elim r [ true ↦ withDigits (b ∷ x) a e (digitsIn (b ∷ x)) | false ↦ Missing ] ≡ Numbered n f t → n ≤ 65535
-      go true p = digits-fit (b ∷ x) a e p
-      go false p = let z : _≡_ {A = ℕ} 0 1 = cc in absurd (omega arith)
-
-  number-fits : (l : List ℕ) → numbering l ≡ Numbered n f t → n ≤ 65535
-  unfolding numbering
-  number-fits l q = trimmed-fits (trim l) (leading l) (solid l) q
 
 -- ---- the lines of a text are laid out
 
@@ -78,13 +48,14 @@ FitEach = Each (λ l. l .number ≤ 65535)
 
 new-fit : (words : Lexicon) (k : ℕ) (line : List ℕ) (new : List NumberedBody) → textLine words k line ≡ done new → FitEach new
 unfolding textLine
-new-fit words k line new q = go (numbering line) refl q
+new-fit words k line new q = go (readLine line) refl q
   where
-    go : (m : Numbering) → numbering line ≡ m → numberedLines words k line m ≡ done new → FitEach new
-    go Blank e p = let s : [] ≡ new = cc in subst FitEach s tt
-    go Missing e p = let z : _≡_ {A = ℕ} 0 1 = cc in absurd (omega arith)
-    go (OutOfRange v) e p = let z : _≡_ {A = ℕ} 0 1 = cc in absurd (omega arith)
-    go (Numbered n f t) e p = let s : numberedLine words line n f t ∷ [] ≡ new = cc in subst FitEach s (number-fits n f t line e, tt)
+    go : (r : ReadLine) → readLine line ≡ r → linesRead words k r ≡ done new → FitEach new
+    go blankLine e p = let s : [] ≡ new = cc in subst FitEach s tt
+    go missingNumber e p = let z : _≡_ {A = ℕ} 0 1 = cc in absurd (omega arith)
+    go (numberTooHigh v) e p = let z : _≡_ {A = ℕ} 0 1 = cc in absurd (omega arith)
+    go (numberedText n t) e p =
+        let s : record { number = n; body = crunchedBody words t } ∷ [] ≡ new = cc in subst FitEach s (number-fits line e, tt)
 
 each-append : (ls ms : List NumberedBody) → FitEach ls → FitEach ms → FitEach (ls ++ ms)
 each-append [] ms p q = q
@@ -120,39 +91,42 @@ lines-laid words (line ∷ lines) k address ls h e = go (addressBehind words k a
         })
     go (refused n) p more = let c : refused n ≡ done ls = sym (cons-refused words k address line lines p) ∙ e in let z : _≡_ {A = ℕ} 0 1 = cc in absurd (omega arith)
 
-module _ (dialect : Dialect) (load : ℕ) (text : List ℕ) {ls : List NumberedBody} (low : load ≤ 0xFFFF) (e : crunchedLines dialect load text ≡ done ls) where
-  pub crunched-laid : Laid load ls
+module _ (o : Options) (text : List ℕ) {ls : List NumberedBody} (low : o .load ≤ 0xFFFF) (e : crunchedLines o text ≡ done ls) where
+  pub crunched-laid : Laid (o .load) ls
   unfolding crunchedLines
   crunched-laid = go (checkedText text) e
     where
-      go : (a : Answer (Unit {0})) → andThen a (λ _. crunchLines (wordsOf dialect text) 1 load (linesOf AfterCr text)) ≡ done ls → Laid load ls
-      go (done u) p = lines-laid (wordsOf dialect text) (linesOf AfterCr text) 1 load ls low p
+      go : (a : Answer (Unit {0})) → andThen a (λ _. crunchLines (textLexicon (o .dialect) text) 1 (o .load) (textLines AfterCr text)) ≡ done ls → Laid (o .load) ls
+      go (done u) p = lines-laid (textLexicon (o .dialect) text) (textLines AfterCr text) 1 (o .load) ls low p
       go (refused n) p = let z : _≡_ {A = ℕ} 0 1 = cc in absurd (omega arith)
 
-  crunched-image : crunched dialect load text ≡ done (imageOf load ls)
+  crunched-image : crunched o text ≡ done (imageOf (o .load) ls)
   unfolding crunched
-  crunched-image = ap (mapDone (imageOf load)) e
+  crunched-image = ap (mapDone (imageOf (o .load))) e
 
-  -- ---- what a text's image reads back as
+  -- ---- what a text's image reads back as; the third demand's 0x0100 is above the least load address
 
-  module _ (up : 0x0100 ≤ load) where
+  module _ (up : leastLoad ≤ o .load) where
     -- by links, whatever the bodies hold
-    pub read-back : ReadsBack linkStep dialect load text ls
-    read-back = record { image = crunched-image; reads = read-back-by-links up crunched-laid }
+    pub read-back : ReadsBack linkStep o text ls
+    read-back = record { image = crunched-image; reads = read-back-by-links crunched-laid up }
 
     -- by terminators, where no body holds a zero
-    pub read-back-terminators : NoZeros ls → ReadsBack terminatorStep dialect load text ls
-    read-back-terminators none = record { image = crunched-image; reads = read-back-by-terminators up crunched-laid none }
+    pub read-back-terminators : NoZeros ls → ReadsBack terminatorStep o text ls
+    read-back-terminators none = record { image = crunched-image; reads = read-back-by-terminators crunched-laid up none }
+
+  pub demand-three : 0x0100 ≤ o .load → ReadsBack linkStep o text ls
+  demand-three h = read-back (omega arith)
 
 -- ---- with bytes of one line's number and body changed
 
-module _ (dialect : Dialect) (load : ℕ) (text : List ℕ) {before : List NumberedBody} {l : NumberedBody} {after : List NumberedBody} {s : List ℕ}
-    (low : load ≤ 0xFFFF) (up : 0x0100 ≤ load) (e : crunchedLines dialect load text ≡ done (before ++ l ∷ after)) (k : ChangedLine load before l after s) where
-  pub damage : ReadsDamaged linkStep load before l after s
-  damage = record { reads = damage-by-links k up (crunched-laid dialect load text low e); places = changed-places k }
+module _ (o : Options) (text : List ℕ) {before : List NumberedBody} {l : NumberedBody} {after : List NumberedBody} {s : List ℕ}
+    (low : o .load ≤ 0xFFFF) (up : leastLoad ≤ o .load) (e : crunchedLines o text ≡ done (before ++ l ∷ after)) (k : ChangedLine (o .load) before l after s) where
+  pub damage : ReadsDamaged linkStep (o .load) before l after s
+  damage = record { reads = damage-by-links k up (crunched-laid o text low e); places = changed-places k }
 
-  pub damage-terminators : NoZeros (linesNow load before l after s) → ReadsDamaged terminatorStep load before l after s
-  damage-terminators none = record { reads = damage-by-terminators k up (crunched-laid dialect load text low e) none; places = changed-places k }
+  pub damage-terminators : NoZeros (linesNow (o .load) before l after s) → ReadsDamaged terminatorStep (o .load) before l after s
+  damage-terminators none = record { reads = damage-by-terminators k up (crunched-laid o text low e) none; places = changed-places k }
 
 -- ---- as a call
 
@@ -161,31 +135,40 @@ stored-there : (bytes buffer : List ℕ) → length bytes ≤ length buffer → 
 stored-there bytes buffer h = ap (take (length bytes)) (sets-eq bytes buffer 0 (omega arith)) ∙ take-at bytes (drop (0 + length bytes) buffer) (length bytes) refl
 
 -- a text with these lines, crunched into a buffer that has the room, and what `crunch_and_read` answers and leaves
-module _ (dialect : Dialect) (load : ℕ) (text : List ℕ) {ls : List NumberedBody} (low : load ≤ 0xFFFF) (up : 0x0100 ≤ load) (e : crunchedLines dialect load text ≡ done ls)
-    (buffer : List ℕ) (room : length (imageOf load ls) ≤ length buffer) where
-  image-stored : intoBuffer (crunched dialect load text) buffer ≡ record { answer = done (length (imageOf load ls)); buffer = sets buffer 0 (imageOf load ls) }
+module _ (o : Options) (text : List ℕ) {ls : List NumberedBody} (low : o .load ≤ 0xFFFF) (e : crunchedLines o text ≡ done ls)
+    (buffer : List ℕ) (room : length (imageOf (o .load) ls) ≤ length buffer) where
+  abbrev made : List ℕ
+  made = imageOf (o .load) ls
+
+  image-stored : intoBuffer (crunched o text) buffer ≡ record { answer = done (length made); buffer = sets buffer 0 made }
   unfolding intoBuffer
   image-stored =
-      ap (λ (a : Answer (List ℕ)). intoBuffer a buffer) (read-back dialect load text low e up .image)
+      ap (λ (a : Answer (List ℕ)). intoBuffer a buffer) (crunched-image o text low e)
       ∙ simp (le-leb _ _ room)
 
-  -- the definition's answer: this address, this count
-  pub witness-is : readingBack (intoBuffer (crunched dialect load text) buffer) ≡ leftRead (Read (length (imageOf load ls)) load (length ls)) (sets buffer 0 (imageOf load ls))
+  -- the definition's answer: this length, this address, and as many lines as the reader finds
+  read-back-is : readingBack (intoBuffer (crunched o text) buffer) ≡ leftRead (Made (length made) (Image (o .load) (linesFound (o .load) ls))) (sets buffer 0 made)
   unfolding readingBack
-  witness-is =
+  read-back-is =
       ap readingBack image-stored
-      ∙ ap (λ (s : List ℕ). record { answer = done (record { size = length (imageOf load ls); overview = overview linkStep s }); buffer = sets buffer 0 (imageOf load ls) })
-      (stored-there (imageOf load ls) buffer room)
-      ∙ ap (λ (o : Answer Overview). record { answer = done (record { size = length (imageOf load ls); overview = o }); buffer = sets buffer 0 (imageOf load ls) })
-      (read-back dialect load text low e up .reads .checked)
+      ∙ ap (λ (s : List ℕ). record { answer = done (record { size = length made; overview = overview linkStep s }); buffer = sets buffer 0 made })
+      (stored-there made buffer room)
+      ∙ ap (λ (v : Answer Overview). record { answer = done (record { size = length made; overview = v }); buffer = sets buffer 0 made })
+      (all-or-none ls (crunched-laid o text low e))
 
-  -- whatever a call that keeps the contract answers and leaves: this address, this count, and these lines in the buffer
-  module _ (r : ReadBack) {after : List ℕ} (keeps : leftRead r after ≡ readingBack (intoBuffer (crunched dialect load text) buffer)) where
-    pub witness-answer : r ≡ Read (length (imageOf load ls)) load (length ls)
-    witness-answer = read-back-tight _ r _ after _ keeps (sym witness-is) .0
+  -- whatever a call that keeps the contract answers and leaves
+  module _ (r : ReadBack) {after : List ℕ} (keeps : leftRead r after ≡ readingBack (intoBuffer (crunched o text) buffer)) where
+    -- at any load address: an image that the reader takes, with all lines or none
+    pub call-answer : r ≡ Made (length made) (Image (o .load) (linesFound (o .load) ls))
+    call-answer = read-back-tight _ r _ after _ keeps (sym read-back-is) .0
 
-    pub witness-lines : bodiesOf linkStep (take (length (imageOf load ls)) after) ≡ done ls
-    witness-lines =
-        ap (λ (x : Witnessed). bodiesOf linkStep (take (length (imageOf load ls)) (x .buffer))) (keeps ∙ witness-is)
-        ∙ ap (bodiesOf linkStep) (stored-there (imageOf load ls) buffer room)
-        ∙ read-back dialect load text low e up .reads .bodies
+    -- from the least load address on: every line, and these lines in the buffer
+    module _ (up : leastLoad ≤ o .load) where
+      pub call-count : r ≡ Made (length made) (Image (o .load) (length ls))
+      call-count = call-answer ∙ ap (λ (n : ℕ). Made (length made) (Image (o .load) n)) (all-found ls up)
+
+      pub call-lines : bodiesOf linkStep (take (length made) after) ≡ done ls
+      call-lines =
+          ap (λ (x : LentRead). bodiesOf linkStep (take (length made) (x .buffer))) (keeps ∙ read-back-is)
+          ∙ ap (bodiesOf linkStep) (stored-there made buffer room)
+          ∙ read-back o text low e up .reads .bodies

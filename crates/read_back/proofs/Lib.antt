@@ -1,4 +1,4 @@
 pub mod Demand
+pub mod Stored
 pub mod Table
 pub mod Tight
-pub mod Witnessing

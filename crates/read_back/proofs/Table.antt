@@ -1,87 +1,23 @@
--- Document 01, "Proved table (P) and run cases": every case marked P, in the order of the document, as a single table about the
--- definitions, by computation. A body is that of a line 10 at 0801 under Auto.
+-- The table of document 01, "Proved table (P) and run cases", by computation.
 -- Assumes nothing.
-use Prim.Native.Nat.{ℕ}
-use Prim.Native.String.{String}
-use mathlib.Core.Path.{_≡_, refl}
-use mathlib.Core.List.{List, [], _∷_, _++_}
+use mathlib.Core.Path.{refl}
 use Rattle.ascii.specs.Bytes.{between, upper}
-use Rattle.ascii.specs.Trim.{trim, leading, solid, countsWith}
-use Rattle.words.specs.Compare.{begins, alike, same}
-use Rattle.words.specs.Find.{firstThat, wordIn, liveIn, nameIn}
-use Rattle.refusals.specs.Answer.{Answer, done, refused}
-use Rattle.refusals.specs.Numbers.{missingLineNumber, lineNumberOutOfRange, addressOverflow, unexpectedEof, missingEnd, linkBackward, linkOutside, linkNoEnd}
-use Rattle.tables.specs.Spelling.{bytesOf}
+use Rattle.ascii.specs.Search.{last}
+use Rattle.ascii.specs.Trim.{trim}
+use Rattle.words.specs.Find.{nameIn, meaning}
 use Rattle.tables.specs.Escapes.{escapeNames, cbmLetters, ctrlDigits}
-use Rattle.tables.specs.Rom.{romWords, counted, keep, isWord, v2Words, operators}
+use Rattle.tables.specs.Rom.{v2Words, operators}
 use Rattle.tables.specs.Tsb.{tsbWords}
-use Rattle.tables.specs.declared.dialect.Dialect.the-variants.{Auto}
-use Rattle.escapes.specs.Places.{before, further, behindLast}
 use Rattle.escapes.specs.Numbers.{digitOf, numberAfter, numberOf, hexOf, unsigned, countOf}
 use Rattle.escapes.specs.Keys.{keyNames, controlByte, keyWith, keyed, keyEscape}
-use Rattle.escapes.specs.Escape.{nameEscape, repeated, starred, escapeOf}
-use Rattle.body.specs.Body.{written, crunchedWithin, crunchedFrom}
-use Rattle.body.specs.Lexicon.{liveWord}
-use Rattle.body.specs.Steps.{opened, otherStep, plainStep, lettered, stringByte, escaped, braced, stringStep, dataStep, dataQuoteStep, crunchStep}
-use Rattle.lines.specs.Domain.{checkedText}
-use Rattle.lines.specs.Numbering.{numbering}
-use Rattle.lines.specs.TextLines.{linesOf as textLinesOf}
-use Rattle.guess.specs.Guess.{wordSets}
-use Rattle.readers.specs.NumberedBody.{NumberedBody}
-use Rattle.readers.specs.Lines.{linesFrom, linesOf, overview}
-use Rattle.readers.specs.Bodies.{bodiesFrom, bodiesOf}
+use Rattle.escapes.specs.Escape.{nameEscape, repeated, starred, countedName}
+use Rattle.readers.specs.Bodies.{bodiesFrom}
+use Rattle.readers.specs.Lines.{overview}
 use Rattle.readers.specs.Links.{linkStep}
 use Rattle.readers.specs.Terminators.{beforeZero, terminatorStep}
-use Rattle.layout.specs.Layout.{imageOf, endAddress}
-use Rattle.image.specs.Crunched.{textLine, lastLink, crunchLines, crunchedLines, crunched}
+use Rattle.image.specs.Crunched.{crunched}
+use Rattle.read_back.specs.ProvedTable.{ProvedTable}
 
-infix 60 _crunchedAt_
-abbrev pub _crunchedAt_ : String → ℕ → Answer (List ℕ)
-text crunchedAt load = crunched Auto load (bytesOf text)
-
--- one line, 10
-abbrev pub ten : List ℕ → Answer (List NumberedBody)
-ten body = done (record { number = 10; body = body } ∷ [])
-
--- the lines of a text
-abbrev pub linesIn : String → Answer (List NumberedBody)
-linesIn text = crunchedLines Auto 0x0801 (bytesOf text)
-
--- an image of one line, 10 with the body 99, and the link of these two bytes
-abbrev pub linkedBy : ℕ → ℕ → List ℕ
-linkedBy low high = 0x01 ∷ 0x08 ∷ low ∷ high ∷ 0x0A ∷ 0x00 ∷ 0x99 ∷ 0x00 ∷ 0x00 ∷ 0x00 ∷ []
-
--- the image of `10 PRINT "{0}"` at 0801
-abbrev pub printsZero : List ℕ
-printsZero = 0x01 ∷ 0x08 ∷ 0x0B ∷ 0x08 ∷ 0x0A ∷ 0x00 ∷ 0x99 ∷ 0x20 ∷ 0x22 ∷ 0x00 ∷ 0x22 ∷ 0x00 ∷ 0x00 ∷ 0x00 ∷ []
-
-pub proved-table :
-    -- "empty text at FFFF: FF FF 00 00"
-    ("" crunchedAt 0xFFFF ≡ done (0xFF ∷ 0xFF ∷ 0x00 ∷ 0x00 ∷ []))
-    -- "`1` at FFFA: FA FF FF FF 01 00 00 00 00; at FFFB: 5"
-    × ("1" crunchedAt 0xFFFA ≡ done (0xFA ∷ 0xFF ∷ 0xFF ∷ 0xFF ∷ 0x01 ∷ 0x00 ∷ 0x00 ∷ 0x00 ∷ 0x00 ∷ []))
-    × ("1" crunchedAt 0xFFFB ≡ refused addressOverflow)
-    -- "`65536`: 4, line 1", "LF LF `X`: 3, line 3"
-    × ("65536" crunchedAt 0x0801 ≡ refused (lineNumberOutOfRange 1 65536))
-    × (crunched Auto 0x0801 (0x0A ∷ 0x0A ∷ bytesOf "X") ≡ refused (missingLineNumber 3))
-    -- "body `{sh *}` in quotes: 22 C0 22", "`{space*0}` in quotes: 22, the text `{SPACE*0}`, 22"
-    × (linesIn "10 \"{sh *}\"" ≡ ten (0x22 ∷ 0xC0 ∷ 0x22 ∷ []))
-    × (linesIn "10 \"{space*0}\"" ≡ ten (0x22 ∷ bytesOf "{SPACE*0}" ++ 0x22 ∷ []))
-    -- "image 01 08 00: 9 by terminators; 01 08: no lines, but 10 by links"
-    × (overview terminatorStep (0x01 ∷ 0x08 ∷ 0x00 ∷ []) ≡ refused unexpectedEof)
-    × (linesOf terminatorStep (0x01 ∷ 0x08 ∷ []) ≡ done [])
-    × (overview linkStep (0x01 ∷ 0x08 ∷ []) ≡ refused (missingEnd 2))
-    -- "01 08 07 08 0A 00 99 00 00 00 has body 99 both ways; link 0805 gives 11, 0900 gives 12, 0806 gives 13, each at offset 2"
-    × (bodiesOf terminatorStep (linkedBy 0x07 0x08) ≡ ten (0x99 ∷ []))
-    × (bodiesOf linkStep (linkedBy 0x07 0x08) ≡ ten (0x99 ∷ []))
-    × (overview linkStep (linkedBy 0x05 0x08) ≡ refused (linkBackward 2))
-    × (overview linkStep (linkedBy 0x00 0x09) ≡ refused (linkOutside 2))
-    × (overview linkStep (linkedBy 0x06 0x08) ≡ refused (linkNoEnd 2))
-    -- "`10 PRINT "{0}"` at 0801: ..; by terminators the body is 99 20 22, by links 99 20 22 00 22"
-    × ("10 PRINT \"{0}\"" crunchedAt 0x0801 ≡ done printsZero)
-    × (bodiesOf terminatorStep printsZero ≡ ten (0x99 ∷ 0x20 ∷ 0x22 ∷ []))
-    × (bodiesOf linkStep printsZero ≡ ten (0x99 ∷ 0x20 ∷ 0x22 ∷ 0x00 ∷ 0x22 ∷ []))
-    -- "Auto, `10 DIR=5:HIRES 0,1`: body 44 49 52 B2 35 3A 64 01 20 30 2C 31"
-    × (linesIn "10 DIR=5:HIRES 0,1" ≡ ten (0x44 ∷ 0x49 ∷ 0x52 ∷ 0xB2 ∷ 0x35 ∷ 0x3A ∷ 0x64 ∷ 0x01 ∷ 0x20 ∷ 0x30 ∷ 0x2C ∷ 0x31 ∷ []))
-unfolding crunched crunchedLines crunchLines textLine lastLink endAddress imageOf checkedText textLinesOf numbering wordSets overview linesFrom bodiesFrom linkStep terminatorStep beforeZero crunchedFrom crunchedWithin written crunchStep plainStep otherStep opened stringStep braced escaped stringByte lettered dataStep dataQuoteStep liveWord v2Words operators romWords counted keep isWord tsbWords wordIn liveIn nameIn firstThat alike same begins escapeOf starred repeated nameEscape keyEscape keyed keyWith controlByte keyNames countOf unsigned hexOf numberOf numberAfter digitOf behindLast further before escapeNames cbmLetters ctrlDigits trim leading solid countsWith upper between
+pub proved-table : ProvedTable
+unfolding crunched overview bodiesFrom linkStep terminatorStep beforeZero v2Words operators tsbWords nameIn meaning countedName starred repeated nameEscape keyEscape keyed keyWith controlByte keyNames countOf unsigned hexOf numberOf numberAfter digitOf escapeNames cbmLetters ctrlDigits last trim upper between
 proved-table = (refl, refl, refl, refl, refl, refl, refl, refl, refl, refl, refl, refl, refl, refl, refl, refl, refl, refl, refl)

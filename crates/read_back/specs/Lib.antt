@@ -1,2 +1,3 @@
+pub mod ProvedTable
+pub mod ReadingBack
 pub mod ReadsBack
-pub mod Witness

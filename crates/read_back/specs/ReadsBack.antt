@@ -5,18 +5,18 @@ use Prim.Native.Nat.{ℕ}
 use mathlib.Core.Path.{_≡_}
 use mathlib.Core.List.{List, _∷_, _++_, map}
 use Rattle.refusals.specs.Answer.{done}
-use Rattle.tables.specs.declared.dialect.Dialect.{Dialect}
 use Rattle.readers.specs.NumberedBody.{NumberedBody}
 use Rattle.readers.specs.Lines.{Reader}
 use Rattle.layout.specs.Layout.{imageOf}
 use Rattle.layout.specs.Reads.{ReadAs, linesAt, placeOf}
 use Rattle.layout.specs.Changed.{offsetBehind, lineNow}
 use Rattle.image.specs.Crunched.{crunched}
+use Rattle.image.specs.declared.Options.{Options}
 
 -- the text has an image, and a reader gives back the load address and the lines
-pub record ReadsBack (step : Reader) (dialect : Dialect) (load : ℕ) (text : List ℕ) (ls : List NumberedBody) : Type 0 where
-  pub image : crunched dialect load text ≡ done (imageOf load ls)
-  pub reads : ReadAs step load ls (imageOf load ls)
+pub record ReadsBack (step : Reader) (o : Options) (text : List ℕ) (ls : List NumberedBody) : Type 0 where
+  pub image : crunched o text ≡ done (imageOf (o .load) ls)
+  pub reads : ReadAs step (o .load) ls (imageOf (o .load) ls)
 
 -- a line between others, as the bytes of s say it now
 abbrev pub linesNow : ℕ → List NumberedBody → NumberedBody → List NumberedBody → List ℕ → List NumberedBody

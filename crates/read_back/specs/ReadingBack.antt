@@ -6,35 +6,35 @@ use mathlib.Core.List.{List}
 use lib.ListN.{take}
 use Rattle.refusals.specs.Answer.{Answer, done, refused, numbered, mapDone}
 use Rattle.lent.specs.Lent.{Lent}
+use Rattle.readers.specs.Answers.{checkedAnswer}
 use Rattle.readers.specs.Lines.{Overview, overview}
 use Rattle.readers.specs.Links.{linkStep}
 use Rattle.read_back.specs.declared.ReadBack.{ReadBack}
-use Rattle.read_back.specs.declared.ReadBack.the-variants.{Read, Unread, Refused}
+use Rattle.read_back.specs.declared.ReadBack.the-variants.{Made, Refused}
 
 -- an image's length, and what the reader by links answers of it
-pub record Witness : Type 0 where
+pub record ImageRead : Type 0 where
   pub size : ℕ
   pub overview : Answer Overview
 
 -- what a call answers, and what the buffer that it was lent holds then
-pub record Witnessed : Type 0 where
-  pub answer : Answer Witness
+pub record LentRead : Type 0 where
+  pub answer : Answer ImageRead
   pub buffer : List ℕ
 
 -- so many bytes at a buffer's start, read by links
-abbrev pub witness : List ℕ → ℕ → Witness
-witness buffer n = record { size = n; overview = overview linkStep (take n buffer) }
+abbrev pub imageRead : List ℕ → ℕ → ImageRead
+imageRead buffer n = record { size = n; overview = overview linkStep (take n buffer) }
 
 -- what was crunched into a buffer, read back
-unfoldable pub readingBack : Lent → Witnessed
-readingBack l = record { answer = mapDone (witness (l .buffer)) (l .answer); buffer = l .buffer }
+unfoldable pub readingBack : Lent → LentRead
+readingBack l = record { answer = mapDone (imageRead (l .buffer)) (l .answer); buffer = l .buffer }
 
 -- the enum's cases as document 01 numbers them
-abbrev pub readBackAnswer : ReadBack → Answer Witness
-readBackAnswer (Read length load lines) = done (record { size = length; overview = done (record { load = load; lines = lines }) })
-readBackAnswer (Unread length r) = done (record { size = length; overview = refused (numbered r) })
+abbrev pub readBackAnswer : ReadBack → Answer ImageRead
+readBackAnswer (Made length read) = done (record { size = length; overview = checkedAnswer read })
 readBackAnswer (Refused r) = refused (numbered r)
 
 -- an answer, and the buffer as it was left
-abbrev pub leftRead : ReadBack → List ℕ → Witnessed
+abbrev pub leftRead : ReadBack → List ℕ → LentRead
 leftRead r buffer = record { answer = readBackAnswer r; buffer = buffer }

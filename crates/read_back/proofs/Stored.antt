@@ -19,7 +19,8 @@ use Rattle.readers.specs.declared.Checked.{Checked}
 use Rattle.readers.specs.Answers.{checkedAnswer}
 use Rattle.readers.specs.Lines.{Overview, overview}
 use Rattle.readers.specs.Links.{linkStep}
-use Rattle.read_back.specs.Witness.{Witnessed, readingBack}
+use Rattle.read_back.specs.ReadingBack.{readingBack, leftRead}
+use Rattle.read_back.specs.declared.ReadBack.the-variants.{Made, Refused as ReadBack·Refused}
 
 -- what was stored is no longer than the buffer
 stored-fits : (a : Answer (List ℕ)) (buffer : List ℕ) {n : ℕ} {after : List ℕ} → left (Done n) after ≡ intoBuffer a buffer → n ≤ length after
@@ -39,26 +40,25 @@ stored-fits (done bytes) buffer {n} {after} e = go (leb (length bytes) (length b
 stored-fits (refused m) buffer {n} e = let q : _≡_ {A = Answer ℕ} (done n) (refused m) = ap (λ (x : Lent). x .answer) e in let z : _≡_ {A = ℕ} 0 1 = cc in absurd (omega arith)
 
 module _ (a : Answer (List ℕ)) (buffer : List ℕ) {r : Outcome} {after : List ℕ} where
+  as-told : {x : Outcome} → r ≡ x → left r after ≡ intoBuffer a buffer → left x after ≡ intoBuffer a buffer
+  as-told told is = ap (λ (x : Outcome). left x after) (sym told) ∙ is
+
   -- an image was stored
-  module _ {n : ℕ} (told : r ≡ Done n) (is : left r after ≡ intoBuffer a buffer) where
-    stored : left (Done n) after ≡ intoBuffer a buffer
-    stored = ap (λ (x : Outcome). left x after) (sym told) ∙ is
+  module _ {n : ℕ} where
+    pub image-fits : r ≡ Done n → left r after ≡ intoBuffer a buffer → n ≤ length after
+    image-fits told is = stored-fits a buffer (as-told told is)
 
-    pub image-fits : n ≤ length after
-    image-fits = stored-fits a buffer stored
+    pub image-long : r ≡ Done n → left r after ≡ intoBuffer a buffer → n ≡ length (take n after)
+    image-long told is = sym (length-take-le n after (image-fits told is))
 
-    pub image-long : n ≡ length (take n after)
-    image-long = sym (length-take-le n after image-fits)
-
-    pub image-read : {c x : Checked} → c ≡ x → checkedAnswer c ≡ overview linkStep (take n after)
-        → _≡_ {A = Witnessed} (record { answer = done (record { size = n; overview = checkedAnswer x }); buffer = after }) (readingBack (intoBuffer a buffer))
+    pub image-made : (c : Checked) → checkedAnswer c ≡ overview linkStep (take n after) → r ≡ Done n → left r after ≡ intoBuffer a buffer
+        → leftRead (Made n c) after ≡ readingBack (intoBuffer a buffer)
     unfolding readingBack
-    image-read known read =
-        ap (λ (o : Answer Overview). record { answer = done (record { size = n; overview = o }); buffer = after }) (ap checkedAnswer (sym known) ∙ read)
-        ∙ ap readingBack stored
+    image-made c read told is =
+        ap (λ (o : Answer Overview). record { answer = done (record { size = n; overview = o }); buffer = after }) read
+        ∙ ap readingBack (as-told told is)
 
   -- or none
-  pub image-none : {x : Refusal} → r ≡ Refused x → left r after ≡ intoBuffer a buffer
-      → _≡_ {A = Witnessed} (record { answer = refused (numbered x); buffer = after }) (readingBack (intoBuffer a buffer))
+  pub image-none : {x : Refusal} → r ≡ Refused x → left r after ≡ intoBuffer a buffer → leftRead (ReadBack·Refused x) after ≡ readingBack (intoBuffer a buffer)
   unfolding readingBack
-  image-none told is = ap readingBack (ap (λ (x : Outcome). left x after) (sym told) ∙ is)
+  image-none told is = ap readingBack (as-told told is)
