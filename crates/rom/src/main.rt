@@ -6,19 +6,19 @@ use tables::petscii;
 use tables::spellings;
 use tables::texts;
 use words::Match;
-ghost use Rattle.tables.specs.Words.{SpellsWords};
+ghost use Rattle.tables.specs.WordsHelpers.{SpellsWords};
 
 // The token of a V2 word or an operator, or 0.
-fn token_of(bytes: &[u8], starts: &[u16], tokens: &[u8], text: &[u8]) -> u8
-    requires { ⌜ SpellsWords (now bytes) (now starts) (now tokens) ⌝ }
+fn token_of(text: &[u8], bytes: &[u8], index: &[u16]) -> u8
+    requires { ⌜ SpellsWords (now bytes) (now index) ⌝ }
 {
-    match matching::match_v2(bytes, starts, tokens, text) {
+    match matching::match_v2(text, bytes, index) {
         Match::Word {
             index: _,
             used: _,
             token,
         } => token,
-        Match::Nothing => match matching::match_operator(bytes, starts, tokens, text) {
+        Match::Nothing => match matching::match_operator(text, bytes, index) {
             Match::Word {
                 index: _,
                 used: _,
@@ -29,20 +29,11 @@ fn token_of(bytes: &[u8], starts: &[u16], tokens: &[u8], text: &[u8]) -> u8
     }
 }
 
-fn digit(n: u8) -> u8 {
-    petscii::hex_digit(n)
-}
-
 fn print_row(k: u8) -> bool {
     let text_bytes = texts::TEXT_BYTES;
     let text = texts::text_at(&text_bytes, &texts::TEXT_STARTS, k);
-    let token = token_of(
-        &spellings::WORD_BYTES,
-        &spellings::WORD_STARTS,
-        &spellings::WORD_TOKENS,
-        text,
-    );
-    let head = [digit(token / 16), digit(token), b'\t'];
+    let token = token_of(text, &spellings::WORD_BYTES, &spellings::WORD_INDEX);
+    let head = [petscii::hex_digit(token / 16), petscii::hex_digit(token), b'\t'];
     io::write_all(STDOUT_FILENO, &head);
     io::write_all(STDOUT_FILENO, text);
     io::write_all(STDOUT_FILENO, b"\n")
