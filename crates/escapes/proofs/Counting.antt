@@ -9,12 +9,14 @@ use lib.ListN.{length, getD, take, drop}
 use lib.Dec.{ltb, eqb}
 use borrow.Author.Tests.{le-ltb}
 use Rattle.ascii.specs.Bytes.{between, isDigit, isLetter, isSpace, upper}
-use Rattle.ascii.specs.Trim.{trim, leading, solid, countsWith}
+use Rattle.ascii.specs.Search.{front, past}
+use Rattle.ascii.specs.Trim.{trim}
 use Rattle.ascii.proofs.Ranges.{between-in}
+use Rattle.ascii.proofs.Searching.{end-whole}
 use Rattle.escapes.specs.Numbers.{digitOf, numberAfter, numberOf, unsigned, countOf}
 use Rattle.escapes.specs.NumbersHelpers.{lastFrom, lastOf, countable}
 use Rattle.escapes.specs.declared.numbers.Number.the-variants.{Missing}
-use Rattle.escapes.proofs.Numbering.{digit-letter, digit-none, tail-is}
+use Rattle.escapes.proofs.Numbering.{digit-letter, digit-none}
 
 -- ---- the last byte
 
@@ -83,15 +85,9 @@ no-count s e = no-number (2 ^ 64 - 1) (unsigned s) (last-unsigned s e)
 
 -- ---- no white space at the end to trim
 
-solid-whole : (t : List ℕ) → isSpace (lastOf t) ≡ false → solid t ≡ length t
-unfolding solid countsWith lastOf lastFrom
-solid-whole [] e = refl
-solid-whole (b ∷ []) e = rw (countsWith, e)
-solid-whole (b ∷ c ∷ s) e = ap (countsWith b) (solid-whole (c ∷ s) e)
-
-trim-front : (t : List ℕ) → isSpace (lastOf t) ≡ false → trim t ≡ drop (leading t) t
+trim-front : (t : List ℕ) → isSpace (lastOf t) ≡ false → trim t ≡ past isSpace t
 unfolding trim
-trim-front t e = ap (λ (n : ℕ). take (n - leading t) (drop (leading t) t)) (solid-whole t e) ∙ tail-is (leading t) t
+trim-front t e = end-whole isSpace (past isSpace t) (ap isSpace (last-is (past isSpace t)) ∙ last-drop isSpace zero-no-space (front isSpace t) t e)
 
 -- ---- both
 
@@ -106,7 +102,7 @@ uncounted t u k =
     let rest = drop k t in
     let digit : isDigit (lastOf rest) ≡ false = last-drop isDigit zero-no-digit k t (n .0) in
     let space : isSpace (lastOf rest) ≡ false = last-drop isSpace zero-no-space k t (n .1) in
-    ap countOf (trim-front rest space) ∙ no-count (drop (leading rest) rest) (last-drop isDigit zero-no-digit (leading rest) rest digit)
+    ap countOf (trim-front rest space) ∙ no-count (past isSpace rest) (last-drop isDigit zero-no-digit (front isSpace rest) rest digit)
 
 -- ---- the test of the last byte
 

@@ -14,8 +14,8 @@ use lib.Dec.{T, eqb, ltb, ltb→lt}
 use borrow.Author.Tests.{ne-eqb, not-true, not-false}
 use Rattle.ascii.specs.Bytes.{isDigit, isLetter, upper}
 use Rattle.ascii.specs.Search.{isMark, before}
-use Rattle.ascii.proofs.Searching.{before-le, before-take}
-use Rattle.ascii.specs.Trim.{trim, leading, solid}
+use Rattle.ascii.proofs.Searching.{before-le, before-take, tail}
+use Rattle.ascii.specs.Trim.{trim}
 use Rattle.words.specs.Compare.{alike}
 use Rattle.words.specs.Find.{Name, meaning}
 use Rattle.words.specs.RunHelpers.{passesAt, firstFrom}
@@ -28,7 +28,6 @@ use Rattle.escapes.specs.declared.keys.Key.{Key}
 use Rattle.escapes.specs.declared.keys.Key.the-variants.{Control, Commodore, Shift}
 use Rattle.escapes.specs.declared.Escape.{Escape}
 use Rattle.escapes.specs.declared.Escape.the-variants.{Byte, Unknown}
-use Rattle.escapes.proofs.Numbering.{tail-is}
 
 -- ---- what a key gives with a byte
 
@@ -80,7 +79,7 @@ keyed-other prefix (b ∷ []) count n = absurd (n refl)
 keyed-other prefix (b ∷ c ∷ s) count n = refl
 
 keyed-none : (prefix rest : List ℕ) (count : ℕ) → rest ≡ [] → Unknown ≡ keyed prefix (trim rest) count
-unfolding keyed trim leading solid
+unfolding keyed trim
 keyed-none prefix rest count e = rw e
 
 keyed-one : (prefix arg : List ℕ) (count : ℕ) → length arg ≡ 1 → keyed prefix arg count ≡ keyed prefix (getD arg 0 0 ∷ []) count
@@ -138,7 +137,7 @@ module _ (name : List ℕ) (count : ℕ) {mark reach : ℕ} where
     split : arg ≡ trim (take (length name - (mark + 1)) (drop (mark + 1) name)) → mark < reach → mark ≡ before isMark (take reach name)
         → keyed (take mark name) arg count ≡ keyEscape name count
     unfolding keyEscape
-    split a h m = rw (a, tail-is (mark + 1) name, add-one, marked h m)
+    split a h m = rw (a, tail name (mark + 1), add-one, marked h m)
 
     pub key-long : (length arg ≡ 1 → ⊥) → arg ≡ trim (take (length name - (mark + 1)) (drop (mark + 1) name)) → mark < reach → mark ≡ before isMark (take reach name)
         → Unknown ≡ keyEscape name count

@@ -7,24 +7,17 @@ use mathlib.Core.List.{List, [], _∷_}
 use native.Mathlib.Nat.{le-mul-of-pos-right, le-div-iff-mul-le, div-lt-iff-lt-mul}
 use native.Mathlib.Numerals.{add-one}
 use native.Mathlib.Omega.{arith}
-use lib.ListN.{length, getD, take, drop, drop-of-length-le, length-drop}
-use lib.Seq.{drop-cons, take-all}
+use lib.ListN.{length, getD, take, drop, drop-of-length-le}
+use lib.Seq.{drop-cons}
 use lib.Dec.{leb, ltb, eqb}
 use borrow.Author.Tests.{lt-ltb, le-ltb, le-leb, lt-leb, leb-true, eq-eqb, ne-eqb}
 use mir.Syntax.{w8}
 use mir.Val.{Fits}
 use Rattle.ascii.specs.Bytes.{isDigit, isLetter, upper}
+use Rattle.ascii.proofs.Searching.{tail}
 use Rattle.escapes.specs.Numbers.{digitOf, numberAfter, numberOf, hexOf, unsigned, countOf}
 use Rattle.escapes.specs.declared.numbers.Number.{Number}
 use Rattle.escapes.specs.declared.numbers.Number.the-variants.{Value, Missing}
-
--- a place of a function, named by its type
-abbrev pub the : (A : Type 0) → A → A
-the A a = a
-
--- the part of a text from a place up to its end, as it is lent
-pub tail-is : (a : ℕ) (s : List ℕ) → take (length s - a) (drop a s) ≡ drop a s
-tail-is a s = take-all (length s - a) (drop a s) (omega (arith, length-drop a s))
 
 -- ---- a digit
 
@@ -146,7 +139,7 @@ hex-other (b ∷ s) h = rw (hexOf, ne-eqb b 36 h)
 pub hex-digits : (s : List ℕ) {r : Number} → r ≡ numberOf 16 255 (take (length s - 1) (drop 1 s)) → getD s 0 0 ≡ 36 → (length s ≡ 0 → ⊥) → r ≡ hexOf s
 unfolding hexOf
 hex-digits [] e h l = absurd (l refl)
-hex-digits (b ∷ s) e h l = rw (hexOf, eq-eqb b 36 h) (e ∙ ap (numberOf 16 255) (tail-is 1 (b ∷ s)))
+hex-digits (b ∷ s) e h l = rw (hexOf, eq-eqb b 36 h) (e ∙ ap (numberOf 16 255) (tail (b ∷ s) 1))
 
 hex-within : (s : List ℕ) {v : ℕ} → Value v ≡ hexOf s → v ≤ 255
 unfolding hexOf
@@ -175,7 +168,7 @@ plus-other (b ∷ s) h = rw (unsigned, ne-eqb b 43 h)
 pub plus-left-out : (s : List ℕ) → getD s 0 0 ≡ 43 → (length s ≡ 0 → ⊥) → take (length s - 1) (drop 1 s) ≡ unsigned s
 unfolding unsigned
 plus-left-out [] h l = absurd (l refl)
-plus-left-out (b ∷ s) h l = rw (unsigned, eq-eqb b 43 h) (tail-is 1 (b ∷ s))
+plus-left-out (b ∷ s) h l = rw (unsigned, eq-eqb b 43 h) (tail (b ∷ s) 1)
 
 -- ---- a count
 

@@ -12,7 +12,7 @@ use borrow.Author.Tests.{not-true}
 use Rattle.ascii.specs.Search.{equals, last}
 use Rattle.ascii.specs.declared.search.Found.{Found}
 use Rattle.ascii.specs.declared.search.Found.the-variants.{At, Nowhere}
-use Rattle.ascii.proofs.Searching.{last-within}
+use Rattle.ascii.proofs.Searching.{last-within, tail}
 use Rattle.ascii.specs.Trim.{trim}
 use Rattle.words.specs.Find.{nameIn}
 use Rattle.words.specs.declared.Match.{Match}
@@ -27,7 +27,6 @@ use Rattle.escapes.specs.declared.numbers.Number.the-variants.{Value, Mi
 use Rattle.escapes.specs.declared.Escape.{Escape}
 use Rattle.escapes.specs.declared.Escape.the-variants.{Byte, Unknown}
 use Rattle.escapes.proofs.Counting.{uncounted}
-use Rattle.escapes.proofs.Numbering.{tail-is}
 
 -- ---- a name
 
@@ -74,7 +73,7 @@ repeated-some t star (suc n) z = refl
 module _ (t : List ℕ) (star : ℕ) {c : Number} {a : List ℕ} where
   is-repeated : c ≡ countOf a → a ≡ trim (take (length t - (star + 1)) (drop (star + 1) t)) → countedEscape (repeated t star c) ≡ countedEscape (starred t star)
   unfolding starred
-  is-repeated k b = ap (λ (n : Number). countedEscape (repeated t star n)) (k ∙ ap countOf (b ∙ ap trim (tail-is (star + 1) t ∙ rw add-one)))
+  is-repeated k b = ap (λ (n : Number). countedEscape (repeated t star n)) (k ∙ ap countOf (b ∙ ap trim (tail t (star + 1) ∙ rw add-one)))
 
   pub starred-missing : {r : Escape} → r ≡ nameEscape t 1 → c ≡ Missing → c ≡ countOf a → a ≡ trim (take (length t - (star + 1)) (drop (star + 1) t)) → r ≡ countedEscape (starred t star)
   unfolding repeated

@@ -4,7 +4,7 @@ use Prim.Native.String.{String}
 use mathlib.Core.Path.{_≡_, refl}
 use Rattle.ascii.specs.Bytes.{between, upper}
 use Rattle.ascii.specs.Search.{before, last}
-use Rattle.ascii.specs.Trim.{trim, leading, solid, countsWith}
+use Rattle.ascii.specs.Trim.{trim}
 use Rattle.words.specs.Compare.{begins, alike}
 use Rattle.words.specs.Find.{firstThat, nameIn, meaning}
 use Rattle.tables.specs.Spelling.{bytesOf}
@@ -59,5 +59,5 @@ pub escape-table :
     × ("light_red" gives Unknown)
     × ("re\"d" gives Unknown)
     × ("foo{red" gives Unknown)
-unfolding escapeOf countedName starred repeated nameEscape keyEscape keyed keyWith controlByte keyNames countOf unsigned hexOf numberOf numberAfter digitOf last before escapeNames cbmLetters ctrlDigits nameIn firstThat meaning alike begins trim leading solid countsWith upper between
+unfolding escapeOf countedName starred repeated nameEscape keyEscape keyed keyWith controlByte keyNames countOf unsigned hexOf numberOf numberAfter digitOf last before escapeNames cbmLetters ctrlDigits nameIn firstThat meaning alike begins trim upper between
 escape-table = (refl, refl, refl, refl, refl, refl, refl, refl, refl, refl, refl, refl, refl, refl, refl, refl, refl, refl, refl, refl, refl, refl, refl, refl, refl, refl, refl, refl, refl, refl, refl, refl, refl, refl, refl)

@@ -12,10 +12,6 @@ use Rattle.words.specs.RunHelpers.{Lies, Ready, Stored, wordOf, passesAt
 use Rattle.words.specs.declared.Section.{Section}
 use Rattle.words.specs.declared.Test.{Test}
 
--- a place of a function, named by its type
-abbrev pub the : (A : Type 0) → A → A
-the A a = a
-
 pub and-left : (a b : Bool) → T (a && b) → T a
 and-left true b t = tt
 and-left false b t = t

@@ -1,7 +1,8 @@
 -- `escapes::resolve_name` meets its contract.
 -- Assumes nothing.
-use Rattle.escapes.proofs.Numbering.{the, decimal-byte, hex-byte}
+use Rattle.escapes.proofs.Numbering.{decimal-byte, hex-byte}
 use Rattle.escapes.proofs.Resolving.{name-empty, name-decimal, name-hex, name-listed, name-keyed}
+use Rattle.ascii.proofs.Named.{the}
 use borrow.Author.Needs.{needs}
 use Rattle.escapes.proofs.resolve_name.Statement.{statement}
 use Rattle.escapes.proofs.resolve_name.Tie as tie
