@@ -1,0 +1,119 @@
+-- What a limit changes (document 02, No. 4: "Raising it never alters an answer other than 19"), and that without 19 the answer is the
+-- search of the full list, or the first match before the fault.
+-- Assumes nothing.
+use Prim.Native.Nat.{ℕ, _+_, _≤_, _<_}
+use mathlib.Core.Path.{_≡_, refl, sym, ap, _∙_, subst}
+use mathlib.Core.Bool.{Bool, true, false, cond}
+use mathlib.Core.List.{List, [], _∷_}
+use native.Mathlib.Omega.{arith}
+use lib.Dec.{eqb, leb, ltb}
+use lib.ListN.{length}
+use borrow.Author.Tests.{lt-leb, leb-false}
+use Rattle.refusals.specs.Numbers.{Numbered, imageTooLong, tooShort}
+use Rattle.refusals.specs.Answer.{Answer, done, refused}
+use Rattle.readers.specs.declared.Line.{Line}
+use Rattle.readers.specs.Image.{sized}
+use Rattle.readers.specs.Chain.{Chain, here, on, Leads}
+use Rattle.readers.specs.Lines.{linesOf}
+use Rattle.readers.specs.Links.{linkStep}
+use Rattle.readers.proofs.ByLinks.{link-sound}
+use Rattle.readers.proofs.Finding.{sized-right}
+use Rattle.readers.proofs.Reading.{lines-lead}
+use Rattle.find_line.proofs.Seeking.{lined-line, lined-end, lined-refused}
+use Rattle.find_line.specs.Sought.{limitReached, Ending, ended, faulted, Lined, Visit, at, nowhere, firstIn, within, linedFrom, lineSought}
+
+-- where the answer is not 19, the limit was not reached, and the test of it may be left out
+below : {A : Type 0} (limit v : ℕ) (a : Answer A) → (cond (leb limit v) (refused limitReached) a ≡ refused limitReached → ⊥) → v < limit
+below limit v a other = go (leb limit v) refl other
+  where
+    go : (b : Bool) → leb limit v ≡ b → (cond b (refused limitReached) a ≡ refused limitReached → ⊥) → v < limit
+    go true e o = absurd (o refl)
+    go false e o = leb-false limit v e
+
+module _ (number : ℕ) where
+  -- a higher limit gives the same
+  raised : (limit higher v : ℕ) (ls : List Line) (e : Ending) → limit ≤ higher → (within number limit v ls e ≡ refused limitReached → ⊥)
+      → within number higher v ls e ≡ within number limit v ls e
+  unfolding within
+  raised limit higher v [] ended h other = refl
+  raised limit higher v [] (faulted n) h other =
+      let l : v < limit = below limit v (refused n) other in
+      let m : v < higher = omega arith in
+      simp (lt-leb _ _ l, lt-leb _ _ m)
+  raised limit higher v (x ∷ ls) e h other =
+      let l : v < limit = below limit v _ other in
+      let m : v < higher = omega arith in
+      simp (lt-leb _ _ l, lt-leb _ _ m) (go (λ o. raised limit higher (v + 1) ls e h o) (eqb (x .number) number) (simp (lt-leb _ _ l) at other))
+    where
+      go : ((within number limit (v + 1) ls e ≡ refused limitReached → ⊥) → within number higher (v + 1) ls e ≡ within number limit (v + 1) ls e) → (b : Bool)
+          → (cond b (done (at (v + 1) x)) (within number limit (v + 1) ls e) ≡ refused limitReached → ⊥)
+          → cond b (done (at (v + 1) x)) (within number higher (v + 1) ls e) ≡ cond b (done (at (v + 1) x)) (within number limit (v + 1) ls e)
+      go behind true o = refl
+      go behind false o = behind o
+
+  pub limit-raised : (limit higher : ℕ) (s : List ℕ) → limit ≤ higher → (lineSought number limit s ≡ refused limitReached → ⊥)
+      → lineSought number higher s ≡ lineSought number limit s
+  unfolding lineSought
+  limit-raised limit higher s h other = go (ltb 1048576 (length s)) (ltb (length s) 2) other
+    where
+      ls : List Line
+      ls = linedFrom linkStep s 2 .lines
+
+      e : Ending
+      e = linedFrom linkStep s 2 .ending
+
+      go : (b c : Bool)
+          → (cond b (refused (imageTooLong (length s))) (cond c (refused tooShort) (within number limit 0 ls e)) ≡ refused limitReached → ⊥)
+          → cond b (refused (imageTooLong (length s))) (cond c (refused tooShort) (within number higher 0 ls e))
+          ≡ cond b (refused (imageTooLong (length s))) (cond c (refused tooShort) (within number limit 0 ls e))
+      go true c o = refl
+      go false true o = refl
+      go false false o = raised limit higher 0 ls e h o
+
+  -- behind the lines stands the end: save for 19 it is the search of the full list
+  pub full-search : (limit v : ℕ) (ls : List Line) → (within number limit v ls ended ≡ refused limitReached → ⊥) → within number limit v ls ended ≡ done (firstIn number v ls)
+  unfolding within firstIn
+  full-search limit v [] other = refl
+  full-search limit v (x ∷ ls) other =
+      let l : v < limit = below limit v _ other in
+      simp (lt-leb _ _ l) (go (λ o. full-search limit (v + 1) ls o) (eqb (x .number) number) (simp (lt-leb _ _ l) at other))
+    where
+      go : ((within number limit (v + 1) ls ended ≡ refused limitReached → ⊥) → within number limit (v + 1) ls ended ≡ done (firstIn number (v + 1) ls)) → (b : Bool)
+          → (cond b (done (at (v + 1) x)) (within number limit (v + 1) ls ended) ≡ refused limitReached → ⊥)
+          → cond b (done (at (v + 1) x)) (within number limit (v + 1) ls ended) ≡ done (cond b (at (v + 1) x) (firstIn number (v + 1) ls))
+      go behind true o = refl
+      go behind false o = behind o
+
+-- ---- the lines of an image
+
+-- lines found one after the other, and what stands behind the last
+chain-lined : (s : List ℕ) {p q : ℕ} {ls : List Line} {e : Ending} → Chain (linkStep s) p ls q → linedFrom linkStep s q ≡ record { lines = []; ending = e }
+    → linedFrom linkStep s p ≡ record { lines = ls; ending = e }
+chain-lined s here f = f
+chain-lined s (on {p = p} {l = l} h c) f =
+    lined-line link-sound s p h ∙ ap (λ (x : Lined). record { lines = l ∷ x .lines; ending = x .ending }) (chain-lined s c f)
+
+right-length : (s : List ℕ) {ls : List Line} → linesOf linkStep s ≡ done ls → (length s ≤ 1048576) × (2 ≤ length s)
+right-length s e =
+    let k = subst (Leads linkStep s 2) e (lines-lead link-sound s 2) in
+    (link-sound .not-too-long s (k .0) (k .2), link-sound .long-enough s (k .0) (k .2))
+
+-- an image that the reader accepts: its lines, and then the end; one that it refuses: some lines, and then the fault
+pub accepted : (s : List ℕ) {ls : List Line} → linesOf linkStep s ≡ done ls → linedFrom linkStep s 2 ≡ record { lines = ls; ending = ended }
+accepted s {ls} e = let k = subst (Leads linkStep s 2) e (lines-lead link-sound s 2) in chain-lined s (k .1) (lined-end link-sound s (k .0) (k .2))
+
+pub refused-at : (s : List ℕ) {n : Numbered} → linesOf linkStep s ≡ refused n → linedFrom linkStep s 2 .ending ≡ faulted n
+refused-at s e =
+    let k = subst (Leads linkStep s 2) e (lines-lead link-sound s 2) in
+    ap (λ (x : Lined). x .ending) (chain-lined s (k .2) (lined-refused link-sound s (k .1) (k .3)))
+
+-- document 02: on an image that the link reader accepts the answer equals, save for 19, a search of the full list
+pub sought-in-full : (number limit : ℕ) (s : List ℕ) {ls : List Line} → linesOf linkStep s ≡ done ls → (lineSought number limit s ≡ refused limitReached → ⊥)
+    → lineSought number limit s ≡ done (firstIn number 0 ls)
+unfolding lineSought
+sought-in-full number limit s {ls} e other =
+    let w : within number limit 0 (linedFrom linkStep s 2 .lines) (linedFrom linkStep s 2 .ending) ≡ within number limit 0 ls ended =
+    ap (λ (x : Lined). within number limit 0 (x .lines) (x .ending)) (accepted s e) in
+    let r = right-length s e in
+    let z : within number limit 0 ls ended ≡ lineSought number limit s = sym w ∙ sized-right s _ (r .0) (r .1) in
+    sym z ∙ full-search number limit 0 ls (λ q. other (sym z ∙ q))

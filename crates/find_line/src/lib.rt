@@ -1,0 +1,59 @@
+// A line by its number: links are followed up to the first line that has it.
+ghost use mathlib.Core.Path.{_≡_};
+ghost use Rattle.find_line.specs.Sought.{soughtAnswer, lineSought};
+use readers::Line;
+use readers::Step;
+use readers::links;
+use refusals::Refusal;
+
+// An image has at most this many bytes.
+const LONGEST: usize = 1048576;
+
+// What a search for a line answers.
+pub enum Sought {
+    // The first line with the number, and the headers visited, its own among them.
+    Found { visited: usize, line: Line },
+    // No line has it: the headers visited are all there are.
+    Nowhere { visited: usize },
+    // As many headers as the limit allows were visited, and the end marker is not next: refusal 19.
+    LimitReached,
+    Refused(Refusal),
+}
+
+// Follows the links from the first line on, over at most `limit` headers.
+pub fn find_line(image: &[u8], number: u16, limit: usize) -> Sought
+    ensures { λ r. ⌜ soughtAnswer r ≡ lineSought number limit (now (image .entry)) ⌝ }
+{
+    let length = image.len();
+    if length > LONGEST {
+        return Sought::Refused(Refusal::ImageTooLong { length });
+    }
+    if length < 2 {
+        return Sought::Refused(Refusal::TooShort);
+    }
+    let mut offset: usize = 2;
+    let mut visited: usize = 0;
+    loop {
+        match links::step(image, offset) {
+            Step::Found(line) => {
+                if visited >= limit {
+                    return Sought::LimitReached;
+                }
+                visited += 1;
+                if line.number == number {
+                    return Sought::Found { visited, line };
+                }
+                offset = line.next;
+            }
+            Step::End => {
+                return Sought::Nowhere { visited };
+            }
+            Step::Refused(refusal) => {
+                if limit <= visited {
+                    return Sought::LimitReached;
+                }
+                return Sought::Refused(refusal);
+            }
+        }
+    }
+}
