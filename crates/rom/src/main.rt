@@ -33,7 +33,11 @@ fn print_row(k: u8) -> bool {
     let text_bytes = texts::TEXT_BYTES;
     let text = texts::text_at(&text_bytes, &texts::TEXT_STARTS, k);
     let token = token_of(text, &spellings::WORD_BYTES, &spellings::WORD_INDEX);
-    let head = [petscii::hex_digit(token / 16), petscii::hex_digit(token), b'\t'];
+    let head = [
+        petscii::hex_digit(token / 16),
+        petscii::hex_digit(token),
+        b'\t',
+    ];
     io::write_all(STDOUT_FILENO, &head);
     io::write_all(STDOUT_FILENO, text);
     io::write_all(STDOUT_FILENO, b"\n")
