@@ -9,9 +9,9 @@ use std::sync::LazyLock;
 use super::disk_damage::{self, Damage};
 use super::disks::{self, FILE_SECTORS, IMAGE_LENGTHS};
 use super::requests;
-use crate::calls::{self, Call};
+use crate::calls::{self, Call, ROOM_LIMIT};
 use crate::disk::{self, DATA_LENGTH, DISK_LENGTH, MOST_FILES};
-use crate::frames::Request;
+use crate::frames::{PAYLOAD_LIMIT, Request};
 use crate::random::Random;
 
 /// Lengths of disks that are far too short.
@@ -57,6 +57,10 @@ pub fn listed(op: u8, random: &mut Random) -> Vec<Request> {
 
 /// The whole disk of the number, from 0 on, made for the op; nothing behind the last.
 pub fn case(op: u8, number: usize) -> Option<Request> {
+    let number = match number {
+        0 => return Some(largest(op)),
+        _ => number - 1,
+    };
     let mut random = Random::new(number as u64);
     let given = match number.checked_sub(WRONG_LENGTHS.len()) {
         None => {
@@ -79,6 +83,20 @@ pub fn case(op: u8, number: usize) -> Option<Request> {
         },
     };
     Some(request(op, &given, &mut random))
+}
+
+/// A disk that fills its frame; for a read, with the largest room too.
+fn largest(op: u8) -> Request {
+    let disk = vec![0; PAYLOAD_LIMIT - calls::fixed_part(op)];
+    if op != calls::READ_FILE {
+        return request(op, &given(b"", 0, disk), &mut Random::new(0));
+    }
+    let call = Call::ReadFile {
+        room: ROOM_LIMIT,
+        name: b"",
+        disk: &disk,
+    };
+    call.encode()
 }
 
 /// Disks to format: what stands on them is of no account.

@@ -5,6 +5,7 @@ use std::collections::BTreeMap;
 
 use crate::calls;
 use crate::disk::{self, CheckedDisk, DISK_LENGTH, SECTOR_LENGTH, Sector};
+use crate::frames::PAYLOAD_LIMIT;
 use crate::generate::{Cases, disk_damage, disks};
 use crate::judge;
 use crate::random::Random;
@@ -337,5 +338,16 @@ fn the_first_cases_are_short() {
             .filter(|request| request.payload.len() > 2_000)
             .count();
         assert_eq!(whole, 1, "op {op:02X}");
+    }
+}
+
+#[test]
+fn the_largest_frames_are_among_the_cases() {
+    for op in calls::FORMAT_DISK..=calls::CHECK_DISK {
+        let mut cases = Cases::new(60, 64, &[op]);
+        let largest = cases.find(|request| request.payload.len() == PAYLOAD_LIMIT);
+        let answer = judge::answer(&largest.expect("one case fills its frame"));
+        assert_eq!(answer[0], 20, "op {op:02X}");
+        assert!(op != calls::READ_FILE || answer.len() == 1 + 524_288 + 1_048_587);
     }
 }
