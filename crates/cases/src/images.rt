@@ -1,7 +1,10 @@
-// Ops 06 to 09: the readers.
+// Ops 06 to 09, 18 and 19: the readers.
+ghost use Prim.Native.Nat.{_≤_};
 use crate::frames;
 use frames::Answer;
+use readers::By;
 use readers::Checked;
+use readers::Line;
 use readers::Step;
 use readers::links;
 use readers::terminators;
@@ -14,25 +17,40 @@ pub fn check_by_links(image: &[u8]) -> bool {
     send_checked(links::check(image))
 }
 
-pub fn step_by_terminators(payload: &[u8]) -> bool {
+// The line at an offset.
+pub fn step(payload: &[u8], by: By) -> bool {
     if payload.len() < 8 {
         return Answer::malformed().send();
     }
     let offset = frames::u64_at(payload, 0) as usize;
     let image = &payload[8..];
-    send_step(
-        terminators::step(image, offset),
-        terminators::body(image, offset),
-    )
+    match readers::step_by(image, offset, by) {
+        Step::Found(line) => send_line(
+            Answer::done().byte(1),
+            line,
+            readers::body_by(image, offset, by),
+        ),
+        Step::End => Answer::done().byte(0).send(),
+        Step::Refused(refusal) => Answer::refused(refusal).send(),
+    }
 }
 
-pub fn step_by_links(payload: &[u8]) -> bool {
+// The same, with the line's address in memory.
+pub fn addressed_step(payload: &[u8], by: By) -> bool {
     if payload.len() < 8 {
         return Answer::malformed().send();
     }
     let offset = frames::u64_at(payload, 0) as usize;
     let image = &payload[8..];
-    send_step(links::step(image, offset), links::body(image, offset))
+    match readers::step_by(image, offset, by) {
+        Step::Found(line) => send_line(
+            Answer::done().byte(1).number(line.address),
+            line,
+            readers::body_by(image, offset, by),
+        ),
+        Step::End => Answer::done().byte(0).send(),
+        Step::Refused(refusal) => Answer::refused(refusal).send(),
+    }
 }
 
 fn send_checked(checked: Checked) -> bool {
@@ -42,16 +60,14 @@ fn send_checked(checked: Checked) -> bool {
     }
 }
 
-fn send_step(step: Step, body: &[u8]) -> bool {
-    match step {
-        Step::Found(line) => Answer::done()
-            .byte(1)
-            .number(line.link as usize)
-            .number(line.number as usize)
-            .number(line.next)
-            .number(body.len())
-            .send_with(body),
-        Step::End => Answer::done().byte(0).send(),
-        Step::Refused(refusal) => Answer::refused(refusal).send(),
-    }
+// A line behind what the answer holds: link, number, next offset, body length, body.
+fn send_line(answer: Answer, line: Line, body: &[u8]) -> bool
+    requires { ⌜ (5 ≤ answer .len) × (answer .len ≤ 32) ⌝ }
+{
+    answer
+        .number(line.link as usize)
+        .number(line.number as usize)
+        .number(line.next)
+        .number(body.len())
+        .send_with(body)
 }

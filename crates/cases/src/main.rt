@@ -11,6 +11,7 @@ mod words;
 use frames::Answer;
 use input::Part;
 use libc::STDIN_FILENO;
+use readers::By;
 
 // Answers one request; false where the answer could not be written.
 fn answer_request(op: u8, payload: &[u8], room: &mut [u8]) -> bool {
@@ -21,11 +22,13 @@ fn answer_request(op: u8, payload: &[u8], room: &mut [u8]) -> bool {
         0x04 => words::dialect_by_name(payload),
         0x05 => words::is_tsb_word(payload),
         0x06 => images::check_by_terminators(payload),
-        0x07 => images::step_by_terminators(payload),
+        0x07 => images::step(payload, By::Terminators),
         0x08 => images::check_by_links(payload),
-        0x09 => images::step_by_links(payload),
+        0x09 => images::step(payload, By::Links),
         0x0A => listings::list(payload, room),
         0x0B => listings::room_for_list(payload),
+        0x18 => images::addressed_step(payload, By::Terminators),
+        0x19 => images::addressed_step(payload, By::Links),
         _ => Answer::malformed().send(),
     }
 }
