@@ -1,0 +1,5 @@
+pub mod Clipping
+pub mod Filling
+pub mod Placing
+pub mod Spelling
+pub mod Telling

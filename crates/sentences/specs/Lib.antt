@@ -1,0 +1,4 @@
+pub mod Clipped
+pub mod Decimal
+pub mod Place
+pub mod Sentence
