@@ -8,6 +8,7 @@ mod rooms;
 mod texts;
 mod words;
 
+use desk::input;
 use frames::Answer;
 use input::Part;
 use libc::STDIN_FILENO;

@@ -1,14 +1,19 @@
-// Crunches a text: standard input to standard output.
+// Crunches a text: standard input to standard output, or the files that it was given.
+use desk::input;
+use desk::output;
 use image::Options;
 use input::Input;
-use libc::STDIN_FILENO;
 use refusals::Refusal;
 use tables::dialect::Dialect;
+ghost use Prim.Native.Nat.{_≤_};
+ghost use lib.ListN.{length};
 
 // Where BASIC programs of the Commodore 64 begin.
 const LOAD: u16 = 0x0801;
 
-fn crunch_text(text: &[u8]) {
+fn crunch_text(text: &[u8])
+    requires { ⌜ length (now text) ≤ 1048576 ⌝ }
+{
     // No image is longer: its last link is at most 0xFFFF.
     let mut image = [0u8; 65_536];
     let options = Options {
@@ -16,16 +21,14 @@ fn crunch_text(text: &[u8]) {
         dialect: Dialect::Auto,
     };
     let outcome = image::crunch(text, options, &mut image);
-    output::write_outcome(outcome, &image);
+    output::answer(outcome, &image, text);
 }
 
 fn main() {
     let mut text = [0u8; 65_536];
-    match input::read_input(STDIN_FILENO, &mut text) {
+    match input::read_given(&mut text) {
         Input::All(count) => crunch_text(&text[0..count]),
-        Input::Longer => {
-            output::write_refusal(Refusal::TextTooLong { length: 65_537 });
-        }
-        Input::Failed => os::fail(b"standard input"),
+        Input::Longer => output::refuse(Refusal::TextTooLong { length: 65_537 }, b""),
+        Input::Failed => output::fail(),
     }
 }

@@ -1,11 +1,11 @@
--- `input::read_input` meets its contract.
+-- `desk::input::read_input` meets its contract.
 -- Assumes nothing.
 use native.Mathlib.Nat.{le-of-lt}
 use Rattle.io.proofs.Counting.{counts}
-use Rattle.input.proofs.Within.{part-count}
+use Rattle.desk.proofs.Within.{part-count}
 use borrow.Author.Needs.{needs}
-use Rattle.input.proofs.read_input.Statement.{statement}
-use Rattle.input.proofs.read_input.Tie as tie
+use Rattle.desk.proofs.input.read_input.Statement.{statement}
+use Rattle.desk.proofs.input.read_input.Tie as tie
 
 read-part-requires : tie.Need-read-part-requires
 read-part-requires c κs = search needs

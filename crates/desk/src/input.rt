@@ -1,8 +1,9 @@
-// Standard input, or any descriptor, read into a lent buffer: the end of the input, a read that failed and an input that is longer than the
-// buffer are told apart. No contract can say which bytes are read. Each function ends, also on an input that never does, given that each read
-// returns. A read that a signal interrupts counts as failed.
+// What is read, into a lent buffer: the end of the input, a read that failed and an input that is longer than the buffer are told apart. Each
+// function ends, also on an input that never does, given that each read returns. A read that a signal interrupts counts as failed.
+use crate::names;
+use libc::STDIN_FILENO;
 ghost use Prim.Native.Nat.{_≤_};
-ghost use Rattle.input.specs.Counted.{PartWithin, InputWithin, counted};
+ghost use Rattle.desk.specs.Counted.{PartWithin, InputWithin, inputCount};
 
 // What filling a buffer came to.
 pub enum Part {
@@ -53,7 +54,7 @@ pub fn read_input(fd: i32, buf: &mut [u8]) -> Input
 
 // A full buffer of count bytes holds the whole input if nothing follows.
 fn ending(fd: i32, count: usize) -> Input
-    ensures { λ r. ⌜ counted r ≤ count ⌝ }
+    ensures { λ r. ⌜ inputCount r ≤ count ⌝ }
 {
     let mut spare = [0u8; 1];
     match read_part(fd, &mut spare) {
@@ -61,4 +62,40 @@ fn ending(fd: i32, count: usize) -> Input
         Part::Cut(_) => Input::All(count),
         Part::Failed => Input::Failed,
     }
+}
+
+// What was read, after standard error has named what could not be.
+fn read_from(fd: i32, name: &[u8], buf: &mut [u8]) -> Input
+    ensures { λ r. ⌜ InputWithin r (now (buf .exit)) ⌝ }
+{
+    let input = read_input(fd, buf);
+    if let Input::Failed = input {
+        os::fail(name);
+    }
+    input
+}
+
+fn read_file(name: &[u8], buf: &mut [u8]) -> Input
+    ensures { λ r. ⌜ InputWithin r (now (buf .exit)) ⌝ }
+{
+    let fd = os::open_read(name);
+    if fd < 0 {
+        os::fail(name);
+        return Input::Failed;
+    }
+    let input = read_from(fd, name, buf);
+    libc::close(fd);
+    input
+}
+
+// Reads the program's input: the file that it was given, or standard input.
+pub fn read_given(buf: &mut [u8]) -> Input
+    ensures { λ r. ⌜ InputWithin r (now (buf .exit)) ⌝ }
+{
+    if !names::is_file(names::IN) {
+        return read_from(STDIN_FILENO, b"standard input", buf);
+    }
+    let mut name = io::buffer();
+    let n = names::name(names::IN, &mut name);
+    read_file(&name[..n], buf)
 }

@@ -1,0 +1,21 @@
+-- `desk::output::write_line` meets its contract.
+-- Assumes nothing.
+use Rattle.desk.proofs.Within.{stored-count}
+use borrow.Author.Needs.{needs}
+use Rattle.desk.proofs.output.write_line.Statement.{statement}
+use Rattle.desk.proofs.output.write_line.Tie as tie
+
+-- what was stored lies within the buffer
+slice-aggregate-write-all : tie.Need-slice-aggregate-write-all
+slice-aggregate-write-all c = search stored-count
+
+pub write-line-spec : {M : Type 1} → statement M
+write-line-spec =
+    tie.close
+    (tie.spec
+    (λ c. search needs)
+    (λ c κs. search needs)
+    (λ c. search needs)
+    slice-aggregate-write-all
+    (λ c κs. search needs)
+    (λ c. search needs))

@@ -1,0 +1,36 @@
+-- What can be said of a reading, and of what is to be written: the count lies within the buffer.
+-- Assumes nothing.
+use Prim.Native.Nat.{ℕ, _≤_, _<_}
+use mathlib.Core.List.{List}
+use lib.ListN.{length}
+use Rattle.io.specs.Counts.{Counts}
+use Rattle.lent.specs.declared.Outcome.{Outcome}
+use Rattle.lent.specs.declared.Outcome.the-variants.{Done, Refused}
+use Rattle.desk.specs.declared.input.Part.{Part}
+use Rattle.desk.specs.declared.input.Part.the-variants.{Whole, Cut}
+use Rattle.desk.specs.declared.input.Part.the-variants.{Failed as PartFailed}
+use Rattle.desk.specs.declared.input.Input.{Input}
+use Rattle.desk.specs.declared.input.Input.the-variants.{All, Longer, Failed}
+
+-- where the input ended too soon, a byte of the buffer at least was not reached
+abbrev pub leavesSome : Part → ℕ → Type 0
+leavesSome Whole size = Unit {0}
+leavesSome (Cut count) size = count < size
+leavesSome PartFailed size = Unit {0}
+
+pub record PartWithin (r : Part) (buf : List ℕ) : Type 0 where
+  pub short : leavesSome r (length buf)
+
+-- the count of a whole input, and 0 where there is none
+abbrev pub inputCount : Input → ℕ
+inputCount (All count) = count
+inputCount Longer = 0
+inputCount Failed = 0
+
+pub record InputWithin (r : Input) (buf : List ℕ) : Type 0 where
+  pub counts : Counts (inputCount r) buf
+
+-- a result of so many bytes stands in a buffer
+abbrev pub Holds : Outcome → List ℕ → Type 0
+Holds (Done count) buf = count ≤ length buf
+Holds (Refused r) buf = Unit {0}
