@@ -1,9 +1,17 @@
-/* Crunches two lines, reads the image by its links, and lists it. */
+/* Crunches two lines, reads the image by its links, lists it, and says why there is no room for it elsewhere. */
 #include "moldthatch.h"
 
 #include <stdio.h>
 
 static const char text[] = "10 PRINT \"Hi{0}\"\n20 GOTO 10\n";
+
+/* Writes why there is no result. */
+static void tell(moldthatch_code refusal)
+{
+    uint8_t sentence[MOLDTHATCH_SENTENCE_LENGTH];
+    size_t length = moldthatch_sentence(refusal.number, refusal.first, refusal.second, sentence, sizeof sentence);
+    printf("%.*s (refusal %d)\n", (int)length, (const char *)sentence, refusal.number);
+}
 
 int main(void)
 {
@@ -11,7 +19,7 @@ int main(void)
     moldthatch_code crunched =
         moldthatch_crunch((const uint8_t *)text, sizeof text - 1, 0x0801, MOLDTHATCH_AUTO, image, sizeof image);
     if (crunched.number != 0) {
-        printf("refusal %d\n", crunched.number);
+        tell(crunched);
         return 1;
     }
     moldthatch_code read = moldthatch_check(image, crunched.first);
@@ -22,6 +30,6 @@ int main(void)
 
     moldthatch_code short_of_room =
         moldthatch_crunch((const uint8_t *)text, sizeof text - 1, 0x0801, MOLDTHATCH_AUTO, image, 8);
-    printf("refusal %d, %zu bytes needed\n", short_of_room.number, short_of_room.first);
+    tell(short_of_room);
     return 0;
 }

@@ -4,6 +4,15 @@
 //! takes any bytes. A refusal changes no byte of a lent buffer, and a result
 //! only as many bytes at its start as the call answers.
 
+use std::{error, fmt, str};
+
+/// The most bytes that a text may have, and an image.
+pub const TEXT_LENGTH: usize = 1_048_576;
+pub const IMAGE_LENGTH: usize = 1_048_576;
+
+/// No sentence is longer.
+const SENTENCE_LENGTH: usize = 128;
+
 #[derive(Debug, Clone, Copy, PartialEq, Eq)]
 pub enum Dialect {
     /// Decide by the program.
@@ -12,7 +21,7 @@ pub enum Dialect {
     Tsb,
 }
 
-/// Why a call gives no result: document 01's refusals, with what each carries.
+/// Why a call gives no result: a refusal, with what it carries. As text it is a sentence for a person.
 #[derive(Debug, Clone, Copy, PartialEq, Eq)]
 pub enum Refusal {
     TextTooLong {
@@ -52,7 +61,106 @@ pub enum Refusal {
         offset: usize,
     },
     UnknownDialect,
+    BadDisk,
+    BadName,
+    NameTaken,
+    NoSuchFile,
+    DirectoryFull,
+    DiskFull,
+    /// A number that this module does not know, from a newer library, with the two values beside it.
+    Other {
+        number: u8,
+        first: usize,
+        second: usize,
+    },
 }
+
+impl Refusal {
+    fn from_code(number: u8, first: usize, second: usize) -> Self {
+        match number {
+            1 => Refusal::TextTooLong { length: first },
+            2 => Refusal::BadByte { offset: first },
+            3 => Refusal::MissingLineNumber { line: first },
+            4 => Refusal::LineNumberOutOfRange {
+                line: first,
+                value: second,
+            },
+            5 => Refusal::AddressOverflow,
+            6 => Refusal::NoRoom { needed: first },
+            7 => Refusal::ImageTooLong { length: first },
+            8 => Refusal::TooShort,
+            9 => Refusal::UnexpectedEof,
+            10 => Refusal::MissingEnd { offset: first },
+            11 => Refusal::LinkBackward { offset: first },
+            12 => Refusal::LinkOutside { offset: first },
+            13 => Refusal::LinkNoEnd { offset: first },
+            14 => Refusal::UnknownDialect,
+            20 => Refusal::BadDisk,
+            21 => Refusal::BadName,
+            22 => Refusal::NameTaken,
+            23 => Refusal::NoSuchFile,
+            24 => Refusal::DirectoryFull,
+            25 => Refusal::DiskFull,
+            _ => Refusal::Other {
+                number,
+                first,
+                second,
+            },
+        }
+    }
+
+    /// The number, and the values that are carried, 0 where there is none.
+    fn code(self) -> (u8, usize, usize) {
+        match self {
+            Refusal::TextTooLong { length } => (1, length, 0),
+            Refusal::BadByte { offset } => (2, offset, 0),
+            Refusal::MissingLineNumber { line } => (3, line, 0),
+            Refusal::LineNumberOutOfRange { line, value } => (4, line, value),
+            Refusal::AddressOverflow => (5, 0, 0),
+            Refusal::NoRoom { needed } => (6, needed, 0),
+            Refusal::ImageTooLong { length } => (7, length, 0),
+            Refusal::TooShort => (8, 0, 0),
+            Refusal::UnexpectedEof => (9, 0, 0),
+            Refusal::MissingEnd { offset } => (10, offset, 0),
+            Refusal::LinkBackward { offset } => (11, offset, 0),
+            Refusal::LinkOutside { offset } => (12, offset, 0),
+            Refusal::LinkNoEnd { offset } => (13, offset, 0),
+            Refusal::UnknownDialect => (14, 0, 0),
+            Refusal::BadDisk => (20, 0, 0),
+            Refusal::BadName => (21, 0, 0),
+            Refusal::NameTaken => (22, 0, 0),
+            Refusal::NoSuchFile => (23, 0, 0),
+            Refusal::DirectoryFull => (24, 0, 0),
+            Refusal::DiskFull => (25, 0, 0),
+            Refusal::Other {
+                number,
+                first,
+                second,
+            } => (number, first, second),
+        }
+    }
+
+    /// The refusal's number.
+    pub fn number(self) -> u8 {
+        self.code().0
+    }
+}
+
+impl fmt::Display for Refusal {
+    fn fmt(&self, f: &mut fmt::Formatter<'_>) -> fmt::Result {
+        let (number, first, second) = self.code();
+        let mut out = [0; SENTENCE_LENGTH];
+        // SAFETY: as for the other calls; `out` is borrowed alone.
+        let length =
+            unsafe { ffi::moldthatch_sentence(number, first, second, out.as_mut_ptr(), out.len()) };
+        match str::from_utf8(&out[..length]) {
+            Ok(sentence) if length > 0 => write!(f, "{sentence} (refusal {number})"),
+            _ => write!(f, "refusal {number}"),
+        }
+    }
+}
+
+impl error::Error for Refusal {}
 
 /// What a whole image is.
 #[derive(Debug, Clone, Copy, PartialEq, Eq)]
@@ -128,27 +236,10 @@ fn length(code: ffi::Code) -> Result<usize, Refusal> {
 }
 
 fn answered(code: ffi::Code) -> Result<(), Refusal> {
-    let first = code.first;
-    Err(match code.number {
-        0 => return Ok(()),
-        1 => Refusal::TextTooLong { length: first },
-        2 => Refusal::BadByte { offset: first },
-        3 => Refusal::MissingLineNumber { line: first },
-        4 => Refusal::LineNumberOutOfRange {
-            line: first,
-            value: code.second,
-        },
-        5 => Refusal::AddressOverflow,
-        6 => Refusal::NoRoom { needed: first },
-        7 => Refusal::ImageTooLong { length: first },
-        8 => Refusal::TooShort,
-        9 => Refusal::UnexpectedEof,
-        10 => Refusal::MissingEnd { offset: first },
-        11 => Refusal::LinkBackward { offset: first },
-        12 => Refusal::LinkOutside { offset: first },
-        13 => Refusal::LinkNoEnd { offset: first },
-        _ => Refusal::UnknownDialect,
-    })
+    match code.number {
+        0 => Ok(()),
+        number => Err(Refusal::from_code(number, code.first, code.second)),
+    }
 }
 
 /// The calls as the library exports them; moldthatch.h says the same for C.
@@ -186,5 +277,12 @@ mod ffi {
         ) -> Code;
         pub fn moldthatch_list_room(image: *const u8, image_length: usize) -> Code;
         pub fn moldthatch_check(image: *const u8, image_length: usize) -> Code;
+        pub fn moldthatch_sentence(
+            number: u8,
+            first: usize,
+            second: usize,
+            out: *mut u8,
+            out_length: usize,
+        ) -> usize;
     }
 }

@@ -12,6 +12,8 @@ ghost use Rattle.readers.specs.Answers.{checkedAnswer};
 ghost use Rattle.readers.specs.Lines.{overview};
 ghost use Rattle.readers.specs.Links.{linkStep};
 ghost use Rattle.listing.specs.Listing.{listing};
+ghost use Rattle.sentences.specs.Clipped.{Clipped};
+ghost use Rattle.sentences.specs.Sentence.{sentence};
 ghost use Rattle.moldthatch.specs.Told.{crunchedBy, told, overviewCode};
 
 // Crunches a text into the start of a buffer: the image's length.
@@ -71,6 +73,27 @@ pub extern "C" fn moldthatch_check(image: &[u8]) -> Code
     ensures { λ r. ⌜ r ≡ overviewCode (overview linkStep (now (image .entry))) ⌝ }
 {
     checked_code(links::check(image))
+}
+
+// Stores the sentence of a refusal at the start of a buffer, as much of it as fits: how many bytes that are.
+#[no_mangle]
+pub extern "C" fn moldthatch_sentence(
+    number: u8,
+    first: usize,
+    second: usize,
+    out: &mut [u8],
+) -> usize
+    ensures { λ r. ⌜ Clipped (now (out .entry)) 0 (sentence (record { number = number; count = 2; first = first; second = second })) r (now (out .exit)) ⌝ }
+{
+    sentences::sentence(
+        Code {
+            number,
+            count: 2,
+            first,
+            second,
+        },
+        out,
+    )
 }
 
 fn checked_code(checked: Checked) -> Code
