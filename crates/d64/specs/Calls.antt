@@ -23,12 +23,12 @@ use Rattle.d64.specs.declared.DiskCheck.the-variants.{Holds, Refused as 
 -- ---- refusals
 
 -- "20; 21 (name empty, over 16 bytes, or with A0)"
-abbrev pub isName : List ℕ → Bool
-isName name = leb 1 (length name) && leb (length name) 16 && not (isIn name 0xA0)
+abbrev pub isFileName : List ℕ → Bool
+isFileName name = leb 1 (length name) && leb (length name) 16 && not (isIn name 0xA0)
 
 -- what is answered on a sound disk for a name
 abbrev pub onSound : {A : Type 0} → List ℕ → List ℕ → Answer A → Answer A
-onSound disk name a = cond (sound disk) (cond (isName name) a (refused badName)) (refused badDisk)
+onSound disk name a = cond (sound disk) (cond (isFileName name) a (refused badName)) (refused badDisk)
 
 -- the listed entries of a name: one, or none, where the disk is sound
 abbrev pub entriesNamed : List ℕ → List ℕ → List ℕ
@@ -139,16 +139,16 @@ saved disk name image =
 -- ---- format
 
 -- a list so many times
-unfoldable pub repeated : ℕ → List ℕ → List ℕ
-repeated zero bytes = []
-repeated (suc k) bytes = bytes ++ repeated k bytes
+unfoldable pub repeatedBytes : ℕ → List ℕ → List ℕ
+repeatedBytes zero bytes = []
+repeatedBytes (suc k) bytes = bytes ++ repeatedBytes k bytes
 
 -- "18/0 begins 12 01 41 00, then the map, all free but 18/0 and 18/1 (..); 90 to AA of 18/0 all A0 but A5, A6 "2A""
 unfoldable pub freshHeader : List ℕ
-unfolding repeated
+unfolding repeatedBytes
 freshHeader =
-    0x12 ∷ 0x01 ∷ 0x41 ∷ 0x00 ∷ repeated 17 (0x15 ∷ 0xFF ∷ 0xFF ∷ 0x1F ∷ []) ++ 0x11 ∷ 0xFC ∷ 0xFF ∷ 0x07 ∷ repeated 6 (0x13 ∷ 0xFF ∷ 0xFF ∷ 0x07 ∷ [])
-    ++ repeated 6 (0x12 ∷ 0xFF ∷ 0xFF ∷ 0x03 ∷ []) ++ repeated 5 (0x11 ∷ 0xFF ∷ 0xFF ∷ 0x01 ∷ [])
+    0x12 ∷ 0x01 ∷ 0x41 ∷ 0x00 ∷ repeatedBytes 17 (0x15 ∷ 0xFF ∷ 0xFF ∷ 0x1F ∷ []) ++ 0x11 ∷ 0xFC ∷ 0xFF ∷ 0x07 ∷ repeatedBytes 6 (0x13 ∷ 0xFF ∷ 0xFF ∷ 0x07 ∷ [])
+    ++ repeatedBytes 6 (0x12 ∷ 0xFF ∷ 0xFF ∷ 0x03 ∷ []) ++ repeatedBytes 5 (0x11 ∷ 0xFF ∷ 0xFF ∷ 0x01 ∷ [])
     ++ replicate 21 0xA0 ++ 0x32 ∷ 0x41 ∷ replicate 4 0xA0
 
 -- "Every byte 00 but: .. 18/1 begins 00 FF"
@@ -168,9 +168,9 @@ pub record After : Type 0 where
   pub disk : List ℕ
 
 -- the disk that a call makes, or the disk as it was
-abbrev pub onto : Answer (List ℕ) → List ℕ → After
-onto (done made) disk = record { answer = done tt; disk = made }
-onto (refused n) disk = record { answer = refused n; disk = disk }
+abbrev pub ontoDisk : Answer (List ℕ) → List ℕ → After
+ontoDisk (done made) disk = record { answer = done tt; disk = made }
+ontoDisk (refused n) disk = record { answer = refused n; disk = disk }
 
 abbrev pub changedAnswer : Changed → Answer Unit
 changedAnswer Done = done tt

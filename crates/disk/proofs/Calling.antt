@@ -16,7 +16,7 @@ use Rattle.d64.specs.Chains.{Chain}
 use Rattle.d64.specs.Entries.{listed, chainOf}
 use Rattle.d64.specs.Free.{freeSectors, markedAll}
 use Rattle.d64.specs.Check.{sound}
-use Rattle.d64.specs.Calls.{Holding, diskHolding, chainBytes, fileBytes, scratched, After, onto}
+use Rattle.d64.specs.Calls.{Holding, diskHolding, chainBytes, fileBytes, scratched, After, ontoDisk}
 use Rattle.chains.specs.ChainHelpers.{Sectors, Traces, Lists}
 use Rattle.chains.specs.declared.Traced.{Traced}
 use Rattle.chains.proofs.Marking.{marked-all-long}
@@ -105,13 +105,13 @@ module _ {d name : List ℕ} {l : Located} (k : Locates d name l) where
       ap (λ (a : Answer (List ℕ)). intoBuffer a out) (sym (sym (by-entry d name (λ q. done (chainBytes d (chainOf 683 d q .sectors)))) ∙ ap (λ (a : Answer ℕ). andThen a (λ q. done (chainBytes d (chainOf 683 d q .sectors)))) (not-found e)))
 
   pub scratch-at : {p : ℕ} {d′ : List ℕ} → l ≡ At p → d′ ≡ markedAll (set d p 0) (chainOf 683 d p .sectors) true
-      → _≡_ {A = After} (record { answer = done tt; disk = d′ }) (onto (scratched d name) d)
+      → _≡_ {A = After} (record { answer = done tt; disk = d′ }) (ontoDisk (scratched d name) d)
   unfolding scratched
   scratch-at {p} {d′} e f =
       ap (λ (a : List ℕ). record { answer = done tt; disk = a }) f
-      ∙ ap (λ (a : Answer (List ℕ)). onto a d) (sym (sym (by-entry d name (λ q. done (markedAll (set d q 0) (chainOf 683 d q .sectors) true))) ∙ ap (λ (a : Answer ℕ). andThen a (λ q. done (markedAll (set d q 0) (chainOf 683 d q .sectors) true))) (found e)))
+      ∙ ap (λ (a : Answer (List ℕ)). ontoDisk a d) (sym (sym (by-entry d name (λ q. done (markedAll (set d q 0) (chainOf 683 d q .sectors) true))) ∙ ap (λ (a : Answer ℕ). andThen a (λ q. done (markedAll (set d q 0) (chainOf 683 d q .sectors) true))) (found e)))
 
-  pub scratch-refused : {r : Refusal} → l ≡ Refused r → _≡_ {A = After} (record { answer = refused (numbered r); disk = d }) (onto (scratched d name) d)
+  pub scratch-refused : {r : Refusal} → l ≡ Refused r → _≡_ {A = After} (record { answer = refused (numbered r); disk = d }) (ontoDisk (scratched d name) d)
   unfolding scratched
   scratch-refused {r} e =
-      ap (λ (a : Answer (List ℕ)). onto a d) (sym (sym (by-entry d name (λ q. done (markedAll (set d q 0) (chainOf 683 d q .sectors) true))) ∙ ap (λ (a : Answer ℕ). andThen a (λ q. done (markedAll (set d q 0) (chainOf 683 d q .sectors) true))) (not-found e)))
+      ap (λ (a : Answer (List ℕ)). ontoDisk a d) (sym (sym (by-entry d name (λ q. done (markedAll (set d q 0) (chainOf 683 d q .sectors) true))) ∙ ap (λ (a : Answer ℕ). andThen a (λ q. done (markedAll (set d q 0) (chainOf 683 d q .sectors) true))) (not-found e)))

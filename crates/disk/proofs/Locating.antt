@@ -16,8 +16,8 @@ use Rattle.refusals.specs.declared.Refusal.the-variants.{BadDisk, BadName, NoSu
 use Rattle.d64.specs.Lists.{some, those, isIn}
 use Rattle.d64.specs.Entries.{listed, isNamed}
 use Rattle.d64.specs.Check.{sound}
-use Rattle.d64.specs.Calls.{isName, onSound, ofFile, entriesNamed}
-use Rattle.entries.specs.EntryHelpers.{Entries, firstThat}
+use Rattle.d64.specs.Calls.{isFileName, onSound, ofFile, entriesNamed}
+use Rattle.entries.specs.EntryHelpers.{Entries, firstEntry}
 use Rattle.sound.specs.SoundHelpers.{Looks}
 use Rattle.sound.specs.declared.Seen.{Seen}
 use Rattle.sound.proofs.Looking.{known-entries}
@@ -50,34 +50,34 @@ module _ {l : List ℕ} {i : ℕ} (k : Lacking l i) where
   lack-end h = rw (drop-of-length-le l {i = i} h) at (k .leaves)
 
 module _ (l : List ℕ) where
-  pub no-empty : length l < 1 → false ≡ isName l
+  pub no-empty : length l < 1 → false ≡ isFileName l
   no-empty h = simp (lt-leb 1 (length l) h)
 
-  pub no-long : 1 ≤ length l → 16 < length l → false ≡ isName l
+  pub no-long : 1 ≤ length l → 16 < length l → false ≡ isFileName l
   no-long g h = simp (le-leb 1 (length l) g, lt-leb (length l) 16 h)
 
-  pub some-name : {r : Bool} → 1 ≤ length l → length l ≤ 16 → r ≡ isIn l 0xA0 → not r ≡ isName l
+  pub some-name : {r : Bool} → 1 ≤ length l → length l ≤ 16 → r ≡ isIn l 0xA0 → not r ≡ isFileName l
   some-name g h e = rw e (simp (le-leb 1 (length l) g, le-leb (length l) 16 h))
 
 -- ---- the first that passes a test
 
-pub first-of : {A : Type 0} (test : ℕ → Bool) (l : List ℕ) (f : ℕ → Answer A) → firstThat test l < length l
-    → f (getD l (firstThat test l) 0) ≡ ofFile (those test l) f
-unfolding firstThat those
+pub first-of : {A : Type 0} (test : ℕ → Bool) (l : List ℕ) (f : ℕ → Answer A) → firstEntry test l < length l
+    → f (getD l (firstEntry test l) 0) ≡ ofFile (those test l) f
+unfolding firstEntry those
 first-of test [] f h = absurd (omega arith)
 first-of test (n ∷ l) f h = go (test n) (first-of test l f) h where
-  go : (q : Bool) → (firstThat test l < length l → f (getD l (firstThat test l) 0) ≡ ofFile (those test l) f)
-      → cond q 0 (suc (firstThat test l)) < suc (length l)
-      → f (getD (n ∷ l) (cond q 0 (suc (firstThat test l))) 0) ≡ ofFile (cond q (n ∷ those test l) (those test l)) f
+  go : (q : Bool) → (firstEntry test l < length l → f (getD l (firstEntry test l) 0) ≡ ofFile (those test l) f)
+      → cond q 0 (suc (firstEntry test l)) < suc (length l)
+      → f (getD (n ∷ l) (cond q 0 (suc (firstEntry test l))) 0) ≡ ofFile (cond q (n ∷ those test l) (those test l)) f
   go true e g = refl
   go false e g = e (omega arith)
 
-pub first-none : {A : Type 0} (test : ℕ → Bool) (l : List ℕ) (f : ℕ → Answer A) → length l ≤ firstThat test l → refused noSuchFile ≡ ofFile (those test l) f
-unfolding firstThat those
+pub first-none : {A : Type 0} (test : ℕ → Bool) (l : List ℕ) (f : ℕ → Answer A) → length l ≤ firstEntry test l → refused noSuchFile ≡ ofFile (those test l) f
+unfolding firstEntry those
 first-none test [] f h = refl
 first-none test (n ∷ l) f h = go (test n) (first-none test l f) h where
-  go : (q : Bool) → (length l ≤ firstThat test l → refused noSuchFile ≡ ofFile (those test l) f)
-      → suc (length l) ≤ cond q 0 (suc (firstThat test l)) → refused noSuchFile ≡ ofFile (cond q (n ∷ those test l) (those test l)) f
+  go : (q : Bool) → (length l ≤ firstEntry test l → refused noSuchFile ≡ ofFile (those test l) f)
+      → suc (length l) ≤ cond q 0 (suc (firstEntry test l)) → refused noSuchFile ≡ ofFile (cond q (n ∷ those test l) (those test l)) f
   go true e g = absurd (omega arith)
   go false e g = e (omega arith)
 
@@ -107,22 +107,22 @@ module _ (name : List ℕ) {d : List ℕ} {s : Seen} {a b : List ℕ} (k : Looks
   unfolding located
   locate-unsound e = let f : sound d ≡ false = look-unsound k e in record { answers = rw f; stands = tt }
 
-  module _ {r : Bool} (e : not (s .sound) ≡ false) (f : r ≡ isName name) where
+  module _ {r : Bool} (e : not (s .sound) ≡ false) (f : r ≡ isFileName name) where
     pub locate-name : not r ≡ true → Locates d name (Refused BadName)
     unfolding located
     locate-name g =
         let x : sound d ≡ true = look-sound k e in
-        let y : isName name ≡ false = sym f ∙ not-true r g in
+        let y : isFileName name ≡ false = sym f ∙ not-true r g in
         record { answers = rw x (rw y); stands = tt }
 
-    module _ {i : ℕ} (g : not r ≡ false) (h : i ≡ firstThat (isNamed d name) (take (s .files) b)) where
-      first : i ≡ firstThat (isNamed d name) (listed d)
+    module _ {i : ℕ} (g : not r ≡ false) (h : i ≡ firstEntry (isNamed d name) (take (s .files) b)) where
+      first : i ≡ firstEntry (isNamed d name) (listed d)
       first = rw (k .files) at h
 
       on : onSound d name (ofFile (entriesNamed d name) done) ≡ ofFile (entriesNamed d name) done
       on =
           let x : sound d ≡ true = look-sound k e in
-          let y : isName name ≡ true = sym f ∙ not-false r g in
+          let y : isFileName name ≡ true = sym f ∙ not-false r g in
           rw x (rw y)
 
       pub locate-none : s .files ≤ i → Locates d name (Refused NoSuchFile)
@@ -148,7 +148,7 @@ module _ (name : List ℕ) {d : List ℕ} {s : Seen} {a b : List ℕ} (k : Looks
 -- what follows a search is told by the entry that it found
 pub by-entry : {A : Type 0} (d name : List ℕ) (f : ℕ → Answer A) → andThen (located d name) f ≡ onSound d name (ofFile (entriesNamed d name) f)
 unfolding located
-by-entry {A} d name f = go (sound d) (isName name) (entriesNamed d name) where
+by-entry {A} d name f = go (sound d) (isFileName name) (entriesNamed d name) where
   go : (a b : Bool) (l : List ℕ)
       → andThen (cond a (cond b (ofFile l done) (refused badName)) (refused badDisk)) f ≡ cond a (cond b (ofFile l f) (refused badName)) (refused badDisk)
   go true true [] = refl

@@ -19,7 +19,7 @@ ghost use Rattle.lent.specs.Lent.{intoBuffer, left};
 ghost use Rattle.d64.specs.Lists.{isIn};
 ghost use Rattle.d64.specs.Entries.{chainOf};
 ghost use Rattle.d64.specs.Free.{markedAll};
-ghost use Rattle.d64.specs.Calls.{isName, diskAnswer, diskHolding, chainBytes, fileBytes, scratched, onto, leaving};
+ghost use Rattle.d64.specs.Calls.{isFileName, diskAnswer, diskHolding, chainBytes, fileBytes, scratched, ontoDisk, leaving};
 ghost use Rattle.disk.specs.LocateHelpers.{Locates};
 
 // Where the entry of a name stands.
@@ -63,7 +63,7 @@ fn has_a0(name: &[u8]) -> bool
 }
 
 pub fn is_name(name: &[u8]) -> bool
-    ensures { λ r. ⌜ r ≡ isName (now (name .entry)) ⌝ }
+    ensures { λ r. ⌜ r ≡ isFileName (now (name .entry)) ⌝ }
 {
     if name.len() < 1 {
         return false;
@@ -125,7 +125,7 @@ fn read_entry(disk: &[u8], p: usize, out: &mut [u8]) -> Outcome
 
 // Scratches a file.
 pub fn scratch(disk: &mut [u8], name: &[u8]) -> Changed
-    ensures { λ r. ⌜ leaving r (now (disk .exit)) ≡ onto (scratched (now (disk .entry)) (now (name .entry))) (now (disk .entry)) ⌝ }
+    ensures { λ r. ⌜ leaving r (now (disk .exit)) ≡ ontoDisk (scratched (now (disk .entry)) (now (name .entry))) (now (disk .entry)) ⌝ }
 {
     match locate(disk, name) {
         Located::At(p) => {

@@ -12,52 +12,52 @@ use native.Mathlib.Omega.{arith}
 use borrow.Author.Tests.{eq-eqb, ne-eqb}
 use Rattle.d64.specs.Lists.{some, those}
 use Rattle.d64.specs.Entries.{isNamed, nameAt, entriesGood}
-use Rattle.entries.specs.EntryHelpers.{Entries, firstThat}
+use Rattle.entries.specs.EntryHelpers.{Entries, firstEntry}
 
 pub record Seeking (test : ℕ → Bool) (l : List ℕ) (i : ℕ) : Type 0 where
   pub within : i ≤ length l
-  pub gives : i + firstThat test (drop i l) ≡ firstThat test l
+  pub gives : i + firstEntry test (drop i l) ≡ firstEntry test l
 
 pub seek-start : (test : ℕ → Bool) (l : List ℕ) → Seeking test l 0
 seek-start test l = record { within = omega arith; gives = omega arith }
 
 module _ {test : ℕ → Bool} {l : List ℕ} {i : ℕ} (s : Seeking test l i) where
-  pub seek-found : {r : Bool} → i < length l → r ≡ true → r ≡ test (getD l i 0) → i ≡ firstThat test l
-  unfolding firstThat
+  pub seek-found : {r : Bool} → i < length l → r ≡ true → r ≡ test (getD l i 0) → i ≡ firstEntry test l
+  unfolding firstEntry
   seek-found h e g =
       let q : test (getD l i 0) ≡ true = sym g ∙ e in
-      let m : i + 0 ≡ firstThat test l = simp q at (rw (drop-cons l i 0 h) at (s .gives)) in
+      let m : i + 0 ≡ firstEntry test l = simp q at (rw (drop-cons l i 0 h) at (s .gives)) in
       omega arith
 
   pub seek-turn : {r : Bool} → i < length l → r ≡ false → r ≡ test (getD l i 0) → Seeking test l (i + 1)
-  unfolding firstThat
+  unfolding firstEntry
   seek-turn h e g =
       let q : test (getD l i 0) ≡ false = sym g ∙ e in
-      let m : i + suc (firstThat test (drop (suc i) l)) ≡ firstThat test l = simp q at (rw (drop-cons l i 0 h) at (s .gives)) in
+      let m : i + suc (firstEntry test (drop (suc i) l)) ≡ firstEntry test l = simp q at (rw (drop-cons l i 0 h) at (s .gives)) in
       record { within = omega arith; gives = rw add-one (omega arith) }
 
-  pub seek-end : length l ≤ i → i ≡ firstThat test l
-  unfolding firstThat
+  pub seek-end : length l ≤ i → i ≡ firstEntry test l
+  unfolding firstEntry
   seek-end h =
       let z : drop i l ≡ [] = drop-of-length-le l {i = i} h in
-      let m : i + 0 ≡ firstThat test l = rw z at (s .gives) in
+      let m : i + 0 ≡ firstEntry test l = rw z at (s .gives) in
       omega arith
 
 -- ---- what the place of the first tells
 
-pub first-in : (test : ℕ → Bool) (l : List ℕ) → firstThat test l < length l → some test l ≡ true
-unfolding firstThat some
+pub first-in : (test : ℕ → Bool) (l : List ℕ) → firstEntry test l < length l → some test l ≡ true
+unfolding firstEntry some
 first-in test [] h = absurd (omega arith)
 first-in test (n ∷ l) h = go (test n) refl h (first-in test l) where
-  go : (q : Bool) → test n ≡ q → cond q 0 (suc (firstThat test l)) < suc (length l) → (firstThat test l < length l → some test l ≡ true) → some test (n ∷ l) ≡ true
+  go : (q : Bool) → test n ≡ q → cond q 0 (suc (firstEntry test l)) < suc (length l) → (firstEntry test l < length l → some test l ≡ true) → some test (n ∷ l) ≡ true
   go true e g f = rw e
   go false e g f = rw e (f (omega arith))
 
-pub first-out : (test : ℕ → Bool) (l : List ℕ) → length l ≤ firstThat test l → some test l ≡ false
-unfolding firstThat some
+pub first-out : (test : ℕ → Bool) (l : List ℕ) → length l ≤ firstEntry test l → some test l ≡ false
+unfolding firstEntry some
 first-out test [] h = refl
 first-out test (n ∷ l) h = go (test n) refl h (first-out test l) where
-  go : (q : Bool) → test n ≡ q → suc (length l) ≤ cond q 0 (suc (firstThat test l)) → (length l ≤ firstThat test l → some test l ≡ false) → some test (n ∷ l) ≡ false
+  go : (q : Bool) → test n ≡ q → suc (length l) ≤ cond q 0 (suc (firstEntry test l)) → (length l ≤ firstEntry test l → some test l ≡ false) → some test (n ∷ l) ≡ false
   go true e g f = absurd (omega arith)
   go false e g f = rw e (f (omega arith))
 
@@ -91,11 +91,11 @@ module _ {d l : List ℕ} {i : ℕ} (t : Testing d l i) where
   test-type h e = sym (unrolled h ∙ simp (ne-eqb (getD d (getD l i 0) 0) 0x82 e))
 
   module _ {r : ℕ} {name : List ℕ} (h : i < length l) (e : getD d (getD l i 0) 0 ≡ 0x82) (m : name ≡ nameAt d (getD l i 0))
-      (f : r ≡ firstThat (isNamed d name) (take (length l - (i + 1)) (drop (i + 1) l))) where
+      (f : r ≡ firstEntry (isNamed d name) (take (length l - (i + 1)) (drop (i + 1) l))) where
     abbrev test : ℕ → Bool
     test = isNamed d (nameAt d (getD l i 0))
 
-    first : r ≡ firstThat test (drop (i + 1) l)
+    first : r ≡ firstEntry test (drop (i + 1) l)
     first = rw (m, tail-drop (i + 1)) at f
 
     pub test-twice : r < length (take (length l - (i + 1)) (drop (i + 1) l)) → false ≡ entriesGood d l

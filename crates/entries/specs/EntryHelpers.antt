@@ -17,6 +17,6 @@ pub record Before (bytes : List ℕ) (count : ℕ) : Type 0 where
   pub are : take count bytes ≡ beforeA0 bytes
 
 -- the place of the first number of a list that passes a test; the list's length where none does
-unfoldable pub firstThat : (ℕ → Bool) → List ℕ → ℕ
-firstThat test [] = 0
-firstThat test (n ∷ ns) = cond (test n) 0 (suc (firstThat test ns))
+unfoldable pub firstEntry : (ℕ → Bool) → List ℕ → ℕ
+firstEntry test [] = 0
+firstEntry test (n ∷ ns) = cond (test n) 0 (suc (firstEntry test ns))

@@ -8,7 +8,7 @@ ghost use Prim.Native.Nat.{_+_, _*_, _-_, _≤_, _<_};
 ghost use lib.ListN.{length};
 ghost use Rattle.d64.specs.Entries.{entryAt, isThat, entriesThat, nameAt, isNamed, entriesGood, chainOf, chains as chainsOf};
 ghost use Rattle.chains.specs.ChainHelpers.{Sectors, Traces, Lists};
-ghost use Rattle.entries.specs.EntryHelpers.{Entries, Before, firstThat};
+ghost use Rattle.entries.specs.EntryHelpers.{Entries, Before, firstEntry};
 
 // The offset of the e-th entry in a directory's sectors.
 fn entry_at(sectors: &[usize], e: usize) -> usize
@@ -83,7 +83,7 @@ fn is_named(disk: &[u8], p: usize, name: &[u8]) -> bool
 // The place of the first entry with a name in a list of entries; the list's length where there is none.
 pub fn find(disk: &[u8], entries: &[usize], name: &[u8]) -> usize
     requires { ⌜ (length (now disk) ≡ 174848) × Entries (now entries) ⌝ }
-    ensures { λ r. ⌜ r ≡ firstThat (isNamed (now (disk .entry)) (now (name .entry))) (now (entries .entry)) ⌝ }
+    ensures { λ r. ⌜ r ≡ firstEntry (isNamed (now (disk .entry)) (now (name .entry))) (now (entries .entry)) ⌝ }
 {
     let mut i: usize = 0;
     while i < entries.len() {

@@ -11,7 +11,7 @@ use borrow.Author.Fill.{fill-none, fill-more}
 use borrow.Author.Tests.{eq-eqb, ne-eqb}
 use Rattle.refusals.specs.Numbers.{badDisk}
 use Rattle.refusals.specs.Answer.{Answer, done, refused}
-use Rattle.d64.specs.Calls.{freshHeader, fresh, formatted, After, onto}
+use Rattle.d64.specs.Calls.{freshHeader, fresh, formatted, After, ontoDisk}
 
 pub record Clearing (d₀ d : List ℕ) (i : ℕ) : Type 0 where
   pub within : i ≤ length d₀
@@ -44,11 +44,11 @@ fresh-made e f g h =
     ∙ ap (λ (k : ℕ). sets (sets (replicate k 0) 91392 freshHeader) 91648 (0x00 ∷ 0xFF ∷ [])) e
 
 module _ (d : List ℕ) where
-  pub format-long : (length d ≡ 174848 → ⊥) → _≡_ {A = After} (record { answer = refused badDisk; disk = d }) (onto (formatted d) d)
+  pub format-long : (length d ≡ 174848 → ⊥) → _≡_ {A = After} (record { answer = refused badDisk; disk = d }) (ontoDisk (formatted d) d)
   format-long z = simp (ne-eqb (length d) 174848 z)
 
   pub format-done : {a b c : List ℕ} → length d ≡ 174848 → a ≡ replicate (length d) 0 → b ≡ sets a 91392 freshHeader → c ≡ sets b 91648 (0x00 ∷ 0xFF ∷ [])
-      → _≡_ {A = After} (record { answer = done tt; disk = c }) (onto (formatted d) d)
+      → _≡_ {A = After} (record { answer = done tt; disk = c }) (ontoDisk (formatted d) d)
   format-done e f g h =
       ap (λ (x : List ℕ). record { answer = done tt; disk = x }) (fresh-made e f g h)
-      ∙ ap (λ (b : Bool). onto (cond b (done fresh) (refused badDisk)) d) (sym (eq-eqb (length d) 174848 e))
+      ∙ ap (λ (b : Bool). ontoDisk (cond b (done fresh) (refused badDisk)) d) (sym (eq-eqb (length d) 174848 e))

@@ -4,7 +4,7 @@ use file_bytes::store;
 use refusals::Refusal;
 ghost use mathlib.Core.Path.{_≡_};
 ghost use lib.ListN.{length, replicate};
-ghost use Rattle.d64.specs.Calls.{formatted, onto, leaving};
+ghost use Rattle.d64.specs.Calls.{formatted, ontoDisk, leaving};
 
 // What 18/0 begins with: the first directory sector, the format, the map, and a name and an id of A0.
 const HEADER: [u8; 171] = *b"\x12\x01\x41\x00\
@@ -33,7 +33,7 @@ fn clear(disk: &mut [u8])
 
 // Formats a disk of the right length.
 pub fn format(disk: &mut [u8]) -> Changed
-    ensures { λ r. ⌜ leaving r (now (disk .exit)) ≡ onto (formatted (now (disk .entry))) (now (disk .entry)) ⌝ }
+    ensures { λ r. ⌜ leaving r (now (disk .exit)) ≡ ontoDisk (formatted (now (disk .entry))) (now (disk .entry)) ⌝ }
 {
     if disk.len() != 174848 {
         return Changed::Refused(Refusal::BadDisk);

@@ -14,11 +14,11 @@ use Rattle.tables.specs.declared.dialect.Dialect.{Dialect}
 use Rattle.tables.specs.declared.dialect.Named.{Named}
 use Rattle.tables.specs.declared.dialect.Named.the-variants.{Known, Refused}
 use Rattle.image.specs.Crunched.{crunched}
-use Rattle.moldthatch.specs.Told.{Told, told, crunchedBy}
+use Rattle.moldthatch.specs.Told.{Told, toldCode, crunchedBy}
 
 module _ (o : Outcome) {c : Code} (code : c ≡ lengthCode (outcomeAnswer o)) where
-  pub tells : {b : List ℕ} {l : Lent} → left o b ≡ l → _≡_ {A = Told} (record { code = c; buffer = b }) (told l)
-  tells {b} q = ap (λ (x : Code). record { code = x; buffer = b }) code ∙ ap told q
+  pub tells : {b : List ℕ} {l : Lent} → left o b ≡ l → _≡_ {A = Told} (record { code = c; buffer = b }) (toldCode l)
+  tells {b} q = ap (λ (x : Code). record { code = x; buffer = b }) code ∙ ap toldCode q
 
   pub tells-room : {a : Answer ℕ} → outcomeAnswer o ≡ a → c ≡ lengthCode a
   tells-room q = code ∙ ap lengthCode q
@@ -29,18 +29,18 @@ module _ (number load : ℕ) (text : List ℕ) {n : Named} (answer : namedAnswer
 
   module _ {d : Dialect} (e : n ≡ Known d) (o : Outcome) {c : Code} (code : c ≡ lengthCode (outcomeAnswer o)) where
     pub tells-image : (buffer : List ℕ) {b : List ℕ} → left o b ≡ intoBuffer (crunched (record { load = load; dialect = d }) text) buffer
-        → _≡_ {A = Told} (record { code = c; buffer = b }) (told (intoBuffer (crunchedBy number load text) buffer))
+        → _≡_ {A = Told} (record { code = c; buffer = b }) (toldCode (intoBuffer (crunchedBy number load text) buffer))
     tells-image buffer {b} q = tells o code (q ∙ ap (λ (a : Answer (List ℕ)). intoBuffer a buffer) (crunched-with e))
 
     pub tells-image-room : outcomeAnswer o ≡ roomFor (crunched (record { load = load; dialect = d }) text) → c ≡ lengthCode (roomFor (crunchedBy number load text))
     tells-image-room q = tells-room o code (q ∙ ap roomFor (crunched-with e))
 
   module _ {r : Refusal} (e : n ≡ Refused r) {c : Code} (code : c ≡ codeOf (numbered r)) where
-    pub tells-unknown : (buffer : List ℕ) → _≡_ {A = Told} (record { code = c; buffer = buffer }) (told (intoBuffer (crunchedBy number load text) buffer))
+    pub tells-unknown : (buffer : List ℕ) → _≡_ {A = Told} (record { code = c; buffer = buffer }) (toldCode (intoBuffer (crunchedBy number load text) buffer))
     unfolding intoBuffer
     tells-unknown buffer =
         ap (λ (x : Code). record { code = x; buffer = buffer }) code
-        ∙ ap (λ (a : Answer (List ℕ)). told (intoBuffer a buffer)) (crunched-with e)
+        ∙ ap (λ (a : Answer (List ℕ)). toldCode (intoBuffer a buffer)) (crunched-with e)
 
     pub tells-unknown-room : c ≡ lengthCode (roomFor (crunchedBy number load text))
     tells-unknown-room = code ∙ ap (λ (a : Answer (List ℕ)). lengthCode (roomFor a)) (crunched-with e)

@@ -15,8 +15,8 @@ pub record Told : Type 0 where
   pub code : Code
   pub buffer : List ℕ
 
-abbrev pub told : Lent → Told
-told l = record { code = lengthCode (l .answer); buffer = l .buffer }
+abbrev pub toldCode : Lent → Told
+toldCode l = record { code = lengthCode (l .answer); buffer = l .buffer }
 
 -- the image of a text, the dialect given by its number
 abbrev pub crunchedBy : ℕ → ℕ → List ℕ → Answer (List ℕ)

@@ -14,12 +14,12 @@ ghost use Rattle.readers.specs.Links.{linkStep};
 ghost use Rattle.listing.specs.Listing.{listing};
 ghost use Rattle.sentences.specs.Clipped.{Clipped};
 ghost use Rattle.sentences.specs.Sentence.{sentence};
-ghost use Rattle.moldthatch.specs.Told.{crunchedBy, told, overviewCode};
+ghost use Rattle.moldthatch.specs.Told.{crunchedBy, toldCode, overviewCode};
 
 // Crunches a text into the start of a buffer: the image's length.
 #[no_mangle]
 pub extern "C" fn moldthatch_crunch(text: &[u8], load: u16, dialect: u8, out: &mut [u8]) -> Code
-    ensures { λ r. ⌜ record { code = r; buffer = now (out .exit) } ≡ told (intoBuffer (crunchedBy dialect load (now (text .entry))) (now (out .entry))) ⌝ }
+    ensures { λ r. ⌜ record { code = r; buffer = now (out .exit) } ≡ toldCode (intoBuffer (crunchedBy dialect load (now (text .entry))) (now (out .entry))) ⌝ }
 {
     match dialect::dialect_by_number(dialect) {
         Named::Known(known) => lent::outcome_code(image::crunch(
@@ -54,7 +54,7 @@ pub extern "C" fn moldthatch_crunch_room(text: &[u8], load: u16, dialect: u8) ->
 // Lists an image into the start of a buffer: the listing's length.
 #[no_mangle]
 pub extern "C" fn moldthatch_list(image: &[u8], out: &mut [u8]) -> Code
-    ensures { λ r. ⌜ record { code = r; buffer = now (out .exit) } ≡ told (intoBuffer (listing (now (image .entry))) (now (out .entry))) ⌝ }
+    ensures { λ r. ⌜ record { code = r; buffer = now (out .exit) } ≡ toldCode (intoBuffer (listing (now (image .entry))) (now (out .entry))) ⌝ }
 {
     lent::outcome_code(listing::list(image, out))
 }

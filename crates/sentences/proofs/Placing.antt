@@ -10,7 +10,7 @@ use lib.Dec.{eqb}
 use lib.ListN.{length, getD, take, drop, length-drop, drop-of-length-le}
 use lib.Seq.{drop-cons, take-all}
 use borrow.Author.Tests.{eq-eqb, ne-eqb}
-use Rattle.sentences.specs.Place.{endsLine, past, placeFrom, textPlace}
+use Rattle.sentences.specs.Place.{endsLine, placeBehind, placeFrom, textPlace}
 use Rattle.sentences.specs.declared.place.Place.{Place}
 
 module _ {b : ℕ} (s : List ℕ) where
@@ -31,20 +31,20 @@ ends-last [] n e z = ends-next [] n e
 ends-last (c ∷ s) n e z = absurd (omega arith)
 
 module _ (b : ℕ) (s : List ℕ) (p : Place) where
-  pub past-end : {r : Bool} → r ≡ endsLine b s → r ≡ true → _≡_ {A = Place} (record { line = p .line + 1; column = 1 }) (past p b s)
-  unfolding past
+  pub past-end : {r : Bool} → r ≡ endsLine b s → r ≡ true → _≡_ {A = Place} (record { line = p .line + 1; column = 1 }) (placeBehind p b s)
+  unfolding placeBehind
   past-end e t = let ends : endsLine b s ≡ true = sym e ∙ t in simp ends
 
-  pub past-pi : {r : Bool} → r ≡ endsLine b s → r ≡ false → b ≡ 0x80 → p ≡ past p b s
-  unfolding past
+  pub past-pi : {r : Bool} → r ≡ endsLine b s → r ≡ false → b ≡ 0x80 → p ≡ placeBehind p b s
+  unfolding placeBehind
   past-pi e t h = let ends : endsLine b s ≡ false = sym e ∙ t in simp (ends, eq-eqb b 0x80 h)
 
-  pub past-one : {r : Bool} → r ≡ endsLine b s → r ≡ false → (b ≡ 0x80 → ⊥) → _≡_ {A = Place} (record { line = p .line; column = p .column + 1 }) (past p b s)
-  unfolding past
+  pub past-one : {r : Bool} → r ≡ endsLine b s → r ≡ false → (b ≡ 0x80 → ⊥) → _≡_ {A = Place} (record { line = p .line; column = p .column + 1 }) (placeBehind p b s)
+  unfolding placeBehind
   past-one e t h = let ends : endsLine b s ≡ false = sym e ∙ t in simp (ends, ne-eqb b 0x80 h)
 
-past-line : (p : Place) (b : ℕ) (s : List ℕ) → past p b s .line ≤ p .line + 1
-unfolding past
+past-line : (p : Place) (b : ℕ) (s : List ℕ) → placeBehind p b s .line ≤ p .line + 1
+unfolding placeBehind
 past-line p b s = go (endsLine b s) (eqb b 0x80)
   where
     go : (x y : Bool) → (cond {A = Place} x (record { line = p .line + 1; column = 1 }) (cond y p (record { line = p .line; column = p .column + 1 }))) .line ≤ p .line + 1
@@ -52,8 +52,8 @@ past-line p b s = go (endsLine b s) (eqb b 0x80)
     go false true = omega arith
     go false false = omega arith
 
-past-column : (p : Place) (b : ℕ) (s : List ℕ) → past p b s .column ≤ p .column + 1
-unfolding past
+past-column : (p : Place) (b : ℕ) (s : List ℕ) → placeBehind p b s .column ≤ p .column + 1
+unfolding placeBehind
 past-column p b s = go (endsLine b s) (eqb b 0x80)
   where
     go : (x y : Bool) → (cond {A = Place} x (record { line = p .line + 1; column = 1 }) (cond y p (record { line = p .line; column = p .column + 1 }))) .column ≤ p .column + 1
@@ -80,13 +80,13 @@ passed-start text offset =
     record { few = omega arith; line = omega arith; column = omega arith; gives = ap (λ (m : ℕ). placeFrom (record { line = 1; column = 1 }) m text) n }
 
 module _ {text : List ℕ} {offset i : ℕ} {at : Place} (k : Passed text offset i at) where
-  pub passed-turn : i < length text → i < offset → {next : Place} → next ≡ past at (getD text i 0) (take (length text - (i + 1)) (drop (i + 1) text))
+  pub passed-turn : i < length text → i < offset → {next : Place} → next ≡ placeBehind at (getD text i 0) (take (length text - (i + 1)) (drop (i + 1) text))
       → Passed text offset (i + 1) next
   unfolding placeFrom
   passed-turn h below d =
       let n : offset - i ≡ suc (offset - (i + 1)) = omega arith in
       let whole : take (length text - (i + 1)) (drop (i + 1) text) ≡ drop (i + 1) text = take-all (length text - (i + 1)) (drop (i + 1) text) (omega (arith, length-drop (i + 1) text)) in
-      let e : _ ≡ past at (getD text i 0) (drop (i + 1) text) = d ∙ ap (λ (s : List ℕ). past at (getD text i 0) s) whole in
+      let e : _ ≡ placeBehind at (getD text i 0) (drop (i + 1) text) = d ∙ ap (λ (s : List ℕ). placeBehind at (getD text i 0) s) whole in
       record {
         few = omega arith;
         line = omega (arith, k .line, past-line at (getD text i 0) (drop (i + 1) text), ap (λ (p : Place). p .line) e);

@@ -12,7 +12,7 @@ use Rattle.sentences.specs.Clipped.{Clipped}
 use Rattle.sentences.specs.Decimal.{inDecimal}
 use Rattle.sentences.specs.Place.{textPlace}
 use Rattle.sentences.specs.declared.place.Place.{Place}
-use Rattle.sentences.specs.Sentence.{rows, placedRow, filled, behindRows, sentenceOf, sentence, placed, nameFirst, numberLast, message}
+use Rattle.sentences.specs.Sentence.{rows, placedRow, filled, behindRows, sentenceOf, sentence, placedSentence, nameFirst, numberLast, message}
 use Rattle.sentences.proofs.Clipping.{clip-as, clip-none, clip-both}
 
 some : (k a b : ℕ) → 0 < k → filled (behindRows (k - 1) rows) a b ≡ sentenceOf k a b
@@ -32,12 +32,12 @@ module _ {buffer : List ℕ} {at behind : ℕ} {after : List ℕ} (c : Code) whe
       clip-as (ap (λ (s : List ℕ). filled s (c .first) (c .second)) r ∙ some k (c .first) (c .second) h ∙ ap (λ (n : ℕ). sentenceOf n (c .first) (c .second)) e) p
 
   pub tells-place : (text : List ℕ) {p : Place} → c .number ≡ 2 → p ≡ textPlace text (c .first) → Clipped buffer at (filled placedRow (p .line) (p .column)) behind after
-      → Clipped buffer at (placed text c) behind after
-  unfolding placed
+      → Clipped buffer at (placedSentence text c) behind after
+  unfolding placedSentence
   tells-place text e f p = clip-as (rw (eq-eqb _ _ e, f)) p
 
-  pub tells-otherwise : (text : List ℕ) → (c .number ≡ 2 → ⊥) → Clipped buffer at (sentence c) behind after → Clipped buffer at (placed text c) behind after
-  unfolding placed
+  pub tells-otherwise : (text : List ℕ) → (c .number ≡ 2 → ⊥) → Clipped buffer at (sentence c) behind after → Clipped buffer at (placedSentence text c) behind after
+  unfolding placedSentence
   tells-otherwise text e p = clip-as (rw (ne-eqb _ _ e)) p
 
 pub tells-name : (name : List ℕ) {buffer half after : List ℕ} {mid behind : ℕ} → Clipped buffer 0 name mid half → Clipped half mid (bytesOf ": ") behind after
@@ -51,7 +51,7 @@ unfolding numberLast
 tells-number n p q r = clip-both _ _ p (clip-both _ _ q r)
 
 pub tells-message : (name text : List ℕ) (c : Code) {buffer h₁ h₂ after : List ℕ} {m₁ m₂ behind k : ℕ}
-    → Clipped buffer 0 (nameFirst name) m₁ h₁ → Clipped h₁ m₁ (placed text c) m₂ h₂ → k ≡ c .number → Clipped h₂ m₂ (numberLast k) behind after
+    → Clipped buffer 0 (nameFirst name) m₁ h₁ → Clipped h₁ m₁ (placedSentence text c) m₂ h₂ → k ≡ c .number → Clipped h₂ m₂ (numberLast k) behind after
     → Clipped buffer 0 (message name text c) behind after
 unfolding message
 tells-message name text c p q e r = clip-both _ _ p (clip-both _ _ q (clip-as (ap numberLast e) r))

@@ -13,18 +13,18 @@ unfoldable pub endsLine : ℕ → List ℕ → Bool
 endsLine b s = eqb b 0x0A || (eqb b 0x0D && not (eqb (getD s 0 0) 0x0A))
 
 -- the place behind a byte, which stands in front of s
-unfoldable pub past : Place → ℕ → List ℕ → Place
+unfoldable pub placeBehind : Place → ℕ → List ℕ → Place
 unfolding endsLine
-past p b s =
+placeBehind p b s =
     cond (endsLine b s) (record { line = p .line + 1; column = 1 })
     (cond (eqb b 0x80) p (record { line = p .line; column = p .column + 1 }))
 
 -- the place so many bytes on
 unfoldable pub placeFrom : Place → ℕ → List ℕ → Place
-unfolding past
+unfolding placeBehind
 placeFrom p zero t = p
 placeFrom p (suc n) [] = p
-placeFrom p (suc n) (b ∷ s) = placeFrom (past p b s) n s
+placeFrom p (suc n) (b ∷ s) = placeFrom (placeBehind p b s) n s
 
 unfoldable pub textPlace : List ℕ → ℕ → Place
 unfolding placeFrom

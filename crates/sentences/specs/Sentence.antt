@@ -71,8 +71,8 @@ unfoldable pub sentence : Code → List ℕ
 sentence c = sentenceOf (c .number) (c .first) (c .second)
 
 -- the sentence where the text is at hand: an offset in it is told as a line and a column
-unfoldable pub placed : List ℕ → Code → List ℕ
-placed text c = cond (eqb (c .number) 2) (filled placedRow (textPlace text (c .first) .line) (textPlace text (c .first) .column)) (sentence c)
+unfoldable pub placedSentence : List ℕ → Code → List ℕ
+placedSentence text c = cond (eqb (c .number) 2) (filled placedRow (textPlace text (c .first) .line) (textPlace text (c .first) .column)) (sentence c)
 
 -- what was read stands in front, the refusal's number behind
 unfoldable pub nameFirst : List ℕ → List ℕ
@@ -83,4 +83,4 @@ numberLast n = bytesOf " (refusal " ++ (inDecimal n ++ (0x29 ∷ 0x0A ∷ []))
 
 -- the line that a person reads
 unfoldable pub message : List ℕ → List ℕ → Code → List ℕ
-message name text c = nameFirst name ++ (placed text c ++ numberLast (c .number))
+message name text c = nameFirst name ++ (placedSentence text c ++ numberLast (c .number))

@@ -6,7 +6,7 @@ ghost use mathlib.Core.Path.{_≡_};
 ghost use Prim.Native.Nat.{_≤_};
 ghost use lib.ListN.{length};
 ghost use Rattle.sentences.specs.Clipped.{Clipped};
-ghost use Rattle.sentences.specs.Sentence.{filled, behindRows, sentence as sentenceOf, placed, nameFirst, numberLast, message as messageOf};
+ghost use Rattle.sentences.specs.Sentence.{filled, behindRows, sentence as sentenceOf, placedSentence, nameFirst, numberLast, message as messageOf};
 
 pub mod place;
 mod put;
@@ -112,7 +112,7 @@ fn put_sentence(out: &mut [u8], at: usize, code: Code) -> usize
 // The sentence where the text is at hand: an offset in it as a line and a column.
 fn put_placed(out: &mut [u8], at: usize, text: &[u8], code: Code) -> usize
     requires { ⌜ (at ≤ length (now out)) × (length (now text) ≤ 1048576) ⌝ }
-    ensures { λ r. ⌜ Clipped (now (out .entry)) at (placed (now (text .entry)) code) r (now (out .exit)) ⌝ }
+    ensures { λ r. ⌜ Clipped (now (out .entry)) at (placedSentence (now (text .entry)) code) r (now (out .exit)) ⌝ }
 {
     if code.number == 2 {
         let found = place::place_of(text, code.first);

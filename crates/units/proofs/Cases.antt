@@ -13,7 +13,7 @@ use Rattle.units.specs.declared.Mode.the-variants.{Plain, Quoted, Remark
 use Rattle.units.specs.declared.Rules.{Rules}
 use Rattle.units.specs.declared.Taken.{Taken}
 use Rattle.units.specs.declared.Unit.the-variants.{Char, Token, Pair, Lone}
-use Rattle.units.specs.Units.{toggledMode, modeBehind, one, prefixedUnit, unquotedUnit, quotedUnit, unitAt}
+use Rattle.units.specs.Units.{toggledMode, modeBehind, oneUnit, prefixedUnit, unquotedUnit, quotedUnit, unitAt}
 
 -- the mode behind a byte
 module _ (rules : Rules) (b : ℕ) {mode : Mode} where
@@ -55,23 +55,23 @@ module _ (body : List ℕ) (i : ℕ) (mode : Mode) where
   pub prefixed-pair : i + 1 < length body → _≡_ {A = Taken} (record { unit = Pair (getD body (i + 1) 0); used = 2; mode = mode }) (prefixedUnit mode (drop (i + 1) body))
   prefixed-pair h = rw (drop-cons body (i + 1) 0 h)
 
-  pub prefixed-lone : {r : Taken} → length body ≤ i + 1 → r ≡ one Lone mode → r ≡ prefixedUnit mode (drop (i + 1) body)
+  pub prefixed-lone : {r : Taken} → length body ≤ i + 1 → r ≡ oneUnit Lone mode → r ≡ prefixedUnit mode (drop (i + 1) body)
   prefixed-lone h o = rw (drop-of-length-le body h) o
 
 -- an unquoted byte
 module _ (rules : Rules) (mode : Mode) (b : ℕ) (rest : List ℕ) {r : Taken} {m : Mode} where
-  pub unquoted-quote : b ≡ 0x22 → r ≡ one (Char b) m → m ≡ toggledMode mode → r ≡ unquotedUnit rules mode b rest
+  pub unquoted-quote : b ≡ 0x22 → r ≡ oneUnit (Char b) m → m ≡ toggledMode mode → r ≡ unquotedUnit rules mode b rest
   unfolding unquotedUnit
   unquoted-quote e o t = rw (o, t) (simp (eq-eqb _ _ e))
 
-  pub unquoted-token : 0x80 ≤ b → r ≡ one (Token b) m → m ≡ modeBehind rules mode b → r ≡ unquotedUnit rules mode b rest
+  pub unquoted-token : 0x80 ≤ b → r ≡ oneUnit (Token b) m → m ≡ modeBehind rules mode b → r ≡ unquotedUnit rules mode b rest
   unfolding unquotedUnit
   unquoted-token l o t =
       let n : b ≡ 0x22 → ⊥ = λ q. omega arith in
       let k : b ≡ 0x64 → ⊥ = λ q. omega arith in
       rw (o, t) (simp (ne-eqb _ _ n, ne-eqb _ _ k, le-leb _ _ l))
 
-  pub unquoted-char : b < 0x80 → (b ≡ 0x22 → ⊥) → (b ≡ 0x64 → ⊥) → r ≡ one (Char b) m → m ≡ modeBehind rules mode b → r ≡ unquotedUnit rules mode b rest
+  pub unquoted-char : b < 0x80 → (b ≡ 0x22 → ⊥) → (b ≡ 0x64 → ⊥) → r ≡ oneUnit (Char b) m → m ≡ modeBehind rules mode b → r ≡ unquotedUnit rules mode b rest
   unfolding unquotedUnit
   unquoted-char l n k o t = rw (o, t) (simp (ne-eqb _ _ n, ne-eqb _ _ k, lt-leb _ _ l))
 
@@ -80,17 +80,17 @@ module _ (rules : Rules) (mode : Mode) (b : ℕ) (rest : List ℕ) {r : Taken} w
   unfolding unquotedUnit
   unquoted-prefix e p o = let n : b ≡ 0x22 → ⊥ = λ q. omega arith in rw o (simp (ne-eqb _ _ n, eq-eqb _ _ e, p))
 
-  pub unquoted-no-prefix : b ≡ 0x64 → rules .prefix ≡ false → r ≡ one (Char b) mode → r ≡ unquotedUnit rules mode b rest
+  pub unquoted-no-prefix : b ≡ 0x64 → rules .prefix ≡ false → r ≡ oneUnit (Char b) mode → r ≡ unquotedUnit rules mode b rest
   unfolding unquotedUnit
   unquoted-no-prefix e p o = let n : b ≡ 0x22 → ⊥ = λ q. omega arith in rw o (simp (ne-eqb _ _ n, eq-eqb _ _ e, p))
 
 -- a quoted byte
 module _ (mode : Mode) (b : ℕ) {r : Taken} where
-  pub quoted-quote : {m : Mode} → b ≡ 0x22 → r ≡ one (Char b) m → m ≡ toggledMode mode → r ≡ quotedUnit mode b
+  pub quoted-quote : {m : Mode} → b ≡ 0x22 → r ≡ oneUnit (Char b) m → m ≡ toggledMode mode → r ≡ quotedUnit mode b
   unfolding quotedUnit
   quoted-quote e o t = rw (o, t) (simp (eq-eqb _ _ e))
 
-  pub quoted-char : (b ≡ 0x22 → ⊥) → r ≡ one (Char b) mode → r ≡ quotedUnit mode b
+  pub quoted-char : (b ≡ 0x22 → ⊥) → r ≡ oneUnit (Char b) mode → r ≡ quotedUnit mode b
   unfolding quotedUnit
   quoted-char n o = rw o (simp (ne-eqb _ _ n))
 

@@ -36,33 +36,33 @@ modeBehind rules Data b = cond (eqb b 0x3A) Plain Data
 modeBehind rules QuotedData b = QuotedData
 
 -- a unit of one byte
-abbrev pub one : Unit → Mode → Taken
-one unit mode = record { unit = unit; used = 1; mode = mode }
+abbrev pub oneUnit : Unit → Mode → Taken
+oneUnit unit mode = record { unit = unit; used = 1; mode = mode }
 
 -- the prefix 64, and what follows it
 abbrev pub prefixedUnit : Mode → List ℕ → Taken
-prefixedUnit mode [] = one Lone mode
+prefixedUnit mode [] = oneUnit Lone mode
 prefixedUnit mode (b ∷ rest) = record { unit = Pair b; used = 2; mode = mode }
 
 -- an unquoted byte, and what follows it
 unfoldable pub unquotedUnit : Rules → Mode → ℕ → List ℕ → Taken
 unfolding toggledMode modeBehind
 unquotedUnit rules mode b rest =
-    cond (eqb b 0x22) (one (Char b) (toggledMode mode))
-    (cond (eqb b 0x64) (cond (rules .prefix) (prefixedUnit mode rest) (one (Char b) mode))
-    (one (cond (leb 0x80 b) (Token b) (Char b)) (modeBehind rules mode b)))
+    cond (eqb b 0x22) (oneUnit (Char b) (toggledMode mode))
+    (cond (eqb b 0x64) (cond (rules .prefix) (prefixedUnit mode rest) (oneUnit (Char b) mode))
+    (oneUnit (cond (leb 0x80 b) (Token b) (Char b)) (modeBehind rules mode b)))
 
 -- a quoted byte
 unfoldable pub quotedUnit : Mode → ℕ → Taken
 unfolding toggledMode
-quotedUnit mode b = one (Char b) (cond (eqb b 0x22) (toggledMode mode) mode)
+quotedUnit mode b = oneUnit (Char b) (cond (eqb b 0x22) (toggledMode mode) mode)
 
 -- a byte of a body, and what follows it
 unfoldable pub unitAt : Rules → Mode → ℕ → List ℕ → Taken
 unfolding unquotedUnit quotedUnit
 unitAt rules Plain b rest = unquotedUnit rules Plain b rest
 unitAt rules Quoted b rest = quotedUnit Quoted b
-unitAt rules Remark b rest = one (Remarked b) Remark
+unitAt rules Remark b rest = oneUnit (Remarked b) Remark
 unitAt rules Data b rest = unquotedUnit rules Data b rest
 unitAt rules QuotedData b rest = quotedUnit QuotedData b
 
