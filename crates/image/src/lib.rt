@@ -8,7 +8,7 @@ ghost use Rattle.lent.specs.Lent.{intoBuffer, roomFor, outcomeAnswer, left};
 ghost use Rattle.tables.specs.WordsHelpers.{SpellsWords};
 ghost use Rattle.image.specs.Crunched.{crunched};
 
-pub mod measure;
+mod measure;
 mod write;
 
 // What a text is crunched with.
