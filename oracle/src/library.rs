@@ -1,6 +1,7 @@
 //! The library's calls as document 01 names them, each answered by the original.
 
 use crate::calls::Reader;
+use crate::corrections;
 use crate::domain;
 use crate::links;
 use crate::prg::Program;
@@ -30,7 +31,11 @@ pub fn crunch(load: u16, dialect: Dialect, text: &[u8]) -> Result<Vec<u8>, Refus
     {
         return Err(Refusal::AddressOverflow);
     }
-    Ok(crunched(text)?)
+    let image = crunched(text)?;
+    match corrections::with_clear(text, &image, |text| crunched(text).ok()) {
+        Some(corrected) => Ok(crunched(&corrected)?),
+        None => Ok(image),
+    }
 }
 
 pub fn resolved_dialect(dialect: Dialect, text: &[u8]) -> Result<Dialect, Refusal> {

@@ -13,6 +13,7 @@ include!(concat!(env!("OUT_DIR"), "/original.rs"));
 mod addressed;
 mod calls;
 mod compare;
+mod corrections;
 mod disk;
 mod domain;
 mod endings;

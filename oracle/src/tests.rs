@@ -58,6 +58,16 @@ fn crunching() {
     );
 }
 
+/// Document 02, No. 3: what the port corrects, and nothing else.
+#[test]
+fn shift_and_home_clears_the_screen() {
+    assert_eq!(body("1\"{sh home}\""), b"\"\x93\"");
+    assert_eq!(body("1\"{ Sh Home *2}s\""), b"\"\x93\x93S\"");
+    let unknown = b"\"{SH  HOME}{SHIFT HOME}\"";
+    assert_eq!(body("1\"{sh  home}{shift home}\""), unknown);
+    assert_eq!(body("1 REM {sh home}"), b"\x8F {sh home}");
+}
+
 #[test]
 fn the_guess_without_and_with_carriage_returns_replaced() {
     let text = b"10 REM A\r20 HIRES 0,1";

@@ -40,7 +40,7 @@ last-drop p z (suc k) (b ∷ c ∷ s) e = last-drop p z k (c ∷ s) e
 
 -- ---- a number ends in a digit
 
-no-digit : (b : ℕ) → isDigit b ≡ false → 10 ≤ digitOf b
+pub no-digit : (b : ℕ) → isDigit b ≡ false → 10 ≤ digitOf b
 no-digit b e = go (isLetter b) refl
   where
     go : (r : Bool) → isLetter b ≡ r → 10 ≤ digitOf b

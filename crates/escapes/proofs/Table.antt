@@ -55,9 +55,11 @@ pub escape-table :
     × ("CBM_A" gives Byte 0xB0 1)
     × ("shift_q" gives Byte 0xD1 1)
     × ("sh -" gives Byte 0xDD 1)
+    × ("Sh Home*2" gives Byte 0x93 2)
+    × ("shift home" gives Unknown)
     × ("light red" gives Byte 0x96 1)
     × ("light_red" gives Unknown)
     × ("re\"d" gives Unknown)
     × ("foo{red" gives Unknown)
 unfolding escapeOf countedName starred repeated nameEscape keyEscape keyed keyWith controlByte keyNames countOf unsigned hexOf numberOf numberAfter digitOf last before escapeNames cbmLetters ctrlDigits nameIn firstThat meaning alike begins trim upper between
-escape-table = (refl, refl, refl, refl, refl, refl, refl, refl, refl, refl, refl, refl, refl, refl, refl, refl, refl, refl, refl, refl, refl, refl, refl, refl, refl, refl, refl, refl, refl, refl, refl, refl, refl, refl, refl)
+escape-table = (refl, refl, refl, refl, refl, refl, refl, refl, refl, refl, refl, refl, refl, refl, refl, refl, refl, refl, refl, refl, refl, refl, refl, refl, refl, refl, refl, refl, refl, refl, refl, refl, refl, refl, refl, refl, refl)

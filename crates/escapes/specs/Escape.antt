@@ -6,7 +6,7 @@ use lib.ListN.{take, drop}
 use Rattle.ascii.specs.Trim.{trim}
 use Rattle.ascii.specs.Search.{equals, last}
 use Rattle.ascii.specs.declared.search.Found.the-variants.{At, Nowhere}
-use Rattle.words.specs.Find.{nameIn}
+use Rattle.words.specs.Find.{Entry, nameIn}
 use Rattle.words.specs.declared.Match.the-variants.{Word, Nothing}
 use Rattle.tables.specs.Escapes.{escapeNames}
 use Rattle.escapes.specs.Numbers.{numberOf, hexOf, countOf}
@@ -16,17 +16,22 @@ use Rattle.escapes.specs.declared.numbers.Number.the-variants.{Value, Mi
 use Rattle.escapes.specs.declared.Escape.{Escape}
 use Rattle.escapes.specs.declared.Escape.the-variants.{Byte, Unknown}
 
--- a name and its count: digits, $ and hex digits, one of the names, a key with one byte, in this order; an empty name is unknown
-unfoldable pub nameEscape : List ℕ → ℕ → Escape
-nameEscape [] count = Unknown
-nameEscape (b ∷ s) count =
+-- a name and its count, by a list of names: digits, $ and hex digits, one of the names, a key with one byte, in this order; an empty
+-- name is unknown
+unfoldable pub nameEscapeIn : List Entry → List ℕ → ℕ → Escape
+nameEscapeIn es [] count = Unknown
+nameEscapeIn es (b ∷ s) count =
     elim (numberOf 10 255 (b ∷ s)) [
       | Value v ↦ Byte v count
       | Missing ↦ elim (hexOf (b ∷ s)) [
         | Value v ↦ Byte v count
-        | Missing ↦ elim (nameIn escapeNames (b ∷ s)) [ Word i u code ↦ Byte code count | Nothing ↦ keyEscape (b ∷ s) count ]
+        | Missing ↦ elim (nameIn es (b ∷ s)) [ Word i u code ↦ Byte code count | Nothing ↦ keyEscape (b ∷ s) count ]
       ]
     ]
+
+unfoldable pub nameEscape : List ℕ → ℕ → Escape
+unfolding nameEscapeIn
+nameEscape name count = nameEscapeIn escapeNames name count
 
 -- a name, and how often its byte is repeated
 pub record Counted : Type 0 where
@@ -53,3 +58,7 @@ countedEscape c = nameEscape (c .name) (c .count)
 -- the inside of the braces
 unfoldable pub escapeOf : List ℕ → Escape
 escapeOf inside = countedEscape (countedName (trim inside))
+
+-- the same by another list of names
+unfoldable pub escapeIn : List Entry → List ℕ → Escape
+escapeIn es inside = nameEscapeIn es (countedName (trim inside) .name) (countedName (trim inside) .count)

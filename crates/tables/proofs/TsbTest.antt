@@ -2,8 +2,8 @@
 -- Assumes nothing.
 use Prim.Native.Nat.{ℕ}
 use mathlib.Core.Path.{_≡_, refl, sym, ap, _∙_}
-use mathlib.Core.Bool.{true, false}
-use mathlib.Core.List.{List, _∷_}
+use mathlib.Core.Bool.{Bool, true, false, _||_, _&&_}
+use mathlib.Core.List.{List, [], _∷_}
 use lib.Dec.{T}
 use Rattle.words.specs.Compare.{same, member}
 use Rattle.words.specs.Find.{Entry, matchIn, sameIn}
@@ -13,7 +13,7 @@ use Rattle.words.specs.declared.Test.the-variants.{Same}
 use Rattle.words.proofs.Sameness.{isFound, spellings, same-member, within, member-same}
 use Rattle.tables.specs.WordsHelpers.{capitals}
 use Rattle.tables.specs.Spelling.{bytesOf}
-use Rattle.tables.specs.Tsb.{tsbWords, tsbTexts, isTsbWord}
+use Rattle.tables.specs.Tsb.{tsbWords, tsbText, tsbTexts, isTsbWord}
 
 abbrev given : List (List ℕ)
 given = bytesOf "COLOUR" ∷ bytesOf "CENTRE" ∷ tsbTexts 0x100
@@ -25,6 +25,15 @@ list-in-given = tt
 given-in-list : T (within given (spellings tsbWords))
 unfolding within member same tsbTexts tsbWords
 given-in-list = tt
+
+-- the texts of listing are the inverse of the list: each word but COLOUR and CENTRE is the text of its token
+unfoldable pub inverse : List Entry → Bool
+inverse [] = true
+inverse (e ∷ es) = (same (tsbText (e .token)) (e .word) || member (e .word) (bytesOf "COLOUR" ∷ bytesOf "CENTRE" ∷ [])) && inverse es
+
+pub tsb-inverse : T (inverse tsbWords)
+unfolding inverse same member tsbText tsbWords
+tsb-inverse = tt
 
 -- the words are capitals
 own-capitals : capitals tsbWords ≡ tsbWords

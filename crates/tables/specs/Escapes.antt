@@ -1,13 +1,16 @@
 -- The escape names with the code each gives, in the order of source.rs, and the codes of the Commodore key and the control key
--- (document 01, "Escapes"; the Rust decides the names and the codes).
+-- (document 01, "Escapes"; the Rust decides the names and the codes, but for one: document 02, No. 3).
 -- Assumes nothing.
 use Prim.Native.Nat.{ℕ}
+use mathlib.Core.Bool.{true, false}
 use mathlib.Core.List.{List, [], _∷_}
+use Rattle.words.specs.Compare.{same}
 use Rattle.words.specs.Find.{Entry}
-use Rattle.tables.specs.Spelling.{_is_}
+use Rattle.tables.specs.Spelling.{bytesOf, _is_}
 
-unfoldable pub escapeNames : List Entry
-escapeNames =
+-- the names with the codes of source.rs
+unfoldable pub rustNames : List Entry
+rustNames =
     "black" is 0x90 ∷
     "blk" is 0x90 ∷
     "white" is 0x05 ∷
@@ -121,6 +124,17 @@ escapeNames =
     "cm up arrow" is 0xDE ∷
     "ct up arrow" is 0x1E ∷
     []
+
+-- a list with another code for a name
+unfoldable pub recoded : List ℕ → ℕ → List Entry → List Entry
+unfolding same
+recoded w t [] = []
+recoded w t (e ∷ es) = record { word = e .word; token = elim (same w (e .word)) [ true ↦ t | false ↦ e .token ] } ∷ recoded w t es
+
+-- the names with the code each gives: Shift and HOME send CLR, 93, and not the letter S (document 02, No. 3)
+unfoldable pub escapeNames : List Entry
+unfolding recoded rustNames
+escapeNames = recoded (bytesOf "sh home") 0x93 rustNames
 
 -- the Commodore key with the letters A to Z
 unfoldable pub cbmLetters : List ℕ

@@ -145,7 +145,8 @@ withToken t (e ∷ es) = elim (eqb t (e .token)) [ true ↦ e .word | false ↦ 
 unfoldable pub tsbId : ℕ → ℕ
 tsbId b = cond (eqb b 0xB1) 0x3E (cond (eqb b 0xB2) 0x3D (cond (eqb b 0xB3) 0x3C b))
 
--- the TSB word of a byte that follows 64, and nothing where the byte is unknown
+-- the TSB word of a byte that follows 64, and nothing where the byte is unknown. That this inverse of the list is the table of tokens.rs
+-- is compared by running: the original lists every byte behind 64.
 unfoldable pub tsbText : ℕ → List ℕ
 unfolding withToken tsbId tsbWords
 tsbText b = withToken (tsbId b) tsbWords
