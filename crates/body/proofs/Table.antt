@@ -10,8 +10,9 @@ use Rattle.ascii.specs.Search.{before, last}
 use Rattle.ascii.specs.Trim.{trim}
 use Rattle.words.specs.Compare.{same}
 use Rattle.words.specs.Find.{nameIn, meaning}
-use Rattle.tables.specs.Spelling.{bytesOf}
-use Rattle.tables.specs.Escapes.{escapeNames, cbmLetters, ctrlDigits}
+use Rattle.words.specs.Spelling.{bytesOf}
+use Rattle.tables.specs.Escapes.{escapeNames}
+use Rattle.keyboard.specs.KeyCodes.{cbmLetters, ctrlDigits}
 use Rattle.tables.specs.Rom.{v2Words, operators}
 use Rattle.tables.specs.Sets.{liveWord}
 use Rattle.tables.specs.Tsb.{tsbWords}

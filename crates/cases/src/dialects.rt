@@ -1,5 +1,5 @@
 // Dialects as the bytes that stand for them.
-use tables::dialect::Dialect;
+use dialect::Dialect;
 
 pub fn byte_of(dialect: Dialect) -> u8 {
     match dialect {

@@ -2,12 +2,11 @@
 use crate::dialects;
 use crate::frames;
 use crate::rooms;
+use dialect::Named;
 use frames::Answer;
 use guess::resolve;
 use guess::resolve::Resolved;
 use image::Options;
-use tables::dialect;
-use tables::dialect::Named;
 
 pub fn crunch(payload: &[u8], room: &mut [u8]) -> bool {
     if payload.len() < 7 {

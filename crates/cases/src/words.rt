@@ -1,10 +1,10 @@
 // Calls on a word, which is the whole payload.
 use crate::dialects;
 use crate::frames::Answer;
-use tables::dialect::Named;
+use dialect::Named;
 
 pub fn dialect_by_name(word: &[u8]) -> bool {
-    match tables::dialect::dialect_by_name(word) {
+    match dialect::dialect_by_name(word) {
         Named::Known(dialect) => Answer::done().byte(dialects::byte_of(dialect)).send(),
         Named::Refused(refusal) => Answer::refused(refusal).send(),
     }

@@ -1,10 +1,10 @@
 // Crunches a text: standard input to standard output, or the files that it was given.
 use desk::input;
 use desk::output;
+use dialect::Dialect;
 use image::Options;
 use input::Input;
 use refusals::Refusal;
-use tables::dialect::Dialect;
 ghost use Prim.Native.Nat.{_≤_};
 ghost use lib.ListN.{length};
 

@@ -22,7 +22,7 @@ use Rattle.words.specs.RunHelpers.{passesAt, firstFrom}
 use Rattle.words.specs.declared.Test.the-variants.{Alike}
 use Rattle.words.proofs.Storing.{spellsNames, name-means, name-unknown}
 use Rattle.words.proofs.Search.{and-left, and-right}
-use Rattle.tables.specs.Escapes.{cbmLetters, ctrlDigits}
+use Rattle.keyboard.specs.KeyCodes.{cbmLetters, ctrlDigits}
 use Rattle.escapes.specs.Keys.{keyNames, controlByte, keyWith, keyed, keyEscape}
 use Rattle.escapes.specs.declared.keys.Key.{Key}
 use Rattle.escapes.specs.declared.keys.Key.the-variants.{Control, Commodore, Shift}

@@ -18,7 +18,7 @@ use Rattle.words.specs.declared.Match.the-variants.{Word, Nothing}
 use Rattle.words.specs.declared.Test.the-variants.{Alike}
 use Rattle.words.proofs.Sameness.{same-eq}
 use Rattle.tables.specs.Escapes.{escapeNames, recoded, rustNames}
-use Rattle.tables.specs.Spelling.{bytesOf}
+use Rattle.words.specs.Spelling.{bytesOf}
 use Rattle.escapes.specs.Numbers.{numberAfter, numberOf, hexOf}
 use Rattle.escapes.specs.Keys.{keyEscape}
 use Rattle.escapes.specs.Escape.{nameEscapeIn, nameEscape, Counted, countedName, escapeIn, escapeOf}

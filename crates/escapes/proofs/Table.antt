@@ -7,8 +7,9 @@ use Rattle.ascii.specs.Search.{before, last}
 use Rattle.ascii.specs.Trim.{trim}
 use Rattle.words.specs.Compare.{begins, alike}
 use Rattle.words.specs.Find.{firstThat, nameIn, meaning}
-use Rattle.tables.specs.Spelling.{bytesOf}
-use Rattle.tables.specs.Escapes.{escapeNames, cbmLetters, ctrlDigits}
+use Rattle.words.specs.Spelling.{bytesOf}
+use Rattle.tables.specs.Escapes.{escapeNames}
+use Rattle.keyboard.specs.KeyCodes.{cbmLetters, ctrlDigits}
 use Rattle.escapes.specs.Numbers.{digitOf, numberAfter, numberOf, hexOf, unsigned, countOf}
 use Rattle.escapes.specs.Keys.{keyNames, controlByte, keyWith, keyed, keyEscape}
 use Rattle.escapes.specs.Escape.{nameEscape, repeated, starred, countedName, escapeOf}

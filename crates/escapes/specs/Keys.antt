@@ -10,8 +10,8 @@ use Rattle.ascii.specs.Bytes.{isDigit, isLetter, upper}
 use Rattle.ascii.specs.Search.{isMark, before}
 use Rattle.ascii.specs.Trim.{trim}
 use Rattle.words.specs.Find.{Name, meaning}
-use Rattle.tables.specs.Spelling.{_means_}
-use Rattle.tables.specs.Escapes.{cbmLetters, ctrlDigits}
+use Rattle.words.specs.Spelling.{_means_}
+use Rattle.keyboard.specs.KeyCodes.{cbmLetters, ctrlDigits}
 use Rattle.escapes.specs.declared.keys.Key.{Key}
 use Rattle.escapes.specs.declared.keys.Key.the-variants.{Control, Commodore, Shift}
 use Rattle.escapes.specs.declared.Escape.{Escape}

@@ -2,7 +2,6 @@
 use crate::Escape;
 use ascii::search;
 use ascii::search::Kind;
-use tables::keys;
 use words::Section;
 use words::Test;
 ghost use mathlib.Core.Path.{_≡_};
@@ -36,7 +35,7 @@ fn control_byte(b: u8) -> u8
     ensures { λ r. ⌜ r ≡ controlByte b ⌝ }
 {
     if ascii::is_digit(b) {
-        return keys::ctrl_digit_byte(ascii::wide(b - 48));
+        return keyboard::ctrl_digit_byte(ascii::wide(b - 48));
     }
     if ascii::is_letter(b) {
         return ascii::upper(b) - 64;
@@ -52,7 +51,7 @@ fn commodore_with(b: u8, count: u64) -> Escape
         return Escape::Unknown;
     }
     Escape::Byte {
-        byte: keys::cbm_letter_byte(ascii::wide(ascii::upper(b) - 65)),
+        byte: keyboard::cbm_letter_byte(ascii::wide(ascii::upper(b) - 65)),
         count,
     }
 }

@@ -7,10 +7,10 @@ use mathlib.Core.List.{List, [], _∷_, _++_}
 use Rattle.ascii.specs.Bytes.{between, upper}
 use Rattle.words.specs.Find.{Entry}
 use Rattle.refusals.specs.Answer.{Answer, done}
-use Rattle.tables.specs.Spelling.{bytesOf}
+use Rattle.words.specs.Spelling.{bytesOf}
 use Rattle.tables.specs.Tsb.{tsbWords}
-use Rattle.tables.specs.declared.dialect.Dialect.{Dialect}
-use Rattle.tables.specs.declared.dialect.Dialect.the-variants.{Auto, BasicV2, Tsb}
+use Rattle.dialect.specs.declared.Dialect.{Dialect}
+use Rattle.dialect.specs.declared.Dialect.the-variants.{Auto, BasicV2, Tsb}
 use Rattle.lines.specs.declared.split.LineRule.the-variants.{AsGiven, AfterCr}
 use Rattle.guess.specs.Guess.{evidence, names, resolved, wordSets}
 

@@ -8,8 +8,8 @@ use native.Mathlib.Omega.{arith}
 use lib.ListN.{length, take, drop}
 use Rattle.refusals.specs.Answer.{Answer, done, refused, numbered}
 use Rattle.refusals.specs.declared.Refusal.{Refusal}
-use Rattle.tables.specs.declared.dialect.Dialect.{Dialect}
-use Rattle.tables.specs.declared.dialect.Dialect.the-variants.{Auto, BasicV2, Tsb}
+use Rattle.dialect.specs.declared.Dialect.{Dialect}
+use Rattle.dialect.specs.declared.Dialect.the-variants.{Auto, BasicV2, Tsb}
 use Rattle.lines.specs.Domain.{checkedText, textCheckAnswer}
 use Rattle.lines.specs.SplitHelpers.{lineFrom}
 use Rattle.lines.specs.TextLines.{textLines}

@@ -5,7 +5,7 @@ use mathlib.Core.Path.{_≡_, refl, sym, ap, _∙_}
 use mathlib.Core.List.{List}
 use Rattle.refusals.specs.Answer.{Answer, done, refused}
 use Rattle.refusals.proofs.Tight.{named, named-numbered, tells-apart}
-use Rattle.tables.specs.declared.dialect.Dialect.{Dialect}
+use Rattle.dialect.specs.declared.Dialect.{Dialect}
 use Rattle.guess.specs.Guess.{resolved, resolvedAnswer}
 use Rattle.guess.specs.declared.resolve.Resolved.{Resolved}
 use Rattle.guess.specs.declared.resolve.Resolved.the-variants.{Is, Refused}

@@ -6,8 +6,8 @@ use mathlib.Core.Bool.{Bool, true, false}
 use mathlib.Core.List.{List, [], _∷_}
 use lib.ListN.{replicate}
 use Rattle.refusals.specs.Answer.{Answer, done, refused, numbered, andThen}
-use Rattle.tables.specs.declared.dialect.Dialect.{Dialect}
-use Rattle.tables.specs.declared.dialect.Dialect.the-variants.{Auto, BasicV2, Tsb}
+use Rattle.dialect.specs.declared.Dialect.{Dialect}
+use Rattle.dialect.specs.declared.Dialect.the-variants.{Auto, BasicV2, Tsb}
 use Rattle.tables.specs.declared.sets.Sets.{Sets}
 use Rattle.lines.specs.Domain.{checkedText}
 use Rattle.lines.specs.TextLines.{textLines}

@@ -1,4 +1,5 @@
 // The dialect of a text, and the TSB words that are live in it.
+use dialect::Dialect;
 use guess_scans::evidence;
 use guess_scans::variables;
 use lines::domain;
@@ -6,7 +7,6 @@ use lines::domain::TextCheck;
 use lines::split;
 use lines::split::LineRule;
 use refusals::Refusal;
-use tables::dialect::Dialect;
 use tables::sets::Sets;
 use tables::spellings;
 ghost use mathlib.Core.Path.{_≡_};

@@ -15,7 +15,7 @@ use Rattle.ascii.specs.declared.search.Kind.the-variants.{Space}
 use Rattle.words.specs.Compare.{begins}
 use Rattle.words.specs.Find.{wordIn}
 use Rattle.words.specs.declared.Match.the-variants.{Word, Nothing}
-use Rattle.tables.specs.Spelling.{bytesOf}
+use Rattle.words.specs.Spelling.{bytesOf}
 use Rattle.tables.specs.Tsb.{tsbWords}
 use Rattle.guess_scans.specs.Ahead.{assigns}
 use Rattle.guess_scans.specs.Places.{isPlain, aside}

@@ -7,7 +7,7 @@ use mathlib.Core.List.{List, [], _∷_, _++_}
 use lib.Dec.{leb}
 use Rattle.refusals.specs.Answer.{Answer, done, refused, mapDone, andThen}
 use Rattle.refusals.specs.Numbers.{missingLineNumber, lineNumberOutOfRange, addressOverflow}
-use Rattle.tables.specs.declared.dialect.Dialect.{Dialect}
+use Rattle.dialect.specs.declared.Dialect.{Dialect}
 use Rattle.lines.specs.declared.split.LineRule.the-variants.{AfterCr}
 use Rattle.lines.specs.Domain.{checkedText}
 use Rattle.lines.specs.Numbering.{ReadLine, blankLine, missingNumber, numberTooHigh, numberedText, readLine}

@@ -1,7 +1,7 @@
 // A text, crunched to an image.
+use dialect::Dialect;
 use lent::Outcome;
 use refusals::Refusal;
-use tables::dialect::Dialect;
 use tables::spellings;
 ghost use mathlib.Core.Path.{_≡_};
 ghost use Rattle.lent.specs.Lent.{intoBuffer, roomFor, outcomeAnswer, left};

@@ -6,7 +6,7 @@ ghost use mathlib.Core.Path.{_≡_};
 ghost use Prim.Native.Nat.{_≤_};
 ghost use lib.ListN.{length};
 ghost use Rattle.lent.specs.Stores.{Room, Put};
-ghost use Rattle.tables.specs.Texts.{SpellsTexts};
+ghost use Rattle.texts.specs.TextsHelpers.{SpellsTexts};
 ghost use Rattle.listing.specs.Body.{bodyListing};
 ghost use Rattle.listing.specs.LineHelpers.{headListing, restListing, LineLength};
 

@@ -3,11 +3,10 @@ use lent::Outcome;
 use readers::By;
 use readers::Step;
 use refusals::Refusal;
-use tables::texts;
 use units::Rules;
 ghost use mathlib.Core.Path.{_≡_};
 ghost use Rattle.lent.specs.Lent.{intoBuffer, roomFor, outcomeAnswer, left};
-ghost use Rattle.tables.specs.Texts.{SpellsTexts};
+ghost use Rattle.texts.specs.TextsHelpers.{SpellsTexts};
 ghost use Rattle.lent.specs.Stores.{HasRoom};
 ghost use Rattle.listing.specs.Listing.{listing, listingBy, originalRules};
 

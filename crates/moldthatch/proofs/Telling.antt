@@ -9,10 +9,10 @@ use Rattle.lent.specs.Lent.{Lent, intoBuffer, roomFor, outcomeAnswer, left}
 use Rattle.refusals.specs.declared.Code.{Code}
 use Rattle.lent.specs.declared.Outcome.{Outcome}
 use Rattle.refusals.specs.declared.Refusal.{Refusal}
-use Rattle.tables.specs.Dialects.{byNumber, namedAnswer}
-use Rattle.tables.specs.declared.dialect.Dialect.{Dialect}
-use Rattle.tables.specs.declared.dialect.Named.{Named}
-use Rattle.tables.specs.declared.dialect.Named.the-variants.{Known, Refused}
+use Rattle.dialect.specs.Dialects.{byNumber, namedAnswer}
+use Rattle.dialect.specs.declared.Dialect.{Dialect}
+use Rattle.dialect.specs.declared.Named.{Named}
+use Rattle.dialect.specs.declared.Named.the-variants.{Known, Refused}
 use Rattle.image.specs.Crunched.{crunched}
 use Rattle.moldthatch.specs.Told.{Told, toldCode, crunchedBy}
 

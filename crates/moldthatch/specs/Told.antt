@@ -6,7 +6,7 @@ use Rattle.refusals.specs.Answer.{Answer, done, refused, andThen}
 use Rattle.refusals.specs.Code.{answerCode, lengthCode}
 use Rattle.lent.specs.Lent.{Lent}
 use Rattle.refusals.specs.declared.Code.{Code}
-use Rattle.tables.specs.Dialects.{byNumber}
+use Rattle.dialect.specs.Dialects.{byNumber}
 use Rattle.readers.specs.Lines.{Overview}
 use Rattle.image.specs.Crunched.{crunched}
 

@@ -1,10 +1,9 @@
 // The library for C and for Rust: its calls take and give numbers and slices. A dialect is 0 for Auto, 1 for BASIC V2, 2 for TSB.
+use dialect::Named;
 use image::Options;
 use readers::Checked;
 use readers::links;
 use refusals::Code;
-use tables::dialect;
-use tables::dialect::Named;
 ghost use mathlib.Core.Path.{_≡_};
 ghost use Rattle.refusals.specs.Code.{lengthCode};
 ghost use Rattle.lent.specs.Lent.{intoBuffer, roomFor};

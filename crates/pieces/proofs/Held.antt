@@ -9,9 +9,10 @@ use lib.Dec.{eqb}
 use lib.ListN.{length, take, drop, replicate}
 use lib.Seq.{sets, sets-eq, length-sets, take-append-seam}
 use Rattle.ascii.specs.Bytes.{between}
-use Rattle.tables.specs.Spelling.{bytesOf}
-use Rattle.tables.specs.Texts.{hexByte, byteText, remarkText, held}
-use Rattle.tables.specs.declared.petscii.ByteText.{ByteText}
+use Rattle.words.specs.Spelling.{bytesOf}
+use Rattle.petscii.specs.ByteTexts.{hexByte, byteText, remarkText}
+use Rattle.petscii.specs.HeldHelpers.{held}
+use Rattle.petscii.specs.declared.ByteText.{ByteText}
 
 short : (n : ℕ) (b : Bool) (x y : List ℕ) → length x ≤ n → length y ≤ n → length (cond b x y) ≤ n
 short n true x y h k = h

@@ -9,7 +9,8 @@ use lib.ListN.{length, getD}
 use Rattle.words.specs.Find.{Entry}
 use Rattle.words.proofs.Search.{and-left, and-right}
 use Rattle.tables.specs.Rom.{romWords}
-use Rattle.tables.specs.Texts.{hexByte, tokenText, textOf}
+use Rattle.petscii.specs.ByteTexts.{hexByte}
+use Rattle.texts.specs.Texts.{tokenText, textOf}
 use Rattle.tables.specs.Tsb.{tsbWords, withToken, tsbId, tsbText}
 use Rattle.units.specs.declared.Unit.{Unit}
 use Rattle.units.specs.declared.Unit.the-variants.{Char, Token, Pair, Lone, Remarked}

@@ -14,11 +14,13 @@ use borrow.Author.Tests.{ne-eqb, lt-ltb}
 use Rattle.words.specs.Find.{Entry}
 use Rattle.words.proofs.Search.{and-left, and-right}
 use Rattle.lent.specs.Stores.{Room, Put}
-use Rattle.tables.specs.Spelling.{bytesOf}
-use Rattle.tables.specs.Texts.{hexDigits, byteText, hexByte, remarkText, textOf, held}
+use Rattle.words.specs.Spelling.{bytesOf}
+use Rattle.petscii.specs.ByteTexts.{hexDigits, byteText, hexByte, remarkText}
+use Rattle.petscii.specs.HeldHelpers.{held}
+use Rattle.texts.specs.Texts.{textOf}
 use Rattle.tables.specs.Tsb.{tsbWords, withToken, tsbId, tsbText}
-use Rattle.tables.proofs.ByteTexts.{hex-digits}
-use Rattle.tables.specs.declared.petscii.ByteText.{ByteText}
+use Rattle.petscii.proofs.ByteTexts.{hex-digits}
+use Rattle.petscii.specs.declared.ByteText.{ByteText}
 use Rattle.units.specs.declared.Unit.{Unit}
 use Rattle.units.specs.declared.Unit.the-variants.{Char, Token, Pair, Lone, Remarked}
 use Rattle.pieces.specs.Pieces.{unknownPair, orUnknown, pairText, unitText}

@@ -3,8 +3,9 @@
 -- Assumes nothing.
 use Prim.Native.Nat.{ℕ}
 use mathlib.Core.List.{List, [], _∷_, _++_}
-use Rattle.tables.specs.Spelling.{bytesOf}
-use Rattle.tables.specs.Texts.{byteText, hexByte, remarkText, textOf}
+use Rattle.words.specs.Spelling.{bytesOf}
+use Rattle.petscii.specs.ByteTexts.{byteText, hexByte, remarkText}
+use Rattle.texts.specs.Texts.{textOf}
 use Rattle.tables.specs.Tsb.{tsbText}
 use Rattle.units.specs.declared.Unit.{Unit}
 use Rattle.units.specs.declared.Unit.the-variants.{Char, Token, Pair, Lone, Remarked}

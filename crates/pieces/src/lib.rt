@@ -1,12 +1,10 @@
 // How the units of a body are spelt in a listing.
-use tables::petscii;
-use tables::texts;
 use units::Unit;
 ghost use mathlib.Core.Path.{_≡_};
 ghost use Prim.Native.Nat.{_+_};
 ghost use lib.ListN.{length};
 ghost use Rattle.lent.specs.Stores.{Room, Put};
-ghost use Rattle.tables.specs.Texts.{SpellsTexts};
+ghost use Rattle.texts.specs.TextsHelpers.{SpellsTexts};
 ghost use Rattle.tables.specs.Tsb.{tsbId, tsbText};
 ghost use Rattle.pieces.specs.Pieces.{unknownPair, unitText};
 

@@ -7,8 +7,8 @@ use mathlib.Core.Path.{_≡_}
 use mathlib.Core.List.{List, [], _∷_, _++_}
 use Rattle.refusals.specs.Answer.{Answer, done, refused}
 use Rattle.refusals.specs.Numbers.{missingLineNumber, lineNumberOutOfRange, addressOverflow, unexpectedEof, missingEnd, linkBackward, linkOutside, linkNoEnd}
-use Rattle.tables.specs.Spelling.{bytesOf}
-use Rattle.tables.specs.declared.dialect.Dialect.the-variants.{Auto}
+use Rattle.words.specs.Spelling.{bytesOf}
+use Rattle.dialect.specs.declared.Dialect.the-variants.{Auto}
 use Rattle.readers.specs.NumberedBody.{NumberedBody}
 use Rattle.readers.specs.Lines.{linesOf, overview}
 use Rattle.readers.specs.Bodies.{bodiesOf}

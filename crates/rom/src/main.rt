@@ -2,9 +2,7 @@
 // text that listing gives the token. What it must print is the published table, facts/rom-words.tsv.
 use libc::STDOUT_FILENO;
 use tables::matching;
-use tables::petscii;
 use tables::spellings;
-use tables::texts;
 use words::Match;
 ghost use Rattle.tables.specs.WordsHelpers.{SpellsWords};
 

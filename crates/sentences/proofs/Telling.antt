@@ -7,7 +7,7 @@ use native.Mathlib.Omega.{arith}
 use lib.ListN.{length}
 use borrow.Author.Tests.{eq-eqb, ne-eqb}
 use Rattle.refusals.specs.declared.Code.{Code}
-use Rattle.tables.specs.Spelling.{bytesOf}
+use Rattle.words.specs.Spelling.{bytesOf}
 use Rattle.sentences.specs.Clipped.{Clipped}
 use Rattle.sentences.specs.Decimal.{inDecimal}
 use Rattle.sentences.specs.Place.{textPlace}

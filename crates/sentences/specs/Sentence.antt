@@ -6,7 +6,7 @@ use mathlib.Core.Bool.{Bool, true, false, cond}
 use mathlib.Core.List.{List, [], _∷_, _++_}
 use lib.Dec.{eqb}
 use Rattle.refusals.specs.declared.Code.{Code}
-use Rattle.tables.specs.Spelling.{bytesOf}
+use Rattle.words.specs.Spelling.{bytesOf}
 use Rattle.sentences.specs.Decimal.{inDecimal}
 use Rattle.sentences.specs.Place.{textPlace}
 

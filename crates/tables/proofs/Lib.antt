@@ -1,9 +1,5 @@
-pub mod ByteTexts
 pub mod Groups
 pub mod Lists
 pub mod Living
-pub mod Naming
 pub mod Storage
-pub mod TextTable
-pub mod Tight
 pub mod TsbTest

@@ -12,7 +12,7 @@ use Rattle.words.specs.declared.Match.the-variants.{Word, Nothing}
 use Rattle.words.specs.declared.Test.the-variants.{Same}
 use Rattle.words.proofs.Sameness.{isFound, spellings, same-member, within, member-same}
 use Rattle.tables.specs.WordsHelpers.{capitals}
-use Rattle.tables.specs.Spelling.{bytesOf}
+use Rattle.words.specs.Spelling.{bytesOf}
 use Rattle.tables.specs.Tsb.{tsbWords, tsbText, tsbTexts, isTsbWord}
 
 abbrev given : List (List ℕ)

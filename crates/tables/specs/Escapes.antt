@@ -1,12 +1,12 @@
--- The escape names with the code each gives, in the order of source.rs, and the codes of the Commodore key and the control key
--- (document 01, "Escapes"; the Rust decides the names and the codes, but for one: document 02, No. 3).
+-- The escape names with the code each gives, in the order of source.rs (document 01, "Escapes"; the Rust decides the names and the codes,
+-- but for one: document 02, No. 3).
 -- Assumes nothing.
 use Prim.Native.Nat.{ℕ}
 use mathlib.Core.Bool.{true, false}
 use mathlib.Core.List.{List, [], _∷_}
 use Rattle.words.specs.Compare.{same}
 use Rattle.words.specs.Find.{Entry}
-use Rattle.tables.specs.Spelling.{bytesOf, _is_}
+use Rattle.words.specs.Spelling.{bytesOf, _is_}
 
 -- the names with the codes of source.rs
 unfoldable pub rustNames : List Entry
@@ -135,13 +135,3 @@ recoded w t (e ∷ es) = record { word = e .word; token = elim (same w (e .word)
 unfoldable pub escapeNames : List Entry
 unfolding recoded rustNames
 escapeNames = recoded (bytesOf "sh home") 0x93 rustNames
-
--- the Commodore key with the letters A to Z
-unfoldable pub cbmLetters : List ℕ
-cbmLetters =
-    0xB0 ∷ 0xBF ∷ 0xBC ∷ 0xAC ∷ 0xB1 ∷ 0xBB ∷ 0xA5 ∷ 0xB4 ∷ 0xA2 ∷ 0xB5 ∷ 0xA1 ∷ 0xB6 ∷ 0xA7 ∷
-    0xAA ∷ 0xB9 ∷ 0xAF ∷ 0xAB ∷ 0xB2 ∷ 0xAE ∷ 0xA3 ∷ 0xB8 ∷ 0xBE ∷ 0xB3 ∷ 0xBD ∷ 0xB7 ∷ 0xAD ∷ []
-
--- the control key with the digits 0 to 9
-unfoldable pub ctrlDigits : List ℕ
-ctrlDigits = 0x92 ∷ 0x90 ∷ 0x05 ∷ 0x1C ∷ 0x9F ∷ 0x9C ∷ 0x1E ∷ 0x1F ∷ 0x9E ∷ 0x12 ∷ []

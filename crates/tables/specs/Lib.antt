@@ -1,8 +1,5 @@
-pub mod Dialects
 pub mod Escapes
 pub mod Rom
 pub mod Sets
-pub mod Spelling
-pub mod Texts
 pub mod Tsb
 pub mod WordsHelpers

@@ -7,7 +7,7 @@ use mathlib.Core.List.{List, [], _∷_, map}
 use lib.ListN.{getD}
 use Rattle.ascii.specs.Bytes.{isLetter, between, upper}
 use Rattle.words.specs.Find.{Entry}
-use Rattle.tables.specs.Spelling.{bytesOf}
+use Rattle.words.specs.Spelling.{bytesOf}
 
 -- the ROM's words in its order; the arrow-up key, 5E, is written ^
 unfoldable pub romWords : List (List ℕ)

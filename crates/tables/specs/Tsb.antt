@@ -7,7 +7,7 @@ use mathlib.Core.List.{List, [], _∷_}
 use lib.Dec.{eqb}
 use Rattle.words.specs.Compare.{member}
 use Rattle.words.specs.Find.{Entry}
-use Rattle.tables.specs.Spelling.{bytesOf, _is_}
+use Rattle.words.specs.Spelling.{bytesOf, _is_}
 
 unfoldable pub tsbWords : List Entry
 tsbWords =

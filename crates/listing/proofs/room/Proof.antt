@@ -1,6 +1,6 @@
 -- `listing::room` meets its contract: the constants that it lends are the tables.
 -- Assumes nothing.
-use Rattle.tables.proofs.TextTable.{texts-right, rightBelow}
+use Rattle.texts.proofs.TextTable.{texts-right, rightBelow}
 use Rattle.listing.proofs.Whole.{original-room}
 use borrow.Author.Needs.{needs}
 use Rattle.listing.proofs.room.Statement.{statement}

@@ -1,7 +1,7 @@
 -- `rom::print_row` is safe: the constants that it lends are the tables.
 -- Assumes nothing.
 use Rattle.tables.proofs.Storage.{wordsTest, words-lent}
-use Rattle.tables.proofs.TextTable.{texts-right, rightBelow}
+use Rattle.texts.proofs.TextTable.{texts-right, rightBelow}
 use borrow.Author.Needs.{needs}
 use Rattle.rom.proofs.print_row.Statement.{statement}
 use Rattle.rom.proofs.print_row.Tie as tie

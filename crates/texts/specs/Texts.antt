@@ -1,0 +1,24 @@
+-- The texts of listing (document 01, "Reading and listing": "from the 128 texts in tokens.rs").
+-- Assumes nothing.
+use Prim.Native.Nat.{ℕ, _-_}
+use mathlib.Core.Bool.{cond}
+use mathlib.Core.List.{List, [], _∷_, _++_}
+use lib.Dec.{eqb, ltb}
+use lib.ListN.{getD}
+use Rattle.words.specs.Spelling.{bytesOf}
+use Rattle.tables.specs.Rom.{romWords}
+use Rattle.tables.specs.Tsb.{tsbWords, withToken}
+use Rattle.petscii.specs.ByteTexts.{hexByte}
+
+-- a byte of 80 or above outside quotes: the ROM's word, or its two digits in braces where the ROM has none, and pi
+unfoldable pub tokenText : ℕ → List ℕ
+unfolding romWords hexByte
+tokenText b =
+    cond (ltb b 0xCC) (getD romWords (b - 0x80) [])
+    (cond (eqb b 0xFF) (bytesOf "{PI}")
+    (bytesOf "{" ++ (hexByte b ++ bytesOf "}")))
+
+-- the texts in one run: of a byte below 80 the TSB word behind 64, of a byte from 80 on its text outside quotes
+unfoldable pub textOf : ℕ → List ℕ
+unfolding withToken tsbWords tokenText
+textOf k = cond (ltb k 0x80) (withToken k tsbWords) (tokenText k)
