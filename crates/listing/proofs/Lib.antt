@@ -1,4 +1,6 @@
+pub mod Agreeing
 pub mod Digits
+pub mod Examples
 pub mod Lining
 pub mod Longest
 pub mod Progress

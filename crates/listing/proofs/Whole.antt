@@ -2,6 +2,7 @@
 -- Assumes nothing.
 use Prim.Native.Nat.{ℕ, _+_, _*_, _-_, _≤_, _<_}
 use mathlib.Core.Path.{_≡_, refl, sym, ap, _∙_, subst}
+use mathlib.Core.Bool.{Bool, false}
 use mathlib.Core.List.{List, [], _∷_, _++_}
 use native.Mathlib.Omega.{arith}
 use lib.ListN.{length, length-append}
@@ -17,7 +18,6 @@ use Rattle.lent.specs.Stores.{Room, Put, HasRoom}
 use Rattle.lent.proofs.Storing.{room-first, room-second, put-both}
 use Rattle.lent.proofs.Outcomes.{told-outcome, has-room, into-refused, into-none, into-done}
 use Rattle.readers.specs.declared.By.{By}
-use Rattle.readers.specs.declared.By.the-variants.{Terminators}
 use Rattle.readers.specs.declared.Line.{Line}
 use Rattle.readers.specs.declared.Step.{Step}
 use Rattle.readers.specs.declared.Step.the-variants.{Found, End, Refused}
@@ -32,7 +32,9 @@ use Rattle.units.specs.declared.Rules.{Rules}
 use Rattle.pieces.proofs.Owed.{Owed, owed-start, owed-room, owed-turn, owed-end}
 use Rattle.listing.specs.Body.{lineListing}
 use Rattle.listing.specs.LineHelpers.{headListing, restListing, LineLength}
-use Rattle.listing.specs.Listing.{linesListing, listingBy, originalRules, listing}
+use Rattle.listing.specs.Listing.{linesListing, listingBy, listing}
+use Rattle.listing.specs.Modes.{heedsPrefix, rulesUnder, listingUnder, originalOptions}
+use Rattle.listing.specs.declared.ListOptions.{ListOptions}
 use Rattle.listing.proofs.Lining.{line-parts}
 
 -- what is left to list of an image, from an offset on
@@ -190,13 +192,27 @@ module _ (by : By) (rules : Rules) (image buffer : List ℕ) {r : Outcome} (e : 
       → _≡_ {A = Lent} (record { answer = refused (numbered n); buffer = buffer }) (intoBuffer (listingBy by rules image) buffer)
   no-listing is = into-refused buffer (listingBy by rules image) (told-outcome is e)
 
+-- ---- as the options ask for it
+
+pub rules-are : (o : ListOptions) {p : Bool} → p ≡ heedsPrefix (o .dialect) (o .remarks) → _≡_ {A = Rules} (record { prefix = p; remarks = o .remarks; items = false }) (rulesUnder o)
+rules-are o e = rw e
+
+module _ (o : ListOptions) (image : List ℕ) {rules : Rules} (is : rules ≡ rulesUnder o) where
+  pub room-under : {a : Answer ℕ} → a ≡ roomFor (listingBy (o .by) rules image) → a ≡ roomFor (listingUnder o image)
+  unfolding listingUnder
+  room-under e = rw is at e
+
+  pub listing-under : (buffer : List ℕ) {a : Lent} → a ≡ intoBuffer (listingBy (o .by) rules image) buffer → a ≡ intoBuffer (listingUnder o image) buffer
+  unfolding listingUnder
+  listing-under buffer e = rw is at e
+
 -- ---- the original's listing
 
-module _ (image : List ℕ) {rules : Rules} (is : rules ≡ originalRules) where
-  pub original-room : {a : Answer ℕ} → a ≡ roomFor (listingBy Terminators rules image) → a ≡ roomFor (listing image)
-  unfolding listing
+module _ (image : List ℕ) {o : ListOptions} (is : o ≡ originalOptions) where
+  pub original-room : {a : Answer ℕ} → a ≡ roomFor (listingUnder o image) → a ≡ roomFor (listing image)
+  unfolding listing listingUnder
   original-room e = rw is at e
 
-  pub original-listing : (buffer : List ℕ) {a : Lent} → a ≡ intoBuffer (listingBy Terminators rules image) buffer → a ≡ intoBuffer (listing image) buffer
-  unfolding listing
+  pub original-listing : (buffer : List ℕ) {a : Lent} → a ≡ intoBuffer (listingUnder o image) buffer → a ≡ intoBuffer (listing image) buffer
+  unfolding listing listingUnder
   original-listing buffer e = rw is at e

@@ -1,3 +1,4 @@
 pub mod Body
 pub mod LineHelpers
 pub mod Listing
+pub mod Modes

@@ -1,4 +1,5 @@
 // The listing of an image.
+use dialect::Dialect;
 use lent::Outcome;
 use readers::By;
 use readers::Step;
@@ -8,46 +9,94 @@ ghost use mathlib.Core.Path.{_≡_};
 ghost use Rattle.lent.specs.Lent.{intoBuffer, roomFor, outcomeAnswer, left};
 ghost use Rattle.texts.specs.TextsHelpers.{SpellsTexts};
 ghost use Rattle.lent.specs.Stores.{HasRoom};
-ghost use Rattle.listing.specs.Listing.{listing, listingBy, originalRules};
+ghost use Rattle.listing.specs.Listing.{listing, listingBy};
+ghost use Rattle.listing.specs.Modes.{heedsPrefix, rulesUnder, listingUnder, originalOptions};
 
 pub mod body;
 pub mod decimal;
 
-// Stores the listing of an image at the start of a buffer, and answers how long it is.
+// How an image is listed.
+pub struct ListOptions {
+    pub dialect: Dialect,
+    // Whether a remark is listed as text, up to its line's end: the second mode.
+    pub remarks: bool,
+    pub by: By,
+}
+
+// Stores the listing of an image at the start of a buffer, as the original lists it, and answers how long it is.
 pub fn list(image: &[u8], out: &mut [u8]) -> Outcome
     ensures { λ r. ⌜ left r (now (out .exit)) ≡ intoBuffer (listing (now (image .entry))) (now (out .entry)) ⌝ }
 {
+    list_under(image, original(), out)
+}
+
+// The room that this listing of an image needs.
+pub fn room(image: &[u8]) -> Outcome
+    ensures { λ r. ⌜ outcomeAnswer r ≡ roomFor (listing (now (image .entry))) ⌝ }
+{
+    room_under(image, original())
+}
+
+// Stores the listing of an image at the start of a buffer, as the options ask for it, and answers how long it is.
+pub fn list_under(image: &[u8], options: ListOptions, out: &mut [u8]) -> Outcome
+    ensures { λ r. ⌜ left r (now (out .exit)) ≡ intoBuffer (listingUnder options (now (image .entry))) (now (out .entry)) ⌝ }
+{
+    let by = options.by;
     list_with(
         out,
         &texts::TEXT_BYTES,
         &texts::TEXT_STARTS,
-        By::Terminators,
-        original_rules(),
+        by,
+        rules_under(options),
         image,
     )
 }
 
-// The room that the listing of an image needs.
-pub fn room(image: &[u8]) -> Outcome
-    ensures { λ r. ⌜ outcomeAnswer r ≡ roomFor (listing (now (image .entry))) ⌝ }
+// The room that this listing of an image needs.
+pub fn room_under(image: &[u8], options: ListOptions) -> Outcome
+    ensures { λ r. ⌜ outcomeAnswer r ≡ roomFor (listingUnder options (now (image .entry))) ⌝ }
 {
+    let by = options.by;
     measure(
         &texts::TEXT_BYTES,
         &texts::TEXT_STARTS,
-        By::Terminators,
-        original_rules(),
+        by,
+        rules_under(options),
         image,
     )
 }
 
-// What the original's listing heeds.
-fn original_rules() -> Rules
-    ensures { λ r. ⌜ r ≡ originalRules ⌝ }
+// What the original's listing is: under any of its dialects the same.
+fn original() -> ListOptions
+    ensures { λ r. ⌜ r ≡ originalOptions ⌝ }
 {
-    Rules {
-        prefix: true,
+    ListOptions {
+        dialect: Dialect::Auto,
         remarks: false,
+        by: By::Terminators,
+    }
+}
+
+// What a walk over a body heeds.
+fn rules_under(options: ListOptions) -> Rules
+    ensures { λ r. ⌜ r ≡ rulesUnder options ⌝ }
+{
+    let dialect = options.dialect;
+    Rules {
+        prefix: heeds_prefix(dialect, options.remarks),
+        remarks: options.remarks,
         items: false,
+    }
+}
+
+// Whether 64 is a prefix: not in the second mode under BasicV2.
+fn heeds_prefix(dialect: Dialect, remarks: bool) -> bool
+    ensures { λ r. ⌜ r ≡ heedsPrefix dialect remarks ⌝ }
+{
+    match dialect {
+        Dialect::Auto => true,
+        Dialect::BasicV2 => !remarks,
+        Dialect::Tsb => true,
     }
 }
 

@@ -1,4 +1,5 @@
 pub mod Demand
+pub mod Listed
 pub mod Stored
 pub mod Table
 pub mod Tight

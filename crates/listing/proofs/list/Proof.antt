@@ -1,14 +1,9 @@
--- `listing::list` meets its contract: the constants that it lends are the tables.
+-- `listing::list` meets its contract: the original's listing is one of the cases.
 -- Assumes nothing.
-use Rattle.texts.proofs.TextTable.{texts-right, rightBelow}
 use Rattle.listing.proofs.Whole.{original-listing}
 use borrow.Author.Needs.{needs}
 use Rattle.listing.proofs.list.Statement.{statement}
 use Rattle.listing.proofs.list.Tie as tie
-
-list-with-requires : tie.Need-list-with-requires
-unfolding rightBelow
-list-with-requires c κs = texts-right _ _ tt
 
 returns : tie.Need-returns
 returns c = search original-listing
@@ -17,9 +12,7 @@ pub list-spec : {M : Type 1} → statement M
 list-spec =
     tie.close
     (tie.spec
-    (λ c. search needs)
-    (λ c. search needs)
     (λ c κs. search needs)
-    list-with-requires
+    (λ c κs. search needs)
     (λ c. search needs)
     returns)

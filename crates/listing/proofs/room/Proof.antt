@@ -1,14 +1,9 @@
--- `listing::room` meets its contract: the constants that it lends are the tables.
+-- `listing::room` meets its contract: the original's listing is one of the cases.
 -- Assumes nothing.
-use Rattle.texts.proofs.TextTable.{texts-right, rightBelow}
 use Rattle.listing.proofs.Whole.{original-room}
 use borrow.Author.Needs.{needs}
 use Rattle.listing.proofs.room.Statement.{statement}
 use Rattle.listing.proofs.room.Tie as tie
-
-measure-requires : tie.Need-measure-requires
-unfolding rightBelow
-measure-requires c κs = texts-right _ _ tt
 
 returns : tie.Need-returns
 returns c = search original-room
@@ -17,8 +12,6 @@ pub room-spec : {M : Type 1} → statement M
 room-spec =
     tie.close
     (tie.spec
-    (λ c. search needs)
-    (λ c. search needs)
     (λ c κs. search needs)
-    measure-requires
+    (λ c κs. search needs)
     returns)

@@ -1,0 +1,51 @@
+-- What the two modes make of a body, worked out from the definitions (document 02, No. 6: "`10 rem do` lists as `10 REM TEXT`").
+-- Assumes nothing.
+use Prim.Native.Nat.{ℕ}
+use mathlib.Core.Path.{_≡_, refl}
+use mathlib.Core.Bool.{Bool, true, false}
+use mathlib.Core.List.{List, [], _∷_, _++_}
+use Rattle.refusals.specs.Answer.{done}
+use Rattle.ascii.specs.Bytes.{between}
+use Rattle.tables.specs.Rom.{romWords}
+use Rattle.words.specs.Spelling.{bytesOf}
+use Rattle.petscii.specs.ByteTexts.{hexByte, hexDigits, byteText, remarkText}
+use Rattle.texts.specs.Texts.{tokenText, textOf}
+use Rattle.tables.specs.Tsb.{tsbWords, withToken, tsbId, tsbText}
+use Rattle.dialect.specs.declared.Dialect.{Dialect}
+use Rattle.dialect.specs.declared.Dialect.the-variants.{Auto, BasicV2, Tsb}
+use Rattle.readers.specs.declared.By.the-variants.{Terminators, Links}
+use Rattle.readers.specs.Bodies.{bodiesFrom}
+use Rattle.readers.specs.Readers.{stepBy}
+use Rattle.readers.specs.Links.{linkStep}
+use Rattle.readers.specs.Terminators.{terminatorStep, beforeZero}
+use Rattle.units.specs.Units.{unitsFrom}
+use Rattle.pieces.specs.Pieces.{unknownPair, pairText, unitText, spelt}
+use Rattle.decimals.specs.Decimal.{decimal}
+use Rattle.listing.specs.Body.{bodyListing}
+use Rattle.listing.specs.Listing.{listingBy, originalRules}
+use Rattle.listing.specs.Modes.{heedsPrefix, rulesUnder, listingUnder}
+
+-- a body in the second mode
+abbrev second : Dialect → List ℕ → List ℕ
+second d body = bodyListing (rulesUnder (record { dialect = d; remarks = true; by = Terminators })) body
+
+-- the image of `10 PRINT "{0}"` at 0801
+abbrev holdsZero : List ℕ
+holdsZero = 0x01 ∷ 0x08 ∷ 0x0B ∷ 0x08 ∷ 0x0A ∷ 0x00 ∷ 0x99 ∷ 0x20 ∷ 0x22 ∷ 0x00 ∷ 0x22 ∷ 0x00 ∷ 0x00 ∷ 0x00 ∷ []
+
+pub examples :
+    -- `rem do`, in either mode
+    (bodyListing originalRules (0x8F ∷ 0x20 ∷ 0x64 ∷ 0x6F ∷ []) ≡ bytesOf "REM TEXT")
+    × (second Auto (0x8F ∷ 0x20 ∷ 0x64 ∷ 0x6F ∷ []) ≡ bytesOf "REM do")
+    -- quotes are quotes, and change nothing; a token is none; letters of either case
+    × (second Tsb (0x8F ∷ 0x22 ∷ 0x61 ∷ 0x22 ∷ 0x99 ∷ 0xC1 ∷ []) ≡ bytesOf "REM\"a\"{$99}A")
+    -- a quoted 8F opens no remark, nor does the second byte of a pair; one behind DATA does
+    × (second Tsb (0x22 ∷ 0x8F ∷ 0x22 ∷ 0x64 ∷ 0x6F ∷ []) ≡ bytesOf "\"{$8F}\"TEXT")
+    × (second Tsb (0x64 ∷ 0x8F ∷ 0x64 ∷ 0x6F ∷ []) ≡ bytesOf "{64}{8F}TEXT")
+    × (second Tsb (0x83 ∷ 0x8F ∷ 0x64 ∷ []) ≡ bytesOf "DATAREMd")
+    -- 64 is no prefix under BasicV2
+    × (second BasicV2 (0x64 ∷ 0x6F ∷ []) ≡ bytesOf "{$64}{$6F}")
+    -- a 00 in a body: the lines by terminators and by links
+    × (listingUnder (record { dialect = Auto; remarks = true; by = Links }) holdsZero ≡ done (bytesOf "10 PRINT \"{null}\"" ++ 0x0A ∷ []))
+unfolding bodyListing listingUnder listingBy heedsPrefix unitsFrom spelt unitText pairText unknownPair textOf tokenText byteText remarkText hexByte hexDigits romWords tsbWords withToken tsbId tsbText between decimal bodiesFrom stepBy linkStep terminatorStep beforeZero
+examples = (refl, refl, refl, refl, refl, refl, refl, refl)

@@ -1,0 +1,25 @@
+-- `listing::list_under` meets its contract: the constants that it lends are the tables.
+-- Assumes nothing.
+use Rattle.texts.proofs.TextTable.{texts-right, rightBelow}
+use Rattle.listing.proofs.Whole.{listing-under}
+use borrow.Author.Needs.{needs}
+use Rattle.listing.proofs.list_under.Statement.{statement}
+use Rattle.listing.proofs.list_under.Tie as tie
+
+list-with-requires : tie.Need-list-with-requires
+unfolding rightBelow
+list-with-requires c κs = texts-right _ _ tt
+
+returns : tie.Need-returns
+returns c = search listing-under
+
+pub list-under-spec : {M : Type 1} → statement M
+list-under-spec =
+    tie.close
+    (tie.spec
+    (λ c. search needs)
+    (λ c. search needs)
+    (λ c κs. search needs)
+    list-with-requires
+    (λ c. search needs)
+    returns)

@@ -1,0 +1,24 @@
+-- `listing::room_under` meets its contract: the constants that it lends are the tables.
+-- Assumes nothing.
+use Rattle.texts.proofs.TextTable.{texts-right, rightBelow}
+use Rattle.listing.proofs.Whole.{room-under}
+use borrow.Author.Needs.{needs}
+use Rattle.listing.proofs.room_under.Statement.{statement}
+use Rattle.listing.proofs.room_under.Tie as tie
+
+measure-requires : tie.Need-measure-requires
+unfolding rightBelow
+measure-requires c κs = texts-right _ _ tt
+
+returns : tie.Need-returns
+returns c = search room-under
+
+pub room-under-spec : {M : Type 1} → statement M
+room-under-spec =
+    tie.close
+    (tie.spec
+    (λ c. search needs)
+    (λ c. search needs)
+    (λ c κs. search needs)
+    measure-requires
+    returns)

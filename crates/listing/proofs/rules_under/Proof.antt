@@ -1,0 +1,16 @@
+-- `listing::rules_under` meets its contract.
+-- Assumes nothing.
+use Rattle.listing.proofs.Whole.{rules-are}
+use borrow.Author.Needs.{needs}
+use Rattle.listing.proofs.rules_under.Statement.{statement}
+use Rattle.listing.proofs.rules_under.Tie as tie
+
+returns : tie.Need-returns
+returns c = search rules-are
+
+pub rules-under-spec : {M : Type 1} → statement M
+rules-under-spec =
+    tie.close
+    (tie.spec
+    (λ c κs. search needs)
+    returns)
