@@ -4,6 +4,7 @@ mod dialects;
 mod frames;
 mod images;
 mod listings;
+mod modes;
 mod rooms;
 mod texts;
 mod words;
@@ -28,8 +29,12 @@ fn answer_request(op: u8, payload: &[u8], room: &mut [u8]) -> bool {
         0x09 => images::step(payload, By::Links),
         0x0A => listings::list(payload, room),
         0x0B => listings::room_for_list(payload),
+        0x16 => modes::list(payload, room),
+        0x17 => modes::room_for_list(payload),
         0x18 => images::addressed_step(payload, By::Terminators),
         0x19 => images::addressed_step(payload, By::Links),
+        0x30 => modes::list_by_links(payload, room),
+        0x31 => modes::room_by_links(payload),
         _ => Answer::malformed().send(),
     }
 }
