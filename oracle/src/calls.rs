@@ -2,6 +2,7 @@
 
 use crate::fields::Fields;
 use crate::frames::Request;
+use crate::modes::ListOptions;
 use crate::tokens::Dialect;
 
 /// The largest room that a call can be lent.
@@ -19,6 +20,8 @@ pub const STEP_BY_LINKS: u8 = 0x09;
 pub const LISTING: u8 = 0x0A;
 pub const LISTING_ROOM: u8 = 0x0B;
 pub const LINE_BY_NUMBER: u8 = 0x12;
+pub const SECOND_LISTING: u8 = 0x16;
+pub const SECOND_LISTING_ROOM: u8 = 0x17;
 pub const ADDRESSED_STEP_BY_TERMINATORS: u8 = 0x18;
 pub const ADDRESSED_STEP_BY_LINKS: u8 = 0x19;
 pub const MEASURED_LINE: u8 = 0x1A;
@@ -27,17 +30,26 @@ pub const SAVE_FILE: u8 = 0x21;
 pub const READ_FILE: u8 = 0x22;
 pub const SCRATCH_FILE: u8 = 0x23;
 pub const CHECK_DISK: u8 = 0x24;
+pub const LINKED_LISTING: u8 = 0x30;
+pub const LINKED_LISTING_ROOM: u8 = 0x31;
 
 /// Whether the original, or a model of our own, can answer an op.
 pub fn is_known(op: u8) -> bool {
     matches!(op, CRUNCH..=LISTING_ROOM | LINE_BY_NUMBER)
         || matches!(op, ADDRESSED_STEP_BY_TERMINATORS..=MEASURED_LINE)
+        || is_under_options(op)
         || is_of_disks(op)
 }
 
 /// Whether an op's payload ends with a text.
 pub fn is_of_texts(op: u8) -> bool {
     matches!(op, CRUNCH..=RESOLVED_DIALECT | MEASURED_LINE)
+}
+
+/// Whether an op lists as options ask for it.
+pub fn is_under_options(op: u8) -> bool {
+    matches!(op, SECOND_LISTING | SECOND_LISTING_ROOM)
+        || matches!(op, LINKED_LISTING | LINKED_LISTING_ROOM)
 }
 
 /// Whether an op's payload ends with a disk, and its answer too.
@@ -98,6 +110,15 @@ pub enum Call<'a> {
     AddressedStep {
         by: Reader,
         offset: u64,
+        image: &'a [u8],
+    },
+    ListingUnder {
+        options: ListOptions,
+        room: usize,
+        image: &'a [u8],
+    },
+    ListingRoomUnder {
+        options: ListOptions,
         image: &'a [u8],
     },
     /// Options are no part of it: no request that gives one has landed.
@@ -173,6 +194,15 @@ impl<'a> Call<'a> {
             },
             ADDRESSED_STEP_BY_TERMINATORS => fields.addressed_step(Reader::Terminators)?,
             ADDRESSED_STEP_BY_LINKS => fields.addressed_step(Reader::Links)?,
+            SECOND_LISTING | LINKED_LISTING => Call::ListingUnder {
+                options: fields.list_options(request.op)?,
+                room: fields.room()?,
+                image: fields.rest(),
+            },
+            SECOND_LISTING_ROOM | LINKED_LISTING_ROOM => Call::ListingRoomUnder {
+                options: fields.list_options(request.op)?,
+                image: fields.rest(),
+            },
             MEASURED_LINE => {
                 let (load, dialect) = (fields.address()?, fields.dialect()?);
                 fields.options()?;
@@ -244,6 +274,25 @@ impl<'a> Call<'a> {
             Call::AddressedStep { by, offset, image } => {
                 (addressed_op(by), offset.to_le_bytes().to_vec(), image)
             }
+            Call::ListingUnder {
+                options,
+                room,
+                image,
+            } => {
+                let op = match options.by {
+                    Reader::Terminators => SECOND_LISTING,
+                    Reader::Links => LINKED_LISTING,
+                };
+                let fixed = [list_options(options), length_field(room)];
+                (op, fixed.concat(), image)
+            }
+            Call::ListingRoomUnder { options, image } => {
+                let op = match options.by {
+                    Reader::Terminators => SECOND_LISTING_ROOM,
+                    Reader::Links => LINKED_LISTING_ROOM,
+                };
+                (op, list_options(options), image)
+            }
             Call::MeasuredLine {
                 load,
                 dialect,
@@ -285,6 +334,10 @@ pub fn fixed_part(op: u8) -> usize {
         LISTING => 4,
         LINE_BY_NUMBER => 2 + 8,
         ADDRESSED_STEP_BY_TERMINATORS | ADDRESSED_STEP_BY_LINKS => 8,
+        SECOND_LISTING => 1 + 4,
+        SECOND_LISTING_ROOM => 1,
+        LINKED_LISTING => 1 + 1 + 4,
+        LINKED_LISTING_ROOM => 1 + 1,
         MEASURED_LINE => 2 + 1 + 1 + 8,
         SAVE_FILE => 2 + 4,
         READ_FILE => 4 + 2,
@@ -326,6 +379,15 @@ fn addressed_op(by: Reader) -> u8 {
 fn place(load: u16, dialect: Dialect) -> Vec<u8> {
     let [low, high] = load.to_le_bytes();
     vec![low, high, dialect_byte(dialect)]
+}
+
+/// By terminators the mode is the second, and by links it is a field.
+fn list_options(options: ListOptions) -> Vec<u8> {
+    let dialect = dialect_byte(options.dialect);
+    match options.by {
+        Reader::Terminators => vec![dialect],
+        Reader::Links => vec![dialect, options.remarks.into()],
+    }
 }
 
 /// A room, or the length of an image that is not the last field.

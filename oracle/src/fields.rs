@@ -1,6 +1,7 @@
 //! The fields of a payload, taken one after another.
 
-use crate::calls::{Call, ROOM_LIMIT, Reader};
+use crate::calls::{self, Call, ROOM_LIMIT, Reader};
+use crate::modes::ListOptions;
 use crate::tokens::Dialect;
 
 /// The part of a payload that is not decoded yet.
@@ -35,6 +36,24 @@ impl<'a> Fields<'a> {
     /// The byte of options: no bit of it has landed.
     pub fn options(&mut self) -> Option<()> {
         (self.take()? == [0]).then_some(())
+    }
+
+    /// The dialect of a listing and, for one by links, its mode.
+    pub fn list_options(&mut self, op: u8) -> Option<ListOptions> {
+        let dialect = self.dialect()?;
+        let (by, remarks) = match op {
+            calls::SECOND_LISTING | calls::SECOND_LISTING_ROOM => (Reader::Terminators, true),
+            _ => match self.take()? {
+                [0] => (Reader::Links, false),
+                [1] => (Reader::Links, true),
+                _ => return None,
+            },
+        };
+        Some(ListOptions {
+            dialect,
+            remarks,
+            by,
+        })
     }
 
     pub fn room(&mut self) -> Option<usize> {

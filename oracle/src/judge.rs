@@ -10,6 +10,7 @@ use crate::found::{self, Found};
 use crate::frames::{self, Incoming, Request};
 use crate::library::{self, Checked, Step};
 use crate::measured::{self, MeasuredLine};
+use crate::modes;
 use crate::refusal::Refusal;
 use crate::show;
 
@@ -93,6 +94,14 @@ fn answer_call(call: &Call) -> Vec<u8> {
         } => plain(found::line_by_number(number, limit, image).map(found_line)),
         Call::AddressedStep { by, offset, image } => {
             plain(addressed::step(by, offset, image).map(addressed_line))
+        }
+        Call::ListingUnder {
+            options,
+            room,
+            image,
+        } => lent(modes::listing(options, image).map(String::into_bytes), room),
+        Call::ListingRoomUnder { options, image } => {
+            plain(modes::listing(options, image).map(|listing| length(listing.as_bytes())))
         }
         Call::MeasuredLine {
             load,

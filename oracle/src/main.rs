@@ -25,6 +25,7 @@ mod judge;
 mod library;
 mod links;
 mod measured;
+mod modes;
 mod peers;
 mod program;
 mod random;

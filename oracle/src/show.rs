@@ -56,6 +56,14 @@ fn of_call(call: &Call) -> String {
             reader(by),
             hex(image)
         ),
+        Call::ListingUnder {
+            options,
+            room,
+            image,
+        } => format!("listing, {options:?}, room {room}: {}", hex(image)),
+        Call::ListingRoomUnder { options, image } => {
+            format!("room for the listing, {options:?}: {}", hex(image))
+        }
         Call::MeasuredLine {
             load,
             dialect,
@@ -97,7 +105,9 @@ pub fn answer(op: u8, body: &[u8]) -> String {
 fn of_results(op: u8, results: &[u8]) -> String {
     let shown = match op {
         calls::CRUNCH | calls::LISTING => of_lent(op, results),
+        calls::SECOND_LISTING | calls::LINKED_LISTING => of_lent(op, results),
         calls::CRUNCH_ROOM | calls::LISTING_ROOM => named(&["length"], results),
+        calls::SECOND_LISTING_ROOM | calls::LINKED_LISTING_ROOM => named(&["length"], results),
         calls::RESOLVED_DIALECT | calls::DIALECT_BY_NAME => of_dialect(results),
         calls::TSB_WORD => of_test(results),
         calls::CHECK_BY_TERMINATORS | calls::CHECK_BY_LINKS => {
@@ -138,7 +148,7 @@ fn of_lent(op: u8, results: &[u8]) -> Option<String> {
     let written = usize::try_from(number(length)?).ok()?;
     let (result, rest) = lent.split_at_checked(written)?;
     let result = match op {
-        calls::LISTING => quoted(result),
+        calls::LISTING | calls::SECOND_LISTING | calls::LINKED_LISTING => quoted(result),
         _ => hex(result),
     };
     Some(format!("length {written}: {result}{}", room(rest)))

@@ -3,6 +3,7 @@
 
 mod disk;
 mod lines;
+mod modes;
 
 use std::io::Cursor;
 use std::time::{Duration, Instant};

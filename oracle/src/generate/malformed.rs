@@ -16,6 +16,9 @@ const UNKNOWN_DIALECTS: [u8; 5] = [4, 5, 0x7F, 0x80, 0xFF];
 /// Options of which no request gives all bits; 1, 2 and 3 are left out.
 const UNKNOWN_OPTIONS: [u8; 4] = [4, 7, 0x80, 0xFF];
 
+/// Bytes that name no mode of a listing.
+const UNKNOWN_MODES: [u8; 4] = [2, 3, 0x80, 0xFF];
+
 const ROOMS_TOO_LARGE: [u32; 4] = [ROOM_LIMIT as u32 + 1, 1 << 20, 1 << 31, u32::MAX];
 
 /// Every kind of malformed request that an op can have, and the unknown ops.
@@ -27,6 +30,9 @@ pub fn listed(op: u8) -> Vec<Request> {
     }
     if op == calls::MEASURED_LINE {
         payloads.extend(UNKNOWN_OPTIONS.map(|byte| with_field(fixed, 3, &[byte])));
+    }
+    if matches!(op, calls::LINKED_LISTING | calls::LINKED_LISTING_ROOM) {
+        payloads.extend(UNKNOWN_MODES.map(|byte| with_field(fixed, 1, &[byte])));
     }
     if let Some(place) = room_place(op) {
         payloads.extend(ROOMS_TOO_LARGE.map(|room| with_field(fixed, place, &room.to_le_bytes())));
@@ -60,6 +66,7 @@ fn dialect_place(op: u8) -> Option<usize> {
     match op {
         calls::CRUNCH | calls::CRUNCH_ROOM | calls::MEASURED_LINE => Some(2),
         calls::RESOLVED_DIALECT => Some(0),
+        _ if calls::is_under_options(op) => Some(0),
         _ => None,
     }
 }
@@ -69,6 +76,8 @@ fn room_place(op: u8) -> Option<usize> {
     match op {
         calls::CRUNCH => Some(3),
         calls::LISTING | calls::READ_FILE => Some(0),
+        calls::SECOND_LISTING => Some(1),
+        calls::LINKED_LISTING => Some(2),
         _ => None,
     }
 }

@@ -19,6 +19,7 @@ mod lines;
 mod malformed;
 mod names;
 mod programs;
+mod remarks;
 mod requests;
 mod strings;
 mod texts;
@@ -127,6 +128,10 @@ fn enumerated(op: u8, random: &mut Random) -> Vec<Request> {
         calls::TSB_WORD => requests::of_words(op, &names::listed_words(random)),
         calls::FORMAT_DISK..=calls::CHECK_DISK => Vec::new(),
         _ if calls::is_of_texts(op) => requests::of_texts(op, &texts::listed(), random),
+        _ if calls::is_under_options(op) => {
+            let images = [remarks::listed(), images::listed()].concat();
+            requests::of_images(op, &images, random)
+        }
         _ => requests::of_images(op, &images::listed(), random),
     }
 }

@@ -3,6 +3,7 @@
 use crate::calls::{self, Call, ROOM_LIMIT, Reader};
 use crate::frames::Request;
 use crate::library;
+use crate::modes::{self, ListOptions};
 use crate::random::Random;
 use crate::tokens::Dialect;
 
@@ -115,6 +116,19 @@ pub fn of_image(op: u8, image: &[u8], random: &mut Random) -> Request {
             }
         }
         calls::LISTING_ROOM => Call::ListingRoom { image },
+        calls::SECOND_LISTING | calls::LINKED_LISTING => {
+            let options = list_options(op, random);
+            let listing = modes::listing(options, image);
+            Call::ListingUnder {
+                options,
+                room: room(listing.ok().map(|listing| listing.len()), random),
+                image,
+            }
+        }
+        calls::SECOND_LISTING_ROOM | calls::LINKED_LISTING_ROOM => Call::ListingRoomUnder {
+            options: list_options(op, random),
+            image,
+        },
         _ => unreachable!("op {op:02X} takes no image"),
     };
     call.encode()
@@ -157,6 +171,22 @@ fn step<'a>(by: Reader, image: &'a [u8], random: &mut Random) -> Call<'a> {
 fn addressed_step<'a>(by: Reader, image: &'a [u8], random: &mut Random) -> Call<'a> {
     let offset = offset(by, image, random);
     Call::AddressedStep { by, offset, image }
+}
+
+fn list_options(op: u8, random: &mut Random) -> ListOptions {
+    let dialect = random.pick(&[Dialect::Auto, Dialect::BasicV2, Dialect::Tsb]);
+    match op {
+        calls::SECOND_LISTING | calls::SECOND_LISTING_ROOM => ListOptions {
+            dialect,
+            remarks: true,
+            by: Reader::Terminators,
+        },
+        _ => ListOptions {
+            dialect,
+            remarks: random.one_in(2),
+            by: Reader::Links,
+        },
+    }
 }
 
 /// A search for a line that is there, mostly, with a limit around its place.
