@@ -86,7 +86,7 @@ module _ {list : List ℕ} {marks : List Bool} {i : ℕ} (m : Marking list marks
 
 -- ---- on a disk
 
-marked-long : (d : List ℕ) (n : ℕ) (free : Bool) → length (marked d n free) ≡ length d
+pub marked-long : (d : List ℕ) (n : ℕ) (free : Bool) → length (marked d n free) ≡ length d
 unfolding marked
 marked-long d n free = simp length-set
 

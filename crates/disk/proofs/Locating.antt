@@ -1,53 +1,36 @@
 -- Names, and the entry of a name.
 -- Assumes nothing.
-use Prim.Native.Nat.{ℕ, zero, suc, _+_, _≤_, _<_}
+use Prim.Native.Nat.{ℕ, zero, suc, _+_, _*_, _≤_, _<_}
 use mathlib.Core.Path.{_≡_, refl, sym, ap, _∙_}
 use mathlib.Core.Bool.{Bool, true, false, not, cond, _&&_}
 use mathlib.Core.List.{List, [], _∷_}
 use lib.Dec.{eqb, leb}
-use lib.ListN.{length, getD, take, drop, drop-of-length-le}
-use lib.Seq.{drop-cons, getD-take, length-take-le}
-use native.Mathlib.Numerals.{add-one}
+use lib.ListN.{length, getD, take}
+use lib.Seq.{getD-take}
 use native.Mathlib.Omega.{arith}
-use borrow.Author.Tests.{eq-eqb, ne-eqb, le-leb, lt-leb, not-true, not-false}
+use mir.Val.{Fits}
+use mir.Syntax.{w64}
+use borrow.Author.Tests.{ne-eqb, le-leb, lt-leb, leb-true, not-true, not-false}
 use Rattle.refusals.specs.Numbers.{Numbered, badDisk, badName, noSuchFile}
-use Rattle.refusals.specs.Answer.{Answer, done, refused, andThen}
+use Rattle.refusals.specs.Answer.{Answer, done, refused, numbered, andThen}
+use Rattle.refusals.specs.declared.Refusal.{Refusal}
 use Rattle.refusals.specs.declared.Refusal.the-variants.{BadDisk, BadName, NoSuchFile}
 use Rattle.d64.specs.Lists.{some, those, isIn}
-use Rattle.d64.specs.Entries.{listed, isNamed}
+use Rattle.d64.specs.Chains.{Chain}
+use Rattle.d64.specs.Entries.{directory, listed, isNamed}
 use Rattle.d64.specs.Check.{sound}
 use Rattle.d64.specs.Calls.{isFileName, onSound, ofFile, entriesNamed}
 use Rattle.entries.specs.EntryHelpers.{Entries, firstEntry}
 use Rattle.sound.specs.SoundHelpers.{Looks}
 use Rattle.sound.specs.declared.Seen.{Seen}
 use Rattle.sound.proofs.Looking.{known-entries}
-use Rattle.disk.specs.LocateHelpers.{located, locatedAnswer, Locates}
+use Rattle.disk.specs.LocateHelpers.{admitted, soughtAnswer, Known, Seeks, located, locatedAnswer, Locates}
+use Rattle.disk.specs.declared.Sought.{Sought}
+use Rattle.disk.specs.declared.Sought.the-variants.{On, Refused as RefusedSought}
 use Rattle.disk.specs.declared.Located.{Located}
 use Rattle.disk.specs.declared.Located.the-variants.{At, Refused}
 
--- ---- whether a byte stands in a name
-
-pub record Lacking (l : List ℕ) (i : ℕ) : Type 0 where
-  pub within : i ≤ length l
-  pub leaves : isIn (drop i l) 0xA0 ≡ isIn l 0xA0
-
-pub lack-start : (l : List ℕ) → Lacking l 0
-lack-start l = record { within = omega arith; leaves = refl }
-
-module _ {l : List ℕ} {i : ℕ} (k : Lacking l i) where
-  pub lack-found : i < length l → getD l i 0 ≡ 0xA0 → true ≡ isIn l 0xA0
-  unfolding some
-  lack-found h e = simp (eq-eqb 0xA0 (getD l i 0) (sym e)) at (rw (drop-cons l i 0 h) at (k .leaves))
-
-  pub lack-turn : i < length l → (getD l i 0 ≡ 0xA0 → ⊥) → Lacking l (i + 1)
-  unfolding some
-  lack-turn h z =
-      let y : 0xA0 ≡ getD l i 0 → ⊥ = λ e. z (sym e) in
-      record { within = omega arith; leaves = rw add-one (simp (ne-eqb 0xA0 (getD l i 0) y) at (rw (drop-cons l i 0 h) at (k .leaves))) }
-
-  pub lack-end : length l ≤ i → false ≡ isIn l 0xA0
-  unfolding some
-  lack-end h = rw (drop-of-length-le l {i = i} h) at (k .leaves)
+-- ---- names
 
 module _ (l : List ℕ) where
   pub no-empty : length l < 1 → false ≡ isFileName l
@@ -87,11 +70,6 @@ pub not-long : (d : List ℕ) → (length d ≡ 174848 → ⊥) → sound d ≡ 
 unfolding sound
 not-long d z = simp (ne-eqb (length d) 174848 z)
 
-module _ {d name : List ℕ} where
-  pub locate-long : (length d ≡ 174848 → ⊥) → Locates d name (Refused BadDisk)
-  unfolding located
-  locate-long z = let e : sound d ≡ false = not-long d z in record { answers = rw e; stands = tt }
-
 module _ {d : List ℕ} {s : Seen} {a b : List ℕ} (k : Looks d s a b) where
   pub look-unsound : not (s .sound) ≡ true → sound d ≡ false
   look-unsound e = sym (k .verdict) ∙ not-true (s .sound) e
@@ -102,48 +80,112 @@ module _ {d : List ℕ} {s : Seen} {a b : List ℕ} (k : Looks d s a b) where
   pub look-entries : Entries (take (s .files) b)
   look-entries = known-entries d (k .files)
 
+-- ---- a name looked for
+
+middle : (a b c : Bool) → (a && b && c) ≡ true → b ≡ true
+middle true true c e = refl
+middle true false c e = e
+middle false true c e = refl
+middle false false c e = e
+
+name-short : (name : List ℕ) → isFileName name ≡ true → length name ≤ 16
+name-short name e = leb-true (length name) 16 (middle (leb 1 (length name)) (leb (length name) 16) (not (isIn name 0xA0)) e)
+
+module _ (d name a b : List ℕ) where
+  pub seek-long : (length d ≡ 174848 → ⊥) → Seeks d name (RefusedSought BadDisk) a b
+  unfolding admitted
+  seek-long z = record { answers = rw (not-long d z); knows = tt }
+
 module _ (name : List ℕ) {d : List ℕ} {s : Seen} {a b : List ℕ} (k : Looks d s a b) where
-  pub locate-unsound : not (s .sound) ≡ true → Locates d name (Refused BadDisk)
-  unfolding located
-  locate-unsound e = let f : sound d ≡ false = look-unsound k e in record { answers = rw f; stands = tt }
+  pub seek-unsound : not (s .sound) ≡ true → Seeks d name (RefusedSought BadDisk) a b
+  unfolding admitted
+  seek-unsound e = record { answers = rw (look-unsound k e); knows = tt }
 
   module _ {r : Bool} (e : not (s .sound) ≡ false) (f : r ≡ isFileName name) where
-    pub locate-name : not r ≡ true → Locates d name (Refused BadName)
+    pub seek-name : not r ≡ true → Seeks d name (RefusedSought BadName) a b
+    unfolding admitted
+    seek-name g =
+        let y : isFileName name ≡ false = sym f ∙ not-true r g in record { answers = rw (look-sound k e) (rw y); knows = tt }
+
+    pub seek-on : {i : ℕ} → length d ≡ 174848 → not r ≡ false → i ≡ firstEntry (isNamed d name) (take (s .files) b)
+        → Seeks d name (On (s .sectors) (s .files) i) a b
+    unfolding admitted
+    seek-on l g h =
+        let y : isFileName name ≡ true = sym f ∙ not-false r g in
+        record {
+          answers = rw (look-sound k e) (rw y);
+          knows = record { size = l; short = name-short name y; few = k .few; chain = k .sectors; many = k .many; counts = k .counts; entries = k .files; first = rw (k .files) at h };
+        }
+
+-- what is answered on a sound disk for a name, behind 20 and 21
+pub admitted-first : {A : Type 0} (d name : List ℕ) (x : Answer A) → onSound d name x ≡ andThen (admitted d name) (λ u. x)
+unfolding admitted
+admitted-first {A} d name x = go tt (sound d) (isFileName name) where
+  go : (t : Unit {0}) (p q : Bool) → cond p (cond q x (refused badName)) (refused badDisk) ≡ andThen (cond p (cond q (done t) (refused badName)) (refused badDisk)) (λ u. x)
+  go t true true = refl
+  go t true false = refl
+  go t false q = refl
+
+module _ {d name : List ℕ} {m : Sought} {a b : List ℕ} (s : Seeks d name m a b) where
+  pub sought : {k f i : ℕ} → m ≡ On k f i → Known d name k f i a b
+  sought e = rw e at (s .knows)
+
+  pub sought-on : {A : Type 0} {k f i : ℕ} (x : Answer A) → m ≡ On k f i → x ≡ onSound d name x
+  sought-on x e =
+      sym (admitted-first d name x ∙ ap (λ (y : Answer Unit). andThen y (λ u. x)) (sym (s .answers) ∙ ap soughtAnswer e))
+
+  pub sought-not : {A : Type 0} {r : Refusal} (x : Answer A) → m ≡ RefusedSought r → refused (numbered r) ≡ onSound d name x
+  sought-not x e =
+      sym (admitted-first d name x ∙ ap (λ (y : Answer Unit). andThen y (λ u. x)) (sym (s .answers) ∙ ap soughtAnswer e))
+
+  pub locate-refused : {r : Refusal} → m ≡ RefusedSought r → Locates d name (Refused r)
+  unfolding located
+  locate-refused e = record { answers = sought-not (ofFile (entriesNamed d name) done) e; stands = tt }
+
+  module _ {k f i : ℕ} (e : m ≡ On k f i) where
+    abbrev known : Known d name k f i a b
+    known = sought e
+
+    pub known-size : length d ≡ 174848
+    known-size = known .size
+
+    pub known-short : length name ≤ 16
+    known-short = known .short
+
+    pub known-few : length a ≡ 18 → k ≤ length a
+    known-few h = omega (arith, known .few)
+
+    pub known-chain : take k a ≡ directory d .sectors
+    known-chain = known .chain
+
+    pub locate-in : i < f → i < 144
+    locate-in j = omega (arith, known .many)
+
+    pub locate-fits : i < f → Fits w64 (i * 8)
+    locate-fits j = omega (arith, known .many)
+
+    pub locate-none : f ≤ i → Locates d name (Refused NoSuchFile)
     unfolding located
-    locate-name g =
-        let x : sound d ≡ true = look-sound k e in
-        let y : isFileName name ≡ false = sym f ∙ not-true r g in
-        record { answers = rw x (rw y); stands = tt }
+    locate-none j =
+        record {
+          answers = first-none (isNamed d name) (listed d) done (omega (arith, known .first, known .counts)) ∙ sought-on (ofFile (entriesNamed d name) done) e;
+          stands = tt;
+        }
 
-    module _ {i : ℕ} (g : not r ≡ false) (h : i ≡ firstEntry (isNamed d name) (take (s .files) b)) where
-      first : i ≡ firstEntry (isNamed d name) (listed d)
-      first = rw (k .files) at h
-
-      on : onSound d name (ofFile (entriesNamed d name) done) ≡ ofFile (entriesNamed d name) done
-      on =
-          let x : sound d ≡ true = look-sound k e in
-          let y : isFileName name ≡ true = sym f ∙ not-false r g in
-          rw x (rw y)
-
-      pub locate-none : s .files ≤ i → Locates d name (Refused NoSuchFile)
-      unfolding located
-      locate-none j =
-          record { answers = first-none (isNamed d name) (listed d) done (omega (arith, first, k .counts)) ∙ sym on; stands = tt }
-
-      pub locate-at : i < s .files → length d ≡ 174848 → Locates d name (At (getD b i 0))
-      unfolding located
-      locate-at j l =
-          let p : getD (take (s .files) b) i 0 ≡ getD b i 0 = getD-take (s .files) b i 0 j in
-          let q : getD (listed d) i 0 ≡ getD b i 0 = sym (ap (λ (x : List ℕ). getD x i 0) (k .files)) ∙ p in
-          let m : i < length (take (s .files) b) = rw (k .files) (omega (arith, k .counts)) in
-          record {
-            answers =
-                ap done (sym q)
-                ∙ ap (λ (x : ℕ). done (getD (listed d) x 0)) first
-                ∙ first-of (isNamed d name) (listed d) done (omega (arith, first, k .counts))
-                ∙ sym on;
-            stands = (l, rw p at (look-entries k .within i m));
-          }
+    pub locate-at : i < f → Locates d name (At (getD b i 0))
+    unfolding located
+    locate-at j =
+        let p : getD (take f b) i 0 ≡ getD b i 0 = getD-take f b i 0 j in
+        let q : getD (listed d) i 0 ≡ getD b i 0 = sym (ap (λ (x : List ℕ). getD x i 0) (known .entries)) ∙ p in
+        let h : i < length (take f b) = rw (known .entries) (omega (arith, known .counts)) in
+        record {
+          answers =
+              ap done (sym q)
+              ∙ ap (λ (x : ℕ). done (getD (listed d) x 0)) (known .first)
+              ∙ first-of (isNamed d name) (listed d) done (omega (arith, known .first, known .counts))
+              ∙ sought-on (ofFile (entriesNamed d name) done) e;
+          stands = (known .size, rw p at (known-entries d (known .entries) .within i h));
+        }
 
 -- what follows a search is told by the entry that it found
 pub by-entry : {A : Type 0} (d name : List ℕ) (f : ℕ → Answer A) → andThen (located d name) f ≡ onSound d name (ofFile (entriesNamed d name) f)

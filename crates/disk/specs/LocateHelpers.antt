@@ -1,13 +1,48 @@
--- What the contract of `locate`, which serves reading and scratching, says.
+-- What the contracts of `seek`, which serves the calls with a name, and of `locate`, which serves reading and scratching, say.
 -- Assumes nothing.
 use Prim.Native.Nat.{ℕ, _+_, _≤_}
 use mathlib.Core.Path.{_≡_}
 use mathlib.Core.List.{List}
-use lib.ListN.{length}
+use lib.ListN.{length, take}
 use Rattle.refusals.specs.Answer.{Answer, done, refused, numbered}
+use Rattle.d64.specs.Entries.{directory, listed, isNamed}
 use Rattle.d64.specs.Calls.{onSound, ofFile, entriesNamed}
+use Rattle.entries.specs.EntryHelpers.{firstEntry}
 use Rattle.disk.specs.declared.Located.{Located}
 use Rattle.disk.specs.declared.Located.the-variants.{At, Refused}
+use Rattle.disk.specs.declared.Sought.{Sought}
+use Rattle.disk.specs.declared.Sought.the-variants.{On, Refused as RefusedSought}
+
+-- ---- seek
+
+-- 20 and 21
+unfoldable pub admitted : List ℕ → List ℕ → Answer Unit
+admitted disk name = onSound disk name (done tt)
+
+abbrev pub soughtAnswer : Sought → Answer Unit
+soughtAnswer (On sectors files at) = done tt
+soughtAnswer (RefusedSought r) = refused (numbered r)
+
+-- the directory's sectors and the listed entries at the start of two lists, and the place of the first entry with the name
+pub record Known (disk name : List ℕ) (sectors files at : ℕ) (sectorList fileList : List ℕ) : Type 0 where
+  pub size : length disk ≡ 174848
+  pub short : length name ≤ 16
+  pub few : sectors ≤ 18
+  pub chain : take sectors sectorList ≡ directory disk .sectors
+  pub many : files ≤ 144
+  pub counts : files ≡ length (listed disk)
+  pub entries : take files fileList ≡ listed disk
+  pub first : at ≡ firstEntry (isNamed disk name) (listed disk)
+
+abbrev pub Knows : List ℕ → List ℕ → List ℕ → List ℕ → Sought → Type 0
+Knows disk name sectorList fileList (On sectors files at) = Known disk name sectors files at sectorList fileList
+Knows disk name sectorList fileList (RefusedSought r) = Unit
+
+pub record Seeks (disk name : List ℕ) (r : Sought) (sectorList fileList : List ℕ) : Type 0 where
+  pub answers : soughtAnswer r ≡ admitted disk name
+  pub knows : Knows disk name sectorList fileList r
+
+-- ---- locate
 
 -- the entry of a name on a disk
 unfoldable pub located : List ℕ → List ℕ → Answer ℕ

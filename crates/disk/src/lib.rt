@@ -1,4 +1,4 @@
-// The calls over a lent disk: the check, reading and scratching.
+// The calls over a lent disk: the check, reading, scratching and saving.
 use chains::free_sectors;
 use chains::mark_all;
 use d64::Changed;
@@ -9,6 +9,7 @@ use file_bytes::measure;
 use file_bytes::take_out;
 use lent::Outcome;
 use refusals::Refusal;
+use saves::save_new;
 use sound::look;
 ghost use mathlib.Core.Path.{_≡_};
 ghost use mathlib.Core.Bool.{true};
@@ -19,8 +20,15 @@ ghost use Rattle.lent.specs.Lent.{intoBuffer, left};
 ghost use Rattle.d64.specs.Lists.{isIn};
 ghost use Rattle.d64.specs.Entries.{chainOf};
 ghost use Rattle.d64.specs.Free.{markedAll};
-ghost use Rattle.d64.specs.Calls.{isFileName, diskAnswer, diskHolding, chainBytes, fileBytes, scratched, ontoDisk, leaving};
-ghost use Rattle.disk.specs.LocateHelpers.{Locates};
+ghost use Rattle.d64.specs.Calls.{isFileName, diskAnswer, diskHolding, chainBytes, fileBytes, scratched, saved, ontoDisk, leaving};
+ghost use Rattle.disk.specs.LocateHelpers.{Locates, Seeks};
+
+// What is known of a sound disk and a name: how many sectors the directory has, how many files are listed, and the place of the first
+// with the name, or their number.
+enum Sought {
+    On(usize, usize, usize),
+    Refused(Refusal),
+}
 
 // Where the entry of a name stands.
 enum Located {
@@ -74,28 +82,41 @@ pub fn is_name(name: &[u8]) -> bool
     !has_a0(name)
 }
 
+// Looks at a disk, and for a name on it: 20 and 21, which every call with a name tests first.
+fn seek(disk: &[u8], name: &[u8], sectors: &mut [usize], files: &mut [usize]) -> Sought
+    requires { ⌜ (length (now sectors) ≡ 18) × (length (now files) ≡ 144) ⌝ }
+    ensures { λ r. ⌜ Seeks (now (disk .entry)) (now (name .entry)) r (now (sectors .exit)) (now (files .exit)) ⌝ }
+{
+    if disk.len() != 174848 {
+        return Sought::Refused(Refusal::BadDisk);
+    }
+    let seen = look(disk, sectors, files);
+    if !seen.sound {
+        return Sought::Refused(Refusal::BadDisk);
+    }
+    if !is_name(name) {
+        return Sought::Refused(Refusal::BadName);
+    }
+    let count = seen.files;
+    let at = find(disk, &files[..count], name);
+    Sought::On(seen.sectors, count, at)
+}
+
 // The entry of a name on a disk.
 fn locate(disk: &[u8], name: &[u8]) -> Located
     ensures { λ r. ⌜ Locates (now (disk .entry)) (now (name .entry)) r ⌝ }
 {
-    if disk.len() != 174848 {
-        return Located::Refused(Refusal::BadDisk);
-    }
     let mut sectors = [0usize; 18];
     let mut files = [0usize; 144];
-    let seen = look(disk, &mut sectors, &mut files);
-    if !seen.sound {
-        return Located::Refused(Refusal::BadDisk);
+    match seek(disk, name, &mut sectors, &mut files) {
+        Sought::On(_, count, at) => {
+            if at >= count {
+                return Located::Refused(Refusal::NoSuchFile);
+            }
+            Located::At(files[at])
+        }
+        Sought::Refused(refusal) => Located::Refused(refusal),
     }
-    if !is_name(name) {
-        return Located::Refused(Refusal::BadName);
-    }
-    let count = seen.files;
-    let i = find(disk, &files[..count], name);
-    if i >= count {
-        return Located::Refused(Refusal::NoSuchFile);
-    }
-    Located::At(files[i])
 }
 
 // Reads a file into the start of a buffer, and answers its length.
@@ -145,4 +166,24 @@ fn scratch_entry(disk: &mut [u8], p: usize)
     let to = traced.to;
     disk[p] = 0;
     mark_all(disk, &log[..to], true);
+}
+
+// Saves a file on the lowest free sectors.
+pub fn save(disk: &mut [u8], name: &[u8], image: &[u8]) -> Changed
+    ensures { λ r. ⌜ leaving r (now (disk .exit)) ≡ ontoDisk (saved (now (disk .entry)) (now (name .entry)) (now (image .entry))) (now (disk .entry)) ⌝ }
+{
+    let mut sectors = [0usize; 18];
+    let mut files = [0usize; 144];
+    match seek(disk, name, &mut sectors, &mut files) {
+        Sought::On(k, count, at) => {
+            if at < count {
+                return Changed::Refused(Refusal::NameTaken);
+            }
+            if count > 143 {
+                return Changed::Refused(Refusal::DirectoryFull);
+            }
+            save_new(disk, &sectors[..k], name, image)
+        }
+        Sought::Refused(refusal) => Changed::Refused(refusal),
+    }
 }

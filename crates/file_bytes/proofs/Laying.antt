@@ -25,7 +25,7 @@ stored d text at h e =
     let y : at + 0 ≡ at = omega arith in
     tail-put d at 0 text (e ∙ ap (λ (t : List ℕ). t ++ drop (length text) rest) (take-length text) ∙ sym s) ∙ ap (λ (k : ℕ). sets d k text) y
 
-drop-replicate : (k n a : ℕ) → drop k (replicate n a) ≡ replicate (n - k) a
+pub drop-replicate : (k n a : ℕ) → drop k (replicate n a) ≡ replicate (n - k) a
 drop-replicate zero n a = let e : n - 0 ≡ n = omega arith in rw e
 drop-replicate (suc k) zero a = let e : 0 - suc k ≡ 0 = omega arith in rw e
 drop-replicate (suc k) (suc n) a = let e : suc n - suc k ≡ n - k = omega arith in rw e (drop-replicate k n a)

@@ -29,10 +29,10 @@ pub record Each (P : ℕ → Type 0) (l : List ℕ) : Type 0 where
   pub at : (i : ℕ) → i < length l → P (getD l i 0)
 
 module _ {P : ℕ → Type 0} where
-  each-none : Each P []
+  pub each-none : Each P []
   each-none = record { at = λ i h. absurd (omega arith) }
 
-  each-one : {n : ℕ} {l : List ℕ} → P n → Each P l → Each P (n ∷ l)
+  pub each-one : {n : ℕ} {l : List ℕ} → P n → Each P l → Each P (n ∷ l)
   each-one {n} {l} p e = record { at = go } where
     go : (i : ℕ) → i < suc (length l) → P (getD (n ∷ l) i 0)
     go zero h = p
@@ -42,7 +42,7 @@ module _ {P : ℕ → Type 0} where
   each-both [] e f = f
   each-both (n ∷ a) e f = each-one (e .at 0 (omega arith)) (each-both a (record { at = λ i h. e .at (suc i) (omega arith) }) f)
 
-  each-those : (test : ℕ → Bool) (l : List ℕ) → Each P l → Each P (those test l)
+  pub each-those : (test : ℕ → Bool) (l : List ℕ) → Each P l → Each P (those test l)
   unfolding those
   each-those test [] e = each-none
   each-those test (n ∷ l) e = go (test n) (each-those test l (record { at = λ i h. e .at (suc i) (omega arith) })) where
@@ -52,10 +52,10 @@ module _ {P : ℕ → Type 0} where
 
 -- ---- sectors
 
-abbrev Sector : ℕ → Type 0
+abbrev pub Sector : ℕ → Type 0
 Sector n = n < 683
 
-as-sectors : {l : List ℕ} → Each Sector l → Sectors l
+pub as-sectors : {l : List ℕ} → Each Sector l → Sectors l
 as-sectors e = record { below = e .at }
 
 chain-each : (dir : Bool) (k : ℕ) (d : List ℕ) (n : ℕ) → Each Sector (chain dir k d n .sectors)
@@ -122,12 +122,12 @@ that-entries which d l s =
 pub known-entries : (d : List ℕ) {l : List ℕ} → l ≡ listed d → Entries l
 known-entries d e = rw e (that-entries true d (directory d .sectors) (chain-sectors d))
 
-numbers-long : (from k : ℕ) → length (numbersFrom from k) ≡ k
+pub numbers-long : (from k : ℕ) → length (numbersFrom from k) ≡ k
 unfolding numbersFrom
 numbers-long from zero = refl
 numbers-long from (suc k) = ap suc (numbers-long (from + 1) k)
 
-those-few : (test : ℕ → Bool) (l : List ℕ) → length (those test l) ≤ length l
+pub those-few : (test : ℕ → Bool) (l : List ℕ) → length (those test l) ≤ length l
 unfolding those
 those-few test [] = omega arith
 those-few test (n ∷ l) = go (test n) (those-few test l) where
