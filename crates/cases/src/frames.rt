@@ -135,14 +135,32 @@ impl Answer {
     pub fn send_with(self, behind: &[u8]) -> bool
         requires { ⌜ Sendable self ⌝ }
     {
+        self.send_before(behind.len()) && io::write_all(STDOUT_FILENO, behind)
+    }
+
+    // The same for a body that ends with two runs of bytes.
+    pub fn send_with_both(self, behind: &[u8], last: &[u8]) -> bool
+        requires { ⌜ Sendable self ⌝ }
+    {
+        // The frame has four bytes for the length.
+        let more = last.len() % 4_294_967_296;
+        self.send_before(behind.len() + more)
+            && io::write_all(STDOUT_FILENO, behind)
+            && io::write_all(STDOUT_FILENO, last)
+    }
+
+    // Writes the answer before so many bytes, which end its body.
+    fn send_before(self, behind: usize) -> bool
+        requires { ⌜ Sendable self × (behind ≤ 10000000000000000000) ⌝ }
+    {
         let len = self.len;
-        let body = len - 4 + behind.len();
+        let body = len - 4 + behind;
         let mut bytes = self.bytes;
         bytes[0] = (body % 256) as u8;
         bytes[1] = (body / 256 % 256) as u8;
         bytes[2] = (body / 65_536 % 256) as u8;
         bytes[3] = (body / 16_777_216 % 256) as u8;
-        write_front(&bytes, len) && io::write_all(STDOUT_FILENO, behind)
+        write_front(&bytes, len)
     }
 }
 

@@ -1,6 +1,7 @@
 // The batch driver: answers framed calls of the libraries' public functions, so that any judge can be held against them byte by byte. It reads
 // a frame, calls one function and writes what came back.
 mod dialects;
+mod disks;
 mod frames;
 mod images;
 mod listings;
@@ -14,9 +15,14 @@ use frames::Answer;
 use input::Part;
 use libc::STDIN_FILENO;
 use readers::By;
+ghost use Prim.Native.Nat.{_≤_};
+ghost use lib.ListN.{length};
 
-// Answers one request; false where the answer could not be written.
-fn answer_request(op: u8, payload: &[u8], room: &mut [u8]) -> bool {
+// Answers one request; false where the answer could not be written. A disk that a call changes is copied first: it stands in the payload beside
+// what else the call is lent.
+fn answer_request(op: u8, payload: &[u8], room: &mut [u8], disk: &mut [u8]) -> bool
+    requires { ⌜ length (now payload) ≤ length (now disk) ⌝ }
+{
     match op {
         0x01 => texts::crunch(payload, room),
         0x02 => texts::room_for_crunch(payload),
@@ -33,6 +39,10 @@ fn answer_request(op: u8, payload: &[u8], room: &mut [u8]) -> bool {
         0x17 => modes::room_for_list(payload),
         0x18 => images::addressed_step(payload, By::Terminators),
         0x19 => images::addressed_step(payload, By::Links),
+        0x20 => disks::format(payload, disk),
+        0x22 => disks::read(payload, room),
+        0x23 => disks::scratch(payload, disk),
+        0x24 => disks::check(payload),
         0x30 => modes::list_by_links(payload, room),
         0x31 => modes::room_by_links(payload),
         _ => Answer::malformed().send(),
@@ -41,7 +51,9 @@ fn answer_request(op: u8, payload: &[u8], room: &mut [u8]) -> bool {
 
 // Reads a request and answers it; true if another can follow. The buffers' lengths are the frames' limits: that of payload for a payload, that
 // of room for a lent buffer.
-fn serve(payload: &mut [u8], room: &mut [u8]) -> bool {
+fn serve(payload: &mut [u8], room: &mut [u8], disk: &mut [u8]) -> bool
+    requires { ⌜ length (now payload) ≤ length (now disk) ⌝ }
+{
     let mut head = [0u8; 5];
     let Part::Whole = input::read_part(STDIN_FILENO, &mut head) else {
         return false;
@@ -54,13 +66,15 @@ fn serve(payload: &mut [u8], room: &mut [u8]) -> bool {
     let Part::Whole = input::read_part(STDIN_FILENO, &mut payload[0..length]) else {
         return false;
     };
-    answer_request(head[0], &payload[0..length], room)
+    answer_request(head[0], &payload[0..length], room, disk)
 }
 
 // A proved loop has to end, and nothing says that the input does. So the loop counts its requests down, from a number that no run uses up.
-fn serve_all(payload: &mut [u8], room: &mut [u8]) {
+fn serve_all(payload: &mut [u8], room: &mut [u8], disk: &mut [u8])
+    requires { ⌜ length (now payload) ≤ length (now disk) ⌝ }
+{
     let mut requests = u64::MAX;
-    while requests > 0 && serve(payload, room) {
+    while requests > 0 && serve(payload, room, disk) {
         requests -= 1;
     }
 }
@@ -68,5 +82,6 @@ fn serve_all(payload: &mut [u8], room: &mut [u8]) {
 fn main() {
     let mut payload = [0u8; 1_048_593];
     let mut room = [0u8; 524_288];
-    serve_all(&mut payload, &mut room);
+    let mut disk = [0u8; 1_048_593];
+    serve_all(&mut payload, &mut room, &mut disk);
 }

@@ -3,6 +3,7 @@
 use borrow.Author.Needs.{needs}
 use Prim.Native.Nat.{ℕ}
 use mathlib.Core.Path.{sym}
+use native.Mathlib.Nat.{le-refl}
 use lib.ListN.{length-replicate}
 use Rattle.cases.proofs.main.Statement.{statement}
 use Rattle.cases.proofs.main.Tie as tie
@@ -13,8 +14,11 @@ slice-aggregate-serve-all c = sym (length-replicate {A = ℕ} 1048593 0)
 slice-aggregate-serve-all-2 : tie.Need-slice-aggregate-serve-all-2
 slice-aggregate-serve-all-2 c = sym (length-replicate {A = ℕ} 524288 0)
 
+slice-aggregate-serve-all-3 : tie.Need-slice-aggregate-serve-all-3
+slice-aggregate-serve-all-3 c = sym (length-replicate {A = ℕ} 1048593 0)
+
 serve-all-requires : tie.Need-serve-all-requires
-serve-all-requires c κs = search needs
+serve-all-requires c κs = le-refl _
 
 returns : tie.Need-returns
 returns c = search needs
@@ -22,4 +26,9 @@ returns c = search needs
 pub main-spec : {M : Type 1} → statement M
 main-spec =
     tie.close
-    (tie.spec slice-aggregate-serve-all slice-aggregate-serve-all-2 serve-all-requires returns)
+    (tie.spec
+    slice-aggregate-serve-all
+    slice-aggregate-serve-all-2
+    slice-aggregate-serve-all-3
+    serve-all-requires
+    returns)
