@@ -1,0 +1,4 @@
+pub mod Bytes
+pub mod Pens
+pub mod Reading
+pub mod Table
