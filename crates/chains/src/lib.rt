@@ -173,9 +173,9 @@ pub fn mark_all(disk: &mut [u8], list: &[usize], free: bool)
     requires { ⌜ (length (now disk) ≡ 174848) × Sectors (now list) ⌝ }
     ensures { λ r. ⌜ now (disk .exit) ≡ markedAll (now (disk .entry)) (now (list .entry)) free ⌝ }
 {
-    let mut i: usize = 0;
-    while i < list.len() {
-        mark(disk, list[i], free);
-        i += 1;
+    let mut at: usize = 0;
+    while at < list.len() {
+        mark(disk, list[at], free);
+        at += 1;
     }
 }
