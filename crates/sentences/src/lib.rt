@@ -9,7 +9,7 @@ ghost use Rattle.sentences.specs.Clipped.{Clipped};
 ghost use Rattle.sentences.specs.Sentence.{filled, behindRows, sentence as sentenceOf, placedSentence, nameFirst, numberLast, message as messageOf};
 
 pub mod place;
-mod put;
+pub mod put;
 
 // A line for each refusal, in the order of the numbers. # stands for the next value that the refusal carries.
 const ROWS: [u8; 1177] = *b"text too long: # bytes or more\n\
