@@ -9,8 +9,9 @@ use lib.Dec.{leb}
 use lib.ListN.{length, take, drop}
 use borrow.Author.Tests.{le-leb, lt-leb, leb-true}
 use borrow.Rule.Slice.PartMut.{midOf, putMid}
-use Rattle.refusals.specs.Numbers.{Numbered as Refusal·Numbered, missingLineNumber, lineNumberOutOfRange, addressOverflow}
+use Rattle.refusals.specs.Numbers.{Numbered as Refusal·Numbered, addressOverflow}
 use Rattle.refusals.specs.Answer.{Answer, done, refused, mapDone, andThen}
+use Rattle.refusals.specs.declared.Refusal.the-variants.{MissingLineNumber, LineNumberOutOfRange, AddressOverflow}
 use Rattle.lent.specs.Stores.{Room, Put}
 use Rattle.lent.proofs.Storing.{room-as, put-as, put-none}
 use Rattle.lines.specs.declared.number.Numbering.{Numbering}
@@ -25,10 +26,11 @@ use Rattle.body.specs.Body.{crunchedBody}
 use Rattle.readers.specs.NumberedBody.{NumberedBody}
 use Rattle.layout.specs.Layout.{endAddress, linesBytes, lineBytes}
 use Rattle.image.specs.Crunched.{linesRead, textLine, lastLink, crunchLines}
-use Rattle.image.specs.PassesHelpers.{addressBehind, given, FrameRoom, Framed}
+use Rattle.image.specs.PassesHelpers.{addressBehind, LineSized, SizedAs, given, FrameRoom, Framed}
+use Rattle.image.specs.declared.measure.Sized.the-variants.{Blank as Sized·Blank, Numbered as Sized·Numbered, Refused as Sized·Refused}
 use Rattle.image.proofs.Laying.{line-room, body-room, frame-room, framed-line}
 
-link-fits : (address : ℕ) (ls : List NumberedBody) → endAddress address ls ≤ 0xFFFF → lastLink address ls ≡ done (endAddress address ls)
+pub link-fits : (address : ℕ) (ls : List NumberedBody) → endAddress address ls ≤ 0xFFFF → lastLink address ls ≡ done (endAddress address ls)
 unfolding lastLink
 link-fits address ls h = rw (lastLink, le-leb _ _ h)
 
@@ -43,20 +45,21 @@ module _ (words : Lexicon) (k : ℕ) (line : List ℕ) {m x : Numbering} (known 
   unfolding textLine
   read-as = ap (λ (y : Numbering). linesRead words k (told line y)) (sym known) ∙ ap (linesRead words k) (read-told line is)
 
-  behind-as : (address : ℕ) → andThen (linesRead words k (told line x)) (lastLink address) ≡ addressBehind words k address line
-  unfolding addressBehind
-  behind-as address = ap (λ (a : Answer (List NumberedBody)). andThen a (lastLink address)) read-as
+  refused-as : (address : ℕ) {n : Refusal·Numbered} → andThen (linesRead words k (told line x)) (lastLink address) ≡ refused n → andThen (textLine words k line) (lastLink address) ≡ refused n
+  refused-as address e = ap (λ (a : Answer (List NumberedBody)). andThen a (lastLink address)) (sym read-as) ∙ e
 
 module _ (words : Lexicon) (k address : ℕ) (line : List ℕ) {m : Numbering} where
-  pub behind-blank : m ≡ Blank → m ≡ numbering line → address ≤ 0xFFFF → done address ≡ addressBehind words k address line
-  unfolding endAddress
-  behind-blank t e h = sym (link-fits address [] h) ∙ behind-as words k line t e address
+  pub sized-blank : m ≡ Blank → m ≡ numbering line → SizedAs address (textLine words k line) Sized·Blank
+  unfolding SizedAs
+  sized-blank t e = sym (read-as words k line t e)
 
-  pub behind-missing : m ≡ Missing → m ≡ numbering line → refused (missingLineNumber k) ≡ addressBehind words k address line
-  behind-missing t e = behind-as words k line t e address
+  pub sized-missing : m ≡ Missing → m ≡ numbering line → SizedAs address (textLine words k line) (Sized·Refused (MissingLineNumber k))
+  unfolding SizedAs
+  sized-missing t e = refused-as words k line t e address refl
 
-  pub behind-range : {v : ℕ} → m ≡ OutOfRange v → m ≡ numbering line → refused (lineNumberOutOfRange k v) ≡ addressBehind words k address line
-  behind-range t e = behind-as words k line t e address
+  pub sized-range : {v : ℕ} → m ≡ OutOfRange v → m ≡ numbering line → SizedAs address (textLine words k line) (Sized·Refused (LineNumberOutOfRange k v))
+  unfolding SizedAs
+  sized-range t e = refused-as words k line t e address refl
 
   -- a numbered line, whose body is measured up to 65,536
   module _ {number from to n : ℕ} (is : n ≡ min (length (crunchedBody words (take (to - from) (drop from line)))) 65536)
@@ -64,18 +67,15 @@ module _ (words : Lexicon) (k address : ℕ) (line : List ℕ) {m : Numbering} w
     abbrev here : NumberedBody
     here = record { number = number; body = crunchedBody words (take (to - from) (drop from line)) }
 
-    pub behind-line : address + 5 + n ≤ 0xFFFF → done (address + 5 + n) ≡ addressBehind words k address line
-    unfolding endAddress
-    behind-line h =
-        let same : n ≡ length (here .body) = omega arith in
-        let fits : address + 5 + length (here .body) ≤ 0xFFFF = omega arith in
-        rw same (sym (link-fits address (here ∷ []) fits) ∙ behind-as words k line t e address)
+    pub sized-line : address + 5 + n ≤ 0xFFFF → SizedAs address (textLine words k line) (Sized·Numbered number (address + 5 + n))
+    unfolding SizedAs
+    sized-line h = record { body = here .body; gives = sym (read-as words k line t e); behind-is = omega (arith, is); high = h }
 
-    pub behind-overflow : 0xFFFF < address + 5 + n → refused addressOverflow ≡ addressBehind words k address line
-    unfolding endAddress
-    behind-overflow h =
+    pub sized-overflow : 0xFFFF < address + 5 + n → SizedAs address (textLine words k line) (Sized·Refused AddressOverflow)
+    unfolding SizedAs endAddress
+    sized-overflow h =
         let over : 0xFFFF < address + 5 + length (here .body) = omega arith in
-        sym (link-over address (here ∷ []) over) ∙ behind-as words k line t e address
+        refused-as words k line t e address (link-over address (here ∷ []) over)
 
 pub body-up : (line : List ℕ) {m : Numbering} {number from to : ℕ} → m ≡ Numbered number from to → m ≡ numbering line → from ≤ to
 body-up line t e = numbered-placed line t e .up
@@ -142,14 +142,9 @@ given-is words line k e = sym (given-alike words k (readLine line)) ∙ ap given
 
 -- ---- a blank in front of a line changes nothing of what it gives
 
-module _ (words : Lexicon) (k : ℕ) (b : ℕ) (l : List ℕ) where
-  pub text-blank : isBlank b ≡ true → textLine words k (b ∷ l) ≡ textLine words k l
-  unfolding textLine
-  text-blank q = ap (linesRead words k) (read-space b l (blank-trimmed b q))
-
-  pub behind-alike : (address : ℕ) → isBlank b ≡ true → addressBehind words k address (b ∷ l) ≡ addressBehind words k address l
-  unfolding addressBehind
-  behind-alike address q = ap (λ (a : Answer (List NumberedBody)). andThen a (lastLink address)) (text-blank q)
+pub text-blank : (words : Lexicon) (k b : ℕ) (l : List ℕ) → isBlank b ≡ true → textLine words k (b ∷ l) ≡ textLine words k l
+unfolding textLine
+text-blank words k b l q = ap (linesRead words k) (read-space b l (blank-trimmed b q))
 
 -- ---- a line and the lines behind it
 
@@ -178,6 +173,24 @@ taken {words} {k} {address} {line} {next} e = go (textLine words k line) refl e
     go (done new) p q =
         let l = link-end address new q in record { new = new; line-is = p; link-is = q; next-is = l .0; high = l .1 }
     go (refused n) p q = let z : _≡_ {A = ℕ} 0 1 = cc in absurd (omega arith)
+
+-- as it was measured
+module _ {words : Lexicon} {k address : ℕ} {line : List ℕ} where
+  unfoldable pub taken-blank : address ≤ 0xFFFF → textLine words k line ≡ done [] → Taken words k address line address
+  unfolding endAddress
+  taken-blank h e = record { new = []; line-is = e; link-is = link-fits address [] h; next-is = refl; high = h }
+
+  unfoldable pub taken-line : {number behind : ℕ} (s : LineSized address (textLine words k line) number behind) → Taken words k address line behind
+  unfolding endAddress
+  taken-line {number} s =
+      let new : List NumberedBody = record { number = number; body = s .body } ∷ [] in
+      record {
+        new = new;
+        line-is = s .gives;
+        link-is = link-fits address new (omega (arith, s .behind-is, s .high)) ∙ ap done (sym (s .behind-is));
+        next-is = s .behind-is;
+        high = s .high;
+      }
 
 module _ (words : Lexicon) (k address : ℕ) (line : List ℕ) (lines : List (List ℕ)) where
   pub cons-taken : {next : ℕ} (t : Taken words k address line next) → crunchLines words k address (line ∷ lines) ≡ mapDone (λ ls. t .new ++ ls) (crunchLines words (suc k) next lines)

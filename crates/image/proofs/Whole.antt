@@ -22,9 +22,14 @@ use Rattle.lines.specs.Domain.{checkedText, textCheckAnswer}
 use Rattle.lines.specs.TextLines.{textLines}
 use Rattle.guess.specs.Guess.{wordSets}
 use Rattle.body.specs.Lexicon.{lexicon}
+use Rattle.readers.specs.NumberedBody.{NumberedBody}
 use Rattle.layout.specs.Layout.{imageOf}
+use Rattle.layout.specs.Reads.{linesAt}
 use Rattle.image.specs.Crunched.{crunchLines, textLexicon, crunchedLines, crunched}
-use Rattle.image.specs.PassesHelpers.{textImage, MeasuredAs}
+use Rattle.image.specs.Measured.{nonblankLines, withTextLines, entryFrom, measuredLines, lineMeasured, lineAnswer}
+use Rattle.image.specs.PassesHelpers.{textImage, textPlaced, PassedAs, MeasuredAs}
+use Rattle.image.specs.declared.LineMeasured.the-variants.{Refused as Line·Refused}
+use Rattle.image.specs.declared.measure.Pass.{Pass}
 use Rattle.image.specs.declared.Options.{Options}
 use Rattle.image.specs.declared.measure.Measurement.{Measurement}
 
@@ -35,31 +40,54 @@ room-then (done n) b q = refl
 room-then (refused n) (done l) q = let z : _≡_ {A = ℕ} 0 1 = cc in absurd (omega arith)
 room-then (refused n) (refused m) q = let s : n ≡ m = cc in ap refused s
 
-module _ (o : Options) (text : List ℕ) {c : TextCheck} where
-  by-check : {x : TextCheck} → c ≡ x → textCheckAnswer c ≡ checkedText text
-      → mapDone (imageOf (o .load)) (andThen (textCheckAnswer x) (λ _. crunchLines (textLexicon (o .dialect) text) 1 (o .load) (textLines AfterCr text))) ≡ crunched o text
-  unfolding crunched crunchedLines
-  by-check told is =
-      ap (λ (a : Answer (Unit {0})). mapDone (imageOf (o .load)) (andThen a (λ _. crunchLines (textLexicon (o .dialect) text) 1 (o .load) (textLines AfterCr text)))) (ap textCheckAnswer (sym told) ∙ is)
+mapped-twice : {A B C : Type 0} (f : B → C) (g : A → B) (a : Answer A) → mapDone (λ x. f (g x)) a ≡ mapDone f (mapDone g a)
+mapped-twice f g (done x) = refl
+mapped-twice f g (refused n) = refl
 
-  module _ {sets : Sets} where
-    pub measured-fine : {room : Outcome} → outcomeAnswer room ≡ roomFor (textImage (lexicon sets) (o .load) text) → sets ≡ wordSets (o .dialect) text → c ≡ Fine → textCheckAnswer c ≡ checkedText text
-        → MeasuredAs o text (record { sets = sets; room = room })
-    unfolding textImage
-    measured-fine {room} r s t e =
-        let found : textImage (lexicon sets) (o .load) text ≡ crunched o text = ap (λ (x : Sets). textImage (lexicon x) (o .load) text) s ∙ by-check t e in
-        record { sized = r ∙ ap roomFor found; gives = room-then (outcomeAnswer room) (textImage (lexicon sets) (o .load) text) r ∙ found }
+module _ (o : Options) (place : ℕ) (text : List ℕ) where
+  -- the lines of the text, by what its bytes are
+  lines-by : {c x : TextCheck} → c ≡ x → textCheckAnswer c ≡ checkedText text
+      → andThen (textCheckAnswer x) (λ _. crunchLines (textLexicon (o .dialect) text) 1 (o .load) (textLines AfterCr text)) ≡ crunchedLines o text
+  unfolding crunchedLines
+  lines-by told is =
+      ap (λ (a : Answer (Unit {0})). andThen a (λ _. crunchLines (textLexicon (o .dialect) text) 1 (o .load) (textLines AfterCr text))) (ap textCheckAnswer (sym told) ∙ is)
 
-    pub measured-outside : {x : Refusal} → c ≡ Check·Refused x → textCheckAnswer c ≡ checkedText text → MeasuredAs o text (record { sets = sets; room = Refused x })
-    measured-outside t e = record { sized = ap roomFor (by-check t e); gives = by-check t e }
+  image-by : {a : Answer (List NumberedBody)} → a ≡ crunchedLines o text → mapDone (imageOf (o .load)) a ≡ crunched o text
+  unfolding crunched
+  image-by e = ap (mapDone (imageOf (o .load))) e
+
+  placed-by : {a : Answer (List NumberedBody)} → a ≡ crunchedLines o text → mapDone (λ ls. entryFrom place 1 (withTextLines (linesAt (o .load) 2 ls) (nonblankLines text))) a ≡ lineMeasured o place text
+  unfolding lineMeasured measuredLines
+  placed-by {a} e =
+      mapped-twice (entryFrom place 1) (λ ls. withTextLines (linesAt (o .load) 2 ls) (nonblankLines text)) a
+      ∙ ap (λ (x : Answer (List NumberedBody)). mapDone (entryFrom place 1) (mapDone (λ ls. withTextLines (linesAt (o .load) 2 ls) (nonblankLines text)) x)) e
+
+  module _ {c : TextCheck} {sets : Sets} where
+    pub measured-fine : {p : Pass} → PassedAs (lexicon sets) (o .load) place text p → sets ≡ wordSets (o .dialect) text → c ≡ Fine → textCheckAnswer c ≡ checkedText text
+        → MeasuredAs o place text (record { sets = sets; room = p .room; line = p .line })
+    unfolding textImage textPlaced
+    measured-fine {p} r s t e =
+        let lines : crunchLines (lexicon sets) 1 (o .load) (textLines AfterCr text) ≡ crunchedLines o text =
+        ap (λ (x : Sets). crunchLines (lexicon x) 1 (o .load) (textLines AfterCr text)) s ∙ lines-by t e in
+        record {
+          sized = r .sized ∙ ap roomFor (image-by lines);
+          placed = r .placed ∙ placed-by lines;
+          gives = room-then (outcomeAnswer (p .room)) (textImage (lexicon sets) (o .load) text) (r .sized) ∙ image-by lines;
+        }
+
+    pub measured-outside : {x : Refusal} → c ≡ Check·Refused x → textCheckAnswer c ≡ checkedText text → MeasuredAs o place text (record { sets = sets; room = Refused x; line = Line·Refused x })
+    measured-outside t e = record { sized = ap roomFor (image-by (lines-by t e)); placed = placed-by (lines-by t e); gives = image-by (lines-by t e) }
 
 -- ---- what is stored
 
-module _ {o : Options} {text : List ℕ} {m : Measurement} where
-  pub whole-room : MeasuredAs o text m → outcomeAnswer (m .room) ≡ roomFor (crunched o text)
+module _ {o : Options} {place : ℕ} {text : List ℕ} {m : Measurement} where
+  pub whole-room : MeasuredAs o place text m → outcomeAnswer (m .room) ≡ roomFor (crunched o text)
   whole-room k = k .sized
 
-  module _ {n : ℕ} (told : m .room ≡ Done n) (k : MeasuredAs o text m) where
+  pub whole-line : MeasuredAs o place text m → lineAnswer (m .line) ≡ lineMeasured o place text
+  whole-line k = k .placed
+
+  module _ {n : ℕ} (told : m .room ≡ Done n) (k : MeasuredAs o place text m) where
     needs-room : done n ≡ roomFor (crunched o text)
     needs-room = told-outcome told (k .sized)
 
@@ -75,5 +103,5 @@ module _ {o : Options} {text : List ℕ} {m : Measurement} where
     pub whole-stored : (buffer : List ℕ) {after : List ℕ} {l : ℕ} → left (Done l) after ≡ intoBuffer (textImage (lexicon (m .sets)) (o .load) text) buffer → left (Done l) after ≡ intoBuffer (crunched o text) buffer
     whole-stored buffer e = e ∙ ap (λ (a : Answer (List ℕ)). intoBuffer a buffer) image-is
 
-  pub whole-refused : {x : Refusal} (buffer : List ℕ) → m .room ≡ Refused x → MeasuredAs o text m → left (Refused x) buffer ≡ intoBuffer (crunched o text) buffer
+  pub whole-refused : {x : Refusal} (buffer : List ℕ) → m .room ≡ Refused x → MeasuredAs o place text m → left (Refused x) buffer ≡ intoBuffer (crunched o text) buffer
   whole-refused buffer told k = into-refused buffer (crunched o text) (told-outcome told (k .sized))

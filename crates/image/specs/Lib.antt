@@ -1,2 +1,3 @@
 pub mod Crunched
+pub mod Measured
 pub mod PassesHelpers

@@ -1,8 +1,9 @@
 -- For helpers of the two passes over a text alone: what each pass comes to, for any words.
 -- Assumes nothing.
-use Prim.Native.Nat.{ℕ, _+_, _/_, _%_, _≤_}
+use Prim.Native.Nat.{ℕ, _+_, _-_, _/_, _%_, _≤_}
 use mathlib.Core.Path.{_≡_}
-use mathlib.Core.List.{List, []}
+use mathlib.Core.List.{List, [], _∷_}
+use mathlib.Core.Option.{Option}
 use lib.ListN.{length, set}
 use Rattle.refusals.specs.Answer.{Answer, done, refused, numbered, mapDone, andThen}
 use Rattle.lent.specs.Lent.{roomFor, outcomeAnswer}
@@ -10,29 +11,71 @@ use Rattle.lines.specs.declared.split.LineRule.the-variants.{AfterCr}
 use Rattle.lines.specs.TextLines.{textLines}
 use Rattle.body.specs.Lexicon.{Lexicon, lexicon}
 use Rattle.readers.specs.NumberedBody.{NumberedBody}
-use Rattle.layout.specs.Layout.{imageOf}
+use Rattle.readers.specs.declared.Line.{Line}
+use Rattle.layout.specs.Layout.{linkOf, imageOf}
+use Rattle.layout.specs.Reads.{linesAt}
 use Rattle.image.specs.Crunched.{textLine, lastLink, crunchLines, crunched}
+use Rattle.image.specs.Measured.{nonblankLines, withTextLines, entryFrom, lineMeasured, lineAnswer}
+use Rattle.image.specs.declared.MeasuredLine.{MeasuredLine}
 use Rattle.image.specs.declared.Options.{Options}
 use Rattle.image.specs.declared.measure.Measurement.{Measurement}
+use Rattle.image.specs.declared.measure.Pass.{Pass}
 use Rattle.image.specs.declared.measure.Sized.{Sized}
-use Rattle.image.specs.declared.measure.Sized.the-variants.{Behind, Refused}
+use Rattle.image.specs.declared.measure.Sized.the-variants.{Blank, Numbered, Refused}
 
 -- the image of a text that is in the domain
 unfoldable pub textImage : Lexicon → ℕ → List ℕ → Answer (List ℕ)
 textImage words load text = mapDone (imageOf load) (crunchLines words 1 load (textLines AfterCr text))
 
--- a text that was checked and measured: the room for its image, and, where it has one, words that give it
-pub record MeasuredAs (o : Options) (text : List ℕ) (m : Measurement) : Type 0 where
+-- the line at a place of it
+unfoldable pub textPlaced : Lexicon → ℕ → ℕ → List ℕ → Answer (Option MeasuredLine)
+textPlaced words load place text =
+    mapDone (λ ls. entryFrom place 1 (withTextLines (linesAt load 2 ls) (nonblankLines text))) (crunchLines words 1 load (textLines AfterCr text))
+
+-- what the measuring pass answers of such a text
+pub record PassedAs (words : Lexicon) (load place : ℕ) (text : List ℕ) (p : Pass) : Type 0 where
+  pub sized : outcomeAnswer (p .room) ≡ roomFor (textImage words load text)
+  pub placed : lineAnswer (p .line) ≡ textPlaced words load place text
+
+-- a text that was checked and measured: the room for its image, the line at a place, and, where it has an image, words that give it
+pub record MeasuredAs (o : Options) (place : ℕ) (text : List ℕ) (m : Measurement) : Type 0 where
   pub sized : outcomeAnswer (m .room) ≡ roomFor (crunched o text)
+  pub placed : lineAnswer (m .line) ≡ lineMeasured o place text
   pub gives : andThen (outcomeAnswer (m .room)) (λ _. textImage (lexicon (m .sets)) (o .load) text) ≡ crunched o text
 
 -- the address behind the k-th text line
 unfoldable pub addressBehind : Lexicon → ℕ → ℕ → List ℕ → Answer ℕ
 addressBehind words k address line = andThen (textLine words k line) (lastLink address)
 
-abbrev pub sizedAnswer : Sized → Answer ℕ
-sizedAnswer (Behind address) = done address
-sizedAnswer (Refused r) = refused (numbered r)
+-- a text line gives one line, with this number; behind it is this address
+pub record LineSized (address : ℕ) (a : Answer (List NumberedBody)) (number behind : ℕ) : Type 0 where
+  pub body : List ℕ
+  pub gives : a ≡ done (record { number = number; body = body } ∷ [])
+  pub behind-is : behind ≡ linkOf address body
+  pub high : behind ≤ 0xFFFF
+
+-- what was measured of a text line that gives a, at an address
+unfoldable pub SizedAs : ℕ → Answer (List NumberedBody) → Sized → Type 0
+SizedAs address a Blank = a ≡ done []
+SizedAs address a (Numbered number behind) = LineSized address a number behind
+SizedAs address a (Refused r) = andThen a (lastLink address) ≡ refused (numbered r)
+
+-- a line from one address to another, in an image at a load address
+pub record Span (load address behind : ℕ) : Type 0 where
+  pub low : load ≤ address
+  pub some : address + 5 ≤ behind
+  pub high : behind ≤ 0xFFFF
+
+abbrev pub lineBetween : ℕ → ℕ → ℕ → ℕ → Line
+lineBetween load address number behind =
+    record {
+      address = address;
+      link = behind;
+      number = number;
+      from = address - load + 6;
+      to = behind - load + 1;
+      next = behind - load + 2;
+    }
 
 -- the lines that a text line gives where it is not refused
 abbrev pub given : Answer (List NumberedBody) → List NumberedBody

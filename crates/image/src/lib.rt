@@ -1,12 +1,14 @@
 // A text, crunched to an image.
 use dialect::Dialect;
 use lent::Outcome;
+use readers::Line;
 use refusals::Refusal;
 use tables::spellings;
 ghost use mathlib.Core.Path.{_≡_};
 ghost use Rattle.lent.specs.Lent.{intoBuffer, roomFor, outcomeAnswer, left};
 ghost use Rattle.tables.specs.WordsHelpers.{SpellsWords};
 ghost use Rattle.image.specs.Crunched.{crunched};
+ghost use Rattle.image.specs.Measured.{lineMeasured, lineAnswer};
 
 mod measure;
 mod write;
@@ -15,6 +17,19 @@ mod write;
 pub struct Options {
     pub load: u16,
     pub dialect: Dialect,
+}
+
+// A line of the image that a text would have, as it will stand there, and the text line that it comes from: counted from 1, blank ones too.
+pub struct MeasuredLine {
+    pub line: Line,
+    pub origin: usize,
+}
+
+// What stands at a place of the image that a text would have.
+pub enum LineMeasured {
+    There(MeasuredLine),
+    NoSuchLine,
+    Refused(Refusal),
 }
 
 // Crunches a text into the start of a buffer, and answers the image's length.
@@ -37,11 +52,27 @@ pub fn room(text: &[u8], options: Options) -> Outcome
     let m = measure::measured(
         text,
         options,
+        0,
         &spellings::WORD_BYTES,
         &spellings::WORD_INDEX,
     );
     let room = m.room;
     room
+}
+
+// The line at a place from 1. The text is measured whole: one that is refused has no line.
+pub fn measured_line(text: &[u8], options: Options, place: usize) -> LineMeasured
+    ensures { λ r. ⌜ lineAnswer r ≡ lineMeasured options place (now (text .entry)) ⌝ }
+{
+    let m = measure::measured(
+        text,
+        options,
+        place,
+        &spellings::WORD_BYTES,
+        &spellings::WORD_INDEX,
+    );
+    let line = m.line;
+    line
 }
 
 // The image is measured first: a buffer that is too small is left as it is.
@@ -55,7 +86,7 @@ fn crunch_with(
     requires { ⌜ SpellsWords (now bytes) (now index) ⌝ }
     ensures { λ r. ⌜ left r (now (out .exit)) ≡ intoBuffer (crunched options (now (text .entry))) (now (out .entry)) ⌝ }
 {
-    let m = measure::measured(text, options, bytes, index);
+    let m = measure::measured(text, options, 0, bytes, index);
     let room = m.room;
     match room {
         Outcome::Done(needed) => {

@@ -1,4 +1,6 @@
 // The measuring pass: the room that an image needs, and the refusals of a text.
+use crate::LineMeasured;
+use crate::MeasuredLine;
 use crate::Options;
 use guess::resolve;
 use lent::Outcome;
@@ -8,38 +10,56 @@ use lines::number;
 use lines::number::Numbering;
 use lines::split;
 use lines::split::LineRule;
+use readers::Line;
 use refusals::Refusal;
 use tables::sets::Sets;
 ghost use mathlib.Core.Path.{_≡_};
 ghost use Prim.Native.Nat.{_≤_};
-ghost use Rattle.lent.specs.Lent.{roomFor, outcomeAnswer};
 ghost use Rattle.tables.specs.WordsHelpers.{SpellsWords};
 ghost use Rattle.body.specs.Lexicon.{lexicon};
-ghost use Rattle.image.specs.PassesHelpers.{textImage, addressBehind, sizedAnswer, MeasuredAs};
+ghost use Rattle.image.specs.Crunched.{textLine};
+ghost use Rattle.image.specs.PassesHelpers.{PassedAs, MeasuredAs, SizedAs, Span, lineBetween};
 
-// The words that are live in a text, and the room that its image needs. Of a text that is outside the domain no word is looked for.
+// The words that are live in a text, the room that its image needs, and the line at a place of that image. Of a text that is outside the
+// domain no word is looked for.
 pub struct Measurement {
     pub sets: Sets,
     pub room: Outcome,
+    pub line: LineMeasured,
 }
 
-// Where the line behind a text line would stand.
+// What one pass over the text lines answers.
+pub struct Pass {
+    pub room: Outcome,
+    pub line: LineMeasured,
+}
+
+// What a text line comes to: nothing, or a line and the address behind it.
 pub enum Sized {
-    Behind(usize),
+    Blank,
+    Numbered { number: u16, behind: usize },
     Refused(Refusal),
 }
 
 // Checks a text and measures it.
-pub fn measured(text: &[u8], options: Options, bytes: &[u8], index: &[u16]) -> Measurement
+pub fn measured(
+    text: &[u8],
+    options: Options,
+    place: usize,
+    bytes: &[u8],
+    index: &[u16],
+) -> Measurement
     requires { ⌜ SpellsWords (now bytes) (now index) ⌝ }
-    ensures { λ r. ⌜ MeasuredAs options (now (text .entry)) r ⌝ }
+    ensures { λ r. ⌜ MeasuredAs options place (now (text .entry)) r ⌝ }
 {
     match domain::check_text(text) {
         TextCheck::Fine => {
             let dialect = options.dialect;
             let sets = resolve::word_sets(text, dialect, bytes, index);
-            let room = measure(text, options.load, bytes, index, sets);
-            Measurement { sets, room }
+            let pass = measure(text, options.load, place, bytes, index, sets);
+            let room = pass.room;
+            let line = pass.line;
+            Measurement { sets, room, line }
         }
         TextCheck::Refused(refusal) => {
             let sets = Sets {
@@ -47,38 +67,67 @@ pub fn measured(text: &[u8], options: Options, bytes: &[u8], index: &[u16]) -> M
                 demoted: [false; 123],
             };
             let room = Outcome::Refused(refusal);
-            Measurement { sets, room }
+            let line = LineMeasured::Refused(refusal);
+            Measurement { sets, room, line }
         }
     }
 }
 
-fn measure(text: &[u8], load: u16, bytes: &[u8], index: &[u16], sets: Sets) -> Outcome
+fn measure(text: &[u8], load: u16, place: usize, bytes: &[u8], index: &[u16], sets: Sets) -> Pass
     requires { ⌜ SpellsWords (now bytes) (now index) ⌝ }
-    ensures { λ r. ⌜ outcomeAnswer r ≡ roomFor (textImage (lexicon sets) load (now (text .entry))) ⌝ }
+    ensures { λ r. ⌜ PassedAs (lexicon sets) load place (now (text .entry)) r ⌝ }
 {
     let first = load as usize;
     let mut address = first;
     let mut at: usize = 0;
     let mut k: usize = 0;
+    let mut count: usize = 0;
+    let mut found = LineMeasured::NoSuchLine;
     while at < text.len() {
-        let line = split::next_line(text, at, LineRule::AfterCr);
-        let begin = line.begin;
-        let end = line.end;
+        let next = split::next_line(text, at, LineRule::AfterCr);
+        let begin = next.begin;
+        let end = next.end;
         k += 1;
         match measure_line(&text[begin..end], k, address, bytes, index, sets) {
-            Sized::Behind(next) => {
-                address = next;
-                at = line.next;
+            Sized::Blank => {}
+            Sized::Numbered { number, behind } => {
+                count += 1;
+                if count == place {
+                    let line = line_between(first, address, number, behind);
+                    found = LineMeasured::There(MeasuredLine { line, origin: k });
+                }
+                address = behind;
             }
             Sized::Refused(refusal) => {
-                return Outcome::Refused(refusal);
+                let room = Outcome::Refused(refusal);
+                return Pass {
+                    room,
+                    line: LineMeasured::Refused(refusal),
+                };
             }
         }
+        at = next.next;
     }
-    Outcome::Done(address - first + 4)
+    let room = Outcome::Done(address - first + 4);
+    Pass { room, line: found }
 }
 
-// The address behind the k-th text line.
+// The line from one address to another, as it will stand.
+fn line_between(first: usize, address: usize, number: u16, behind: usize) -> Line
+    requires { ⌜ Span first address behind ⌝ }
+    ensures { λ r. ⌜ r ≡ lineBetween first address number behind ⌝ }
+{
+    Line {
+        address,
+        link: behind as u16,
+        number,
+        from: address - first + 6,
+        to: behind - first + 1,
+        next: behind - first + 2,
+    }
+}
+
+// The k-th text line, its own line at an address.
 fn measure_line(
     line: &[u8],
     k: usize,
@@ -88,17 +137,17 @@ fn measure_line(
     sets: Sets,
 ) -> Sized
     requires { ⌜ SpellsWords (now bytes) (now index) × (address ≤ 0xFFFF) ⌝ }
-    ensures { λ r. ⌜ sizedAnswer r ≡ addressBehind (lexicon sets) k address (now (line .entry)) ⌝ }
+    ensures { λ r. ⌜ SizedAs address (textLine (lexicon sets) k (now (line .entry))) r ⌝ }
 {
     match number::number_line(line) {
-        Numbering::Blank => Sized::Behind(address),
+        Numbering::Blank => Sized::Blank,
         Numbering::Missing => Sized::Refused(Refusal::MissingLineNumber { line: k }),
         Numbering::OutOfRange { value } => Sized::Refused(Refusal::LineNumberOutOfRange {
             line: k,
             value,
         }),
         Numbering::Numbered {
-            number: _,
+            number,
             body_from,
             body_to,
         } => {
@@ -107,7 +156,7 @@ fn measure_line(
             if behind > 0xFFFF {
                 return Sized::Refused(Refusal::AddressOverflow);
             }
-            Sized::Behind(behind)
+            Sized::Numbered { number, behind }
         }
     }
 }

@@ -2,7 +2,7 @@
 -- and crunched body, zeros included", and by terminators where no body holds a zero. Here of any lines that are laid out, and said once
 -- of any step that finds the lines where they stand.
 -- Assumes nothing.
-use Prim.Native.Nat.{ℕ, suc, _+_, _≤_}
+use Prim.Native.Nat.{ℕ, suc, _+_, _-_, _≤_}
 use mathlib.Core.Path.{_≡_, refl, ap, _∙_}
 use mathlib.Core.Bool.{Bool, true, false, cond}
 use mathlib.Core.List.{List, [], _∷_, _++_, map, append-assoc}
@@ -26,7 +26,7 @@ use Rattle.layout.specs.Each.{Each}
 use Rattle.layout.specs.Layout.{linkOf, lineBytes, linesBytes, imageOf, endAddress, Fits, Laid}
 use Rattle.layout.specs.Reads.{leastLoad, linesFound, placedLine, linesAt, LinksLead, ReadAs, NoZero, NoZeros}
 use Rattle.layout.proofs.Laying.{image-length, lines-length, end-above, first-fits}
-use Rattle.layout.proofs.Standing.{Holds, Stands, stands-next, stands-end, body-read, end-by-links, end-by-terminators, found-by-links, found-by-terminators}
+use Rattle.layout.proofs.Standing.{Holds, holds-on, Stands, stands-next, stands-end, body-read, end-by-links, end-by-terminators, found-by-links, found-by-terminators}
 
 -- the offset p is that of the address a, which is not below another
 record Meets (load least a p : ℕ) : Type 0 where
@@ -177,6 +177,12 @@ links-lead [] a p = tt
 links-lead (l ∷ []) a p = refl
 links-lead (l ∷ m ∷ ls) a p = (refl, links-lead (m ∷ ls) (linkOf a (l .body)) (p + 5 + length (l .body)))
 
--- that is the address of the end marker
-pub end-marker : {load : ℕ} {ls : List NumberedBody} → Laid load ls → addressAt (imageOf load ls) (2 + length (linesBytes load ls)) ≡ endAddress load ls
-end-marker {load} {ls} laid = omega (arith, load-is laid, lines-length load ls)
+-- the image's last two bytes are the end marker, and that is its address
+module _ {load : ℕ} {ls : List NumberedBody} (laid : Laid load ls) where
+  pub marker-read : linkStep (imageOf load ls) (length (imageOf load ls) - 2) ≡ done end
+  marker-read =
+      let p : length (imageOf load ls) - 2 ≡ 2 + length (linesBytes load ls) = omega (arith, image-length load ls, lines-length load ls) in
+      rw p (end-by-links (image-long laid) (holds-on (linesBytes load ls) (lines-there laid)))
+
+  pub end-marker : addressAt (imageOf load ls) (length (imageOf load ls) - 2) ≡ endAddress load ls
+  end-marker = omega (arith, load-is laid, image-length load ls, end-above load ls)

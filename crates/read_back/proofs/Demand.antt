@@ -62,12 +62,12 @@ each-append [] ms p q = q
 each-append (l ∷ ls) ms p q = (p .0, each-append ls ms (p .1) q)
 
 -- what is put in front of an answer's lines
-record Behind (new ls : List NumberedBody) (a : Answer (List NumberedBody)) : Type 0 where
-  rest : List NumberedBody
-  answer : a ≡ done rest
-  whole : ls ≡ new ++ rest
+pub record Behind (new ls : List NumberedBody) (a : Answer (List NumberedBody)) : Type 0 where
+  pub rest : List NumberedBody
+  pub answer : a ≡ done rest
+  pub whole : ls ≡ new ++ rest
 
-behind : (new ls : List NumberedBody) (a : Answer (List NumberedBody)) → mapDone (λ r. new ++ r) a ≡ done ls → Behind new ls a
+pub behind : (new ls : List NumberedBody) (a : Answer (List NumberedBody)) → mapDone (λ r. new ++ r) a ≡ done ls → Behind new ls a
 behind new ls (done rest) e = let s : ls ≡ new ++ rest = cc in record { rest = rest; answer = refl; whole = s }
 behind new ls (refused n) e = let z : _≡_ {A = ℕ} 0 1 = cc in absurd (omega arith)
 

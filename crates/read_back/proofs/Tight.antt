@@ -1,15 +1,20 @@
--- How tight the promises are (document 01): any two results, with the lent bytes afterwards, that meet the promise of `image::crunch`, of `image::room`
--- or of `crunch_and_read` are equal.
+-- How tight the promises are (document 01): any two results, with the lent bytes afterwards, that meet the promise of `image::crunch`, of `image::room`,
+-- of `image::measured_line` or of `crunch_and_read` are equal.
 -- Assumes nothing.
 use Prim.Native.Nat.{ℕ}
 use mathlib.Core.Path.{_≡_, refl, sym, ap, _∙_}
 use mathlib.Core.List.{List}
+use mathlib.Core.Option.{Option, none, some}
 use Rattle.refusals.specs.Answer.{Answer, done, refused}
 use Rattle.lent.specs.Lent.{intoBuffer, roomFor, outcomeAnswer, left}
 use Rattle.lent.specs.declared.Outcome.{Outcome}
 use Rattle.refusals.proofs.Tight.{named, named-numbered, tells-apart}
 use Rattle.lent.proofs.Tight.{outcome-tight, lent-tight}
 use Rattle.image.specs.Crunched.{crunched}
+use Rattle.image.specs.Measured.{lineMeasured, lineAnswer}
+use Rattle.image.specs.declared.LineMeasured.{LineMeasured}
+use Rattle.image.specs.declared.LineMeasured.the-variants.{There, NoSuchLine, Refused as Line·Refused}
+use Rattle.image.specs.declared.MeasuredLine.{MeasuredLine}
 use Rattle.image.specs.declared.Options.{Options}
 use Rattle.readers.specs.Answers.{checkedAnswer}
 use Rattle.readers.specs.declared.Checked.{Checked}
@@ -41,6 +46,16 @@ read-back-tight w r s b c p q = (
   ap (λ (x : LentRead). x .buffer) (p ∙ sym q),
 )
 
+abbrev lineOf : Answer (Option MeasuredLine) → LineMeasured
+lineOf (done (some l)) = There l
+lineOf (done none) = NoSuchLine
+lineOf (refused m) = Line·Refused (named m)
+
+line-back : (r : LineMeasured) → lineOf (lineAnswer r) ≡ r
+line-back (There l) = refl
+line-back NoSuchLine = refl
+line-back (Line·Refused r) = ap Line·Refused (named-numbered r)
+
 module _ (o : Options) (text : List ℕ) where
   -- `image::crunch`
   pub crunch-tight : (buffer : List ℕ) (r s : Outcome) (b c : List ℕ) → left r b ≡ intoBuffer (crunched o text) buffer → left s c ≡ intoBuffer (crunched o text) buffer
@@ -50,6 +65,10 @@ module _ (o : Options) (text : List ℕ) where
   -- `image::room`
   pub room-tight : (r s : Outcome) → outcomeAnswer r ≡ roomFor (crunched o text) → outcomeAnswer s ≡ roomFor (crunched o text) → r ≡ s
   room-tight = outcome-tight (roomFor (crunched o text))
+
+  -- `image::measured_line`
+  pub measured-line-tight : (place : ℕ) (r s : LineMeasured) → lineAnswer r ≡ lineMeasured o place text → lineAnswer s ≡ lineMeasured o place text → r ≡ s
+  measured-line-tight place r s p q = tells-apart lineAnswer lineOf line-back r s (p ∙ sym q)
 
   -- `read_back::crunch_and_read`
   pub crunch-and-read-tight : (buffer : List ℕ) (r s : ReadBack) (b c : List ℕ) → leftRead r b ≡ readingBack (intoBuffer (crunched o text) buffer)

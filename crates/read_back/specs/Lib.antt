@@ -1,3 +1,4 @@
+pub mod MeasuredBack
 pub mod ProvedTable
 pub mod ReadingBack
 pub mod ReadsBack

@@ -1,6 +1,6 @@
 -- `image::measure::measure_line` meets its contract: the numbering of the line says which case holds.
 -- Assumes nothing.
-use Rattle.image.proofs.Lining.{behind-blank, behind-missing, behind-range, behind-line, behind-overflow, body-up, body-within}
+use Rattle.image.proofs.Lining.{sized-blank, sized-missing, sized-range, sized-line, sized-overflow, body-up, body-within}
 use borrow.Author.Needs.{needs}
 use Rattle.image.proofs.measure.measure_line.Statement.{statement}
 use Rattle.image.proofs.measure.measure_line.Tie as tie
@@ -15,19 +15,19 @@ part-measure-body-end : tie.Need-part-measure-body-end
 part-measure-body-end c = search body-within
 
 returns : tie.Need-returns
-returns c = search behind-overflow
+returns c = search sized-overflow
 
 returns-2 : tie.Need-returns-2
-returns-2 c = search behind-blank
+returns-2 c = search sized-blank
 
 returns-3 : tie.Need-returns-3
-returns-3 c = search behind-missing
+returns-3 c = search sized-missing
 
 returns-4 : tie.Need-returns-4
-returns-4 c = search behind-range
+returns-4 c = search sized-range
 
 returns-5 : tie.Need-returns-5
-returns-5 c = search behind-line
+returns-5 c = search sized-line
 
 pub measure-line-spec : {M : Type 1} → statement M
 measure-line-spec =
