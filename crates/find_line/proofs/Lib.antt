@@ -1,3 +1,4 @@
+pub mod Bodies
 pub mod Limits
 pub mod Seeking
 pub mod Tight

@@ -87,7 +87,7 @@ module _ (number : ℕ) where
 -- ---- the lines of an image
 
 -- lines found one after the other, and what stands behind the last
-chain-lined : (s : List ℕ) {p q : ℕ} {ls : List Line} {e : Ending} → Chain (linkStep s) p ls q → linedFrom linkStep s q ≡ record { lines = []; ending = e }
+pub chain-lined : (s : List ℕ) {p q : ℕ} {ls : List Line} {e : Ending} → Chain (linkStep s) p ls q → linedFrom linkStep s q ≡ record { lines = []; ending = e }
     → linedFrom linkStep s p ≡ record { lines = ls; ending = e }
 chain-lined s here f = f
 chain-lined s (on {p = p} {l = l} h c) f =

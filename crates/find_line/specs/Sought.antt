@@ -4,11 +4,12 @@
 use Prim.Native.Nat.{ℕ, suc, _+_}
 use mathlib.Core.Bool.{cond}
 use mathlib.Core.List.{List, [], _∷_}
-use lib.Dec.{eqb, leb}
+use lib.Dec.{eqb, leb, ltb}
 use lib.ListN.{length}
 use Rattle.steps.specs.Again.{again}
 use Rattle.refusals.specs.Numbers.{Numbered}
 use Rattle.refusals.specs.Answer.{Answer, done, refused, numbered}
+use Rattle.readers.specs.Bodies.{bodyOf}
 use Rattle.readers.specs.declared.Line.{Line}
 use Rattle.readers.specs.Image.{Found, line, end, sized}
 use Rattle.readers.specs.Lines.{Reader}
@@ -75,3 +76,7 @@ soughtAnswer (FoundLine visited l) = done (at visited l)
 soughtAnswer (Nowhere visited) = done (nowhere visited)
 soughtAnswer LimitReached = refused limitReached
 soughtAnswer (Refused r) = refused (numbered r)
+
+-- the body of a line, and nothing where it does not lie in the image
+unfoldable pub bodyIn : List ℕ → Line → List ℕ
+bodyIn s l = cond (ltb (length s) (l .to)) [] (cond (ltb (l .to) (l .from)) [] (bodyOf s l))

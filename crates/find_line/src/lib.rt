@@ -1,6 +1,6 @@
 // A line by its number: links are followed up to the first line that has it.
 ghost use mathlib.Core.Path.{_≡_};
-ghost use Rattle.find_line.specs.Sought.{soughtAnswer, lineSought};
+ghost use Rattle.find_line.specs.Sought.{soughtAnswer, lineSought, bodyIn};
 use readers::Line;
 use readers::Step;
 use readers::links;
@@ -56,4 +56,19 @@ pub fn find_line(image: &[u8], number: u16, limit: usize) -> Sought
             }
         }
     }
+}
+
+// The body of a line that was found, as that part of the image; an empty part where the line does not lie in this image.
+pub fn body(image: &[u8], line: Line) -> &[u8]
+    ensures { λ r. ⌜ now r ≡ bodyIn (now (image .entry)) line ⌝ }
+{
+    let from = line.from;
+    let to = line.to;
+    if to > image.len() {
+        return &image[..0];
+    }
+    if from > to {
+        return &image[..0];
+    }
+    &image[from..to]
 }
