@@ -1,8 +1,9 @@
 pub mod Beginnings
+pub mod Braces
 pub mod PlainSteps
 pub mod Progress
 pub mod Run
-pub mod Steps
+pub mod ShortSteps
 pub mod StringSteps
 pub mod Table
 pub mod Writing

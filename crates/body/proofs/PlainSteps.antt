@@ -7,7 +7,7 @@ use mathlib.Core.List.{List}
 use native.Mathlib.Omega.{arith}
 use lib.Dec.{T, eqb}
 use lib.ListN.{length, getD, List·getD-eq-default}
-use borrow.Author.Tests.{eq-eqb, ne-eqb, eqb-true}
+use borrow.Author.Tests.{eq-eqb, ne-eqb}
 use Rattle.ascii.specs.Bytes.{upper, between, isLetter}
 use Rattle.words.specs.Find.{wordIn}
 use Rattle.words.specs.declared.Match.{Match}
@@ -36,13 +36,7 @@ module _ (t : List ℕ) {r : Move} where
   pub other-short : r ≡ one 0xCF Plain → length t ≤ 1 → first t ≡ 0xCF → r ≡ otherStep t
   other-short q h e = other-no-pi q (λ f. absurd (omega (arith, f, List·getD-eq-default t 0 {n = 1} h))) e
 
-  pub other-print : r ≡ one 0x99 Plain → first t ≡ 0x3F → r ≡ otherStep t
-  unfolding otherStep
-  other-print q e =
-      let n : eqb (first t) 0xCF ≡ false = rw e in
-      rw (otherStep, n, eq-eqb _ _ e) q
-
-  pub other-raised : {b : ℕ} → r ≡ one b Plain → b ≡ upper (first t) → (first t ≡ 0xCF → ⊥) → (first t ≡ 0x3F → ⊥) → r ≡ otherStep t
+  other-raised : {b : ℕ} → r ≡ one b Plain → b ≡ upper (first t) → (first t ≡ 0xCF → ⊥) → (first t ≡ 0x3F → ⊥) → r ≡ otherStep t
   unfolding otherStep
   other-raised q b e f = rw (otherStep, ne-eqb _ _ e, ne-eqb _ _ f, ← b) q
 
@@ -63,16 +57,16 @@ module _ {k : ℕ} where
 
 -- ---- all of it
 
-pub letter-known : {x : Bool} (b : ℕ) → x ≡ true → x ≡ isLetter b → isLetter b ≡ true
-letter-known b t e = sym e ∙ t
+letter-no : (b x : ℕ) → isLetter x ≡ false → isLetter b ≡ true → b ≡ x → ⊥
+letter-no b x n e q = false≢true (sym n ∙ ap isLetter (sym q) ∙ e)
 
 letter-no-quote : (b : ℕ) → isLetter b ≡ true → eqb b 0x22 ≡ false
 unfolding between upper
-letter-no-quote b e = go (eqb b 0x22) refl
-  where
-    go : (r : Bool) → eqb b 0x22 ≡ r → eqb b 0x22 ≡ false
-    go true q = absurd (false≢true (ap isLetter (sym (eqb-true b 0x22 q)) ∙ e))
-    go false q = q
+letter-no-quote b e = ne-eqb b 0x22 (letter-no b 0x22 refl e)
+
+letter-raised : (t : List ℕ) {r : Move} {b : ℕ} → r ≡ one b Plain → b ≡ upper (first t) → isLetter (first t) ≡ true → r ≡ otherStep t
+unfolding between upper
+letter-raised t q u a = other-raised t q u (letter-no (first t) 0xCF refl a) (letter-no (first t) 0x3F refl a)
 
 no-tsb : (l : Lexicon) (t : List ℕ) → T (proper l) → isLetter (first t) ≡ false → liveWord (l .sets) (l .tsb) t ≡ Nothing
 no-tsb l t g a = live-none true (l .tsb) (tsb-start l g) t (l .sets) a
@@ -93,11 +87,11 @@ module _ (l : Lexicon) (t : List ℕ) {r : Move} where
     unfolding plainStep
     letter-v2 q o e p n live a = rw (plainStep, letter-no-quote _ a, sym live ∙ n, sym p ∙ e, ← o) q
 
-    pub letter-other : {v : Match} → r ≡ otherStep t → v ≡ Nothing → v ≡ wordIn (l .v2) t → m ≡ Nothing → m ≡ liveWord (l .sets) (l .tsb) t → isLetter (first t) ≡ true
+    pub letter-other : {v : Match} {b : ℕ} → r ≡ one b Plain → b ≡ upper (first t) → v ≡ Nothing → v ≡ wordIn (l .v2) t → m ≡ Nothing → m ≡ liveWord (l .sets) (l .tsb) t → isLetter (first t) ≡ true
         → T (proper l) → r ≡ plainStep l t
     unfolding plainStep
-    letter-other q e p n live a g =
-        rw (plainStep, letter-no-quote _ a, sym live ∙ n, sym p ∙ e, word-none false (l .operators) (operators-start l g) t a) q
+    letter-other q u e p n live a g =
+        rw (plainStep, letter-no-quote _ a, sym live ∙ n, sym p ∙ e, word-none false (l .operators) (operators-start l g) t a) (letter-raised t q u a)
 
   -- another byte: w is the operator there
   module _ {w : Match} {x : Bool} where

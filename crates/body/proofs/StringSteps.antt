@@ -1,4 +1,4 @@
--- A step in a string and in DATA, case by case.
+-- A byte of a string, and a step at a {, case by case.
 -- Assumes nothing.
 use Prim.Native.Nat.{ℕ, suc, _+_, _-_, _≤_, _<_}
 use mathlib.Core.Path.{_≡_, refl, sym, ap, _∙_}
@@ -7,8 +7,8 @@ use mathlib.Core.List.{List, [], _∷_}
 use native.Mathlib.Omega.{arith}
 use lib.Dec.{eqb}
 use lib.ListN.{length, take, drop, length-drop}
-use borrow.Author.Tests.{eq-eqb, ne-eqb, lt-ltb, le-ltb}
-use Rattle.ascii.specs.Bytes.{upper, between}
+use borrow.Author.Tests.{eq-eqb, lt-ltb, le-ltb}
+use Rattle.ascii.specs.Bytes.{between}
 use Rattle.ascii.proofs.Ranges.{between-in}
 use Rattle.escapes.specs.Escape.{escapeOf}
 use Rattle.ascii.specs.Search.{equals, before, front}
@@ -16,8 +16,8 @@ use Rattle.escapes.specs.declared.Escape.{Escape}
 use Rattle.escapes.specs.declared.Escape.the-variants.{Byte, Unknown}
 use Rattle.ascii.proofs.Searching.{tail}
 use Rattle.body.specs.BraceHelpers.{Closes}
-use Rattle.body.specs.Steps.{first, one, lettered, stringByte, escaped, braced, stringStep, dataStep, dataQuoteStep}
-use Rattle.body.specs.declared.moves.Mode.the-variants.{Plain, String, Data, DataQuote}
+use Rattle.body.specs.Steps.{first, one, lettered, escaped, braced, stringStep}
+use Rattle.body.specs.declared.moves.Mode.the-variants.{String}
 use Rattle.body.specs.declared.moves.Move.{Move}
 
 -- ---- a byte of a string
@@ -41,31 +41,18 @@ module _ (b : ℕ) where
   pub capital-to : {x : Bool} → x ≡ true → x ≡ between 65 90 b → b ≤ 90
   capital-to t e = omega (arith, between-in 65 90 b (sym e ∙ t))
 
-  pub string-quote : {r : Move} → r ≡ one b Plain → b ≡ 0x22 → r ≡ stringByte b
-  unfolding stringByte
-  string-quote q e = rw (stringByte, eq-eqb _ _ e) (q ∙ ap (λ (c : ℕ). one c Plain) e)
-
-  pub string-other : {r : Move} {c : ℕ} → r ≡ one c String → c ≡ lettered b → (b ≡ 0x22 → ⊥) → r ≡ stringByte b
-  unfolding stringByte
-  string-other q l e = rw (stringByte, ne-eqb _ _ e, ← l) q
-
 -- ---- a brace
-
-pub brace-none : (t : List ℕ) {r : Move} → r ≡ stringByte (first t) → 0 < length t → (first t ≡ 0x7B → ⊥) → r ≡ stringStep t
-unfolding stringStep
-brace-none [] q h e = absurd (omega arith)
-brace-none (b ∷ s) q h e = rw (stringStep, ne-eqb _ _ e) q
 
 brace : (t : List ℕ) → 0 < length t → first t ≡ 0x7B → stringStep t ≡ braced (drop 1 t) (before (equals 0x7D) (drop 1 t))
 unfolding stringStep
 brace [] h e = absurd (omega arith)
 brace (b ∷ s) h e = rw (stringStep, eq-eqb _ _ e)
 
-not-closed : (t : List ℕ) (n : ℕ) {r : Move} → r ≡ stringByte 0x7B → 0 < length t → first t ≡ 0x7B → n ≡ before (equals 0x7D) (drop 1 t) → length (drop 1 t) ≤ n
+not-closed : (t : List ℕ) (n : ℕ) {r : Move} → r ≡ one 0x7B String → 0 < length t → first t ≡ 0x7B → n ≡ before (equals 0x7D) (drop 1 t) → length (drop 1 t) ≤ n
     → r ≡ stringStep t
 unfolding braced
 not-closed t n q h e p l =
-    let u : braced (drop 1 t) n ≡ stringByte 0x7B = rw (braced, le-ltb _ _ l) in
+    let u : braced (drop 1 t) n ≡ one 0x7B String = rw (braced, le-ltb _ _ l) in
     q ∙ sym u ∙ ap (braced (drop 1 t)) p ∙ sym (brace t h e)
 
 -- no } follows, as was said
@@ -78,16 +65,16 @@ none-behind-first (b ∷ s) e = go (eqb b 0x7D) e
     go true f = absurd (omega arith)
     go false f = omega arith
 
-pub brace-last : (t : List ℕ) {r : Move} {closes : Bool} → r ≡ stringByte (first t) → closes ≡ false → Closes closes t → 0 < length t → first t ≡ 0x7B → r ≡ stringStep t
+pub brace-last : (t : List ℕ) {r : Move} {closes : Bool} → r ≡ one 0x7B String → closes ≡ false → Closes closes t → 0 < length t → first t ≡ 0x7B → r ≡ stringStep t
 brace-last t q f k h e =
     let none : before (equals 0x7D) t ≡ length t = rw f at k in
-    not-closed t _ (q ∙ ap stringByte e) h e refl (none-behind-first t none)
+    not-closed t _ q h e refl (none-behind-first t none)
 
 module _ (t : List ℕ) {n : ℕ} where
   ahead : n ≡ before (equals 0x7D) (take (length t - 1) (drop 1 t)) → n ≡ before (equals 0x7D) (drop 1 t)
   ahead p = p ∙ ap (before (equals 0x7D)) (tail t 1)
 
-  pub brace-open : {r : Move} → r ≡ stringByte 0x7B → length t - 1 ≤ n → n ≡ before (equals 0x7D) (take (length t - 1) (drop 1 t))
+  pub brace-open : {r : Move} → r ≡ one 0x7B String → length t - 1 ≤ n → n ≡ before (equals 0x7D) (take (length t - 1) (drop 1 t))
       → 0 < length t → first t ≡ 0x7B → r ≡ stringStep t
   brace-open q l p h e = not-closed t n q h e (ahead p) (omega (arith, length-drop 1 t))
 
@@ -107,30 +94,7 @@ module _ (t : List ℕ) {n : ℕ} where
     unfolding escaped
     brace-known g f l p h e = ap (escaped n) (sym g) ∙ closed f l p h e
 
-    pub brace-unknown : {r : Move} → r ≡ stringByte 0x7B → x ≡ Unknown → x ≡ escapeOf (take (n + 1 - 1) (drop 1 t)) → n < length t - 1
+    pub brace-unknown : {r : Move} → r ≡ one 0x7B String → x ≡ Unknown → x ≡ escapeOf (take (n + 1 - 1) (drop 1 t)) → n < length t - 1
         → n ≡ before (equals 0x7D) (take (length t - 1) (drop 1 t)) → 0 < length t → first t ≡ 0x7B → r ≡ stringStep t
     unfolding escaped
     brace-unknown q g f l p h e = q ∙ ap (escaped n) (sym g) ∙ closed f l p h e
-
--- ---- data
-
-module _ (b : ℕ) {r : Move} where
-  pub data-quote : r ≡ one b DataQuote → b ≡ 0x22 → r ≡ dataStep b
-  unfolding dataStep
-  data-quote q e = rw (dataStep, eq-eqb _ _ e) (q ∙ ap (λ (c : ℕ). one c DataQuote) e)
-
-  pub data-colon : r ≡ one b Plain → b ≡ 0x3A → (b ≡ 0x22 → ⊥) → r ≡ dataStep b
-  unfolding dataStep
-  data-colon q e n = rw (dataStep, ne-eqb _ _ n, eq-eqb _ _ e) (q ∙ ap (λ (c : ℕ). one c Plain) e)
-
-  pub data-other : {c : ℕ} → r ≡ one c Data → c ≡ upper b → (b ≡ 0x22 → ⊥) → (b ≡ 0x3A → ⊥) → r ≡ dataStep b
-  unfolding dataStep
-  data-other q u n e = rw (dataStep, ne-eqb _ _ n, ne-eqb _ _ e, ← u) q
-
-  pub quoted-quote : r ≡ one b Data → b ≡ 0x22 → r ≡ dataQuoteStep b
-  unfolding dataQuoteStep
-  quoted-quote q e = rw (dataQuoteStep, eq-eqb _ _ e) (q ∙ ap (λ (c : ℕ). one c Data) e)
-
-  pub quoted-other : {c : ℕ} → r ≡ one c DataQuote → c ≡ upper b → (b ≡ 0x22 → ⊥) → r ≡ dataQuoteStep b
-  unfolding dataQuoteStep
-  quoted-other q u e = rw (dataQuoteStep, ne-eqb _ _ e, ← u) q

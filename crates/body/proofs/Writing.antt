@@ -7,21 +7,24 @@ use mathlib.Core.Bool.{Bool, true, false}
 use mathlib.Core.List.{List, [], _++_}
 use native.Mathlib.Omega.{arith}
 use lib.Dec.{T}
-use lib.ListN.{length, take, drop, set, replicate, length-append, length-set, length-drop, length-replicate, drop-of-length-le}
+use lib.ListN.{length, getD, take, drop, set, replicate, length-append, length-set, length-drop, length-replicate, drop-of-length-le}
 use lib.Seq.{sets, drop-drop}
 use mir.Syntax.{w64}
 use mir.Val.{Fits}
-use Rattle.ascii.proofs.Searching.{tail}
+use Rattle.ascii.proofs.Searching.{tail, here as from-here}
 use Rattle.lent.specs.Stores.{Room, Put}
 use Rattle.lent.proofs.Storing.{put-long, put-as, room-as, room-first, room-second, put-both, put-none}
 use Rattle.body.specs.Body.{prefixOf, written, crunchedFrom, crunchedBody}
-use Rattle.body.specs.Lexicon.{Lexicon}
-use Rattle.body.specs.Steps.{crunchStep}
+use Rattle.tables.specs.declared.sets.Sets.{Sets}
+use Rattle.body.specs.Lexicon.{Lexicon, lexicon}
+use Rattle.body.specs.ShortHelpers.{isShort, shortByte, modeBehind, isLong, longStep}
+use Rattle.body.specs.Steps.{first, one, crunchStep}
 use Rattle.body.specs.declared.moves.Mode.{Mode}
 use Rattle.body.specs.declared.moves.Mode.the-variants.{Plain}
 use Rattle.body.specs.declared.moves.Move.{Move}
-use Rattle.body.proofs.Beginnings.{proper, Takes}
+use Rattle.body.proofs.Beginnings.{proper, Takes, document-proper}
 use Rattle.body.proofs.Progress.{step-takes}
+use Rattle.body.proofs.ShortSteps.{short-step, long-known, long-step}
 use Rattle.body.proofs.Run.{length-prefix, length-written, body-end, body-step}
 
 -- ---- a step at a place of a body
@@ -55,6 +58,31 @@ module _ (l : Lexicon) (s : List ℕ) (m : Mode) {at : ℕ} {o : Move} (e : o �
 
 pub rest-some : (s : List ℕ) {at : ℕ} → at < length s → 0 < length (rest s at)
 rest-some s {at} h = rw (tail s at) (omega (arith, length-drop at s))
+
+-- ---- the step at a byte that is short, or long, in its mode
+
+module _ (s : List ℕ) {at : ℕ} (h : at < length s) where
+  byte-here : first (rest s at) ≡ getD s at 0
+  byte-here = ap first (tail s at ∙ from-here s at h)
+
+  -- the test that is asked for each byte
+  module _ (m : Mode) {x : Bool} (e : x ≡ isShort m (getD s at 0)) where
+    asked : x ≡ isShort m (first (rest s at))
+    asked = e ∙ ap (isShort m) (sym byte-here)
+
+    short-here : (w : Sets) → x ≡ true → one (shortByte m (getD s at 0)) (modeBehind m (getD s at 0)) ≡ crunchStep (lexicon w) m (rest s at)
+    short-here w t =
+        ap (λ (b : ℕ). one (shortByte m b) (modeBehind m b)) (sym byte-here)
+        ∙ short-step w m (rest s at) (rest-some s h) (sym asked ∙ t)
+
+    pub long-byte : x ≡ false → isLong (first (rest s at)) ≡ true
+    long-byte f = long-known m (first (rest s at)) (sym asked ∙ f)
+
+    pub long-here : (w : Sets) {o : Move} → o ≡ longStep (lexicon w) (rest s at) → x ≡ false → o ≡ crunchStep (lexicon w) m (rest s at)
+    long-here w q f = q ∙ long-step w m (rest s at) (sym asked ∙ f)
+
+pub short-known : {x : Bool} (m : Mode) (b : ℕ) → x ≡ true → x ≡ isShort m b → isShort m b ≡ true
+short-known m b t e = sym e ∙ t
 
 -- ---- writing
 
@@ -97,6 +125,19 @@ module _ {l : Lexicon} {s first : List ℕ} {m : Mode} {out : List ℕ} {n at : 
           gives = λ b a q. k .gives b a (put-as (sym (body-at l s m e h g)) (put-both (written o) left p q));
         }
 
+-- a short byte
+module _ (w : Sets) {s first : List ℕ} {m : Mode} {out : List ℕ} {n at : ℕ} (k : Owed (lexicon w) s first m out n at) (h : at < length s) {x : Bool} (t : x ≡ true)
+    (e : x ≡ isShort m (getD s at 0)) where
+  pub short-room : n < length out
+  unfolding written
+  short-room = omega (arith, owed-room k (short-here s h m e w t) h (document-proper w) .room)
+
+  pub short-turn : {b : ℕ} {behind : Mode} → b ≡ shortByte m (getD s at 0) → behind ≡ modeBehind m (getD s at 0)
+      → Owed (lexicon w) s first behind (set out n b) (n + 1) (at + 1)
+  unfolding written
+  short-turn p q =
+      rw (p, q) (owed-turn k (short-here s h m e w t) h (document-proper w) (record { ends = omega arith; stored = refl }))
+
 -- ---- measuring
 
 -- at bytes of s are crunched to n bytes, fewer than 65,536
@@ -130,6 +171,19 @@ module _ {l : Lexicon} {s : List ℕ} {m : Mode} {n at : ℕ} (k : Measured l s 
 
     pub measured-turn : (r ≡ 65536 → ⊥) → Measured l s (o .mode) r (at + o .used)
     measured-turn f = record { within = step-within l s m e h g; low = omega arith; gives = omega (arith, parts, k .gives) }
+
+-- a short byte
+module _ (w : Sets) {s : List ℕ} {m : Mode} {n at : ℕ} (k : Measured (lexicon w) s m n at) (h : at < length s) {x : Bool} (t : x ≡ true)
+    (e : x ≡ isShort m (getD s at 0)) where
+  one-longer : n + 1 ≡ min (n + length (written (one (shortByte m (getD s at 0)) (modeBehind m (getD s at 0))))) 65536
+  unfolding written
+  one-longer = omega (arith, k .low)
+
+  pub short-full : n + 1 ≡ 65536 → n + 1 ≡ min (length (crunchedBody (lexicon w) s)) 65536
+  short-full f = measured-full k one-longer (short-here s h m e w t) h (document-proper w) f
+
+  pub short-measured : {behind : Mode} → behind ≡ modeBehind m (getD s at 0) → (n + 1 ≡ 65536 → ⊥) → Measured (lexicon w) s behind (n + 1) (at + 1)
+  short-measured q f = rw q (measured-turn k one-longer (short-here s h m e w t) h (document-proper w) f)
 
 -- a length with what a step writes behind it
 module _ (n : ℕ) {begun : ℕ} where
@@ -170,6 +224,13 @@ module _ (o : Move) {out : List ℕ} {n : ℕ} where
     pub move-put : {behind : ℕ} {after : List ℕ} → Put half from (replicate (o .count) (o .byte)) behind after → Put out n (written o) behind after
     unfolding written
     move-put q = put-both (prefixOf (o .prefixed)) (replicate (o .count) (o .byte)) p q
+
+    -- a byte that is written once
+    pub one-room : Room out n (written o) → o .count ≡ 1 → from < length half
+    one-room r e = omega (arith, move-rest r .room, ap (λ (k : ℕ). length (replicate k (o .byte))) e)
+
+    pub one-put : o .count ≡ 1 → Put out n (written o) (from + 1) (set half from (o .byte))
+    one-put e = move-put (rw e (record { ends = omega arith; stored = refl }))
 
 -- ---- one byte, count times
 

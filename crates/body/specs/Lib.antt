@@ -1,4 +1,5 @@
 pub mod Body
 pub mod BraceHelpers
 pub mod Lexicon
+pub mod ShortHelpers
 pub mod Steps

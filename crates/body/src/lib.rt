@@ -14,9 +14,9 @@ ghost use Rattle.body.specs.Body.{prefixOf, written, crunchedBody};
 ghost use Rattle.body.specs.Lexicon.{lexicon};
 ghost use Rattle.body.specs.BraceHelpers.{behindBrace};
 
-mod data;
 pub mod moves;
 mod plain;
+mod short;
 mod step;
 mod string;
 
@@ -30,14 +30,24 @@ pub fn measure_body(text: &[u8], bytes: &[u8], index: &[u16], sets: Sets) -> usi
     let mut mode = Mode::Plain;
     let mut n: usize = 0;
     while at < text.len() {
-        let m = step::step(&text[at..], mode, at < last, bytes, index, sets);
-        n = longer(n, m);
-        if n == 65536 {
-            return n;
+        let b = text[at];
+        if short::is_short(mode, b) {
+            mode = short::mode_behind(mode, b);
+            at += 1;
+            n += 1;
+            if n == 65536 {
+                return n;
+            }
+        } else {
+            let m = step::step(&text[at..], at < last, bytes, index, sets);
+            n = longer(n, m);
+            if n == 65536 {
+                return n;
+            }
+            at += m.used;
+            let next = m.mode;
+            mode = next;
         }
-        at += m.used;
-        let next = m.mode;
-        mode = next;
     }
     n
 }
@@ -86,11 +96,19 @@ pub fn write_body(out: &mut [u8], text: &[u8], bytes: &[u8], index: &[u16], sets
     let mut mode = Mode::Plain;
     let mut n: usize = 0;
     while at < text.len() {
-        let m = step::step(&text[at..], mode, at < last, bytes, index, sets);
-        n = put_move(out, n, m);
-        at += m.used;
-        let next = m.mode;
-        mode = next;
+        let b = text[at];
+        if short::is_short(mode, b) {
+            out[n] = short::short_byte(mode, b);
+            mode = short::mode_behind(mode, b);
+            at += 1;
+            n += 1;
+        } else {
+            let m = step::step(&text[at..], at < last, bytes, index, sets);
+            n = put_move(out, n, m);
+            at += m.used;
+            let next = m.mode;
+            mode = next;
+        }
     }
     n
 }
@@ -101,6 +119,10 @@ fn put_move(out: &mut [u8], n: usize, m: Move) -> usize
     ensures { λ r. ⌜ Put (now (out .entry)) n (written m) r (now (out .exit)) ⌝ }
 {
     let from = put_prefix(out, n, m.prefixed);
+    if m.count == 1 {
+        out[from] = m.byte;
+        return from + 1;
+    }
     fill(out, from, m.byte, m.count as usize)
 }
 

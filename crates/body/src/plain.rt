@@ -1,4 +1,4 @@
-// A step in plain mode. The functions are lent the text from the step's place on.
+// A step in plain mode at a letter or at the first byte of pi. The functions are lent the text from the step's place on.
 use crate::moves;
 use crate::moves::Mode;
 use crate::moves::Move;
@@ -14,30 +14,8 @@ ghost use Rattle.tables.specs.WordsHelpers.{SpellsWords};
 ghost use Rattle.body.specs.Lexicon.{lexicon};
 ghost use Rattle.body.specs.Steps.{first, opened as openedBy, otherStep, plainStep};
 
-// A quote, a word, an operator, or another byte. Only a letter begins a word, and none begins an operator.
-pub fn plain_step(rest: &[u8], bytes: &[u8], index: &[u16], sets: Sets) -> Move
-    requires { ⌜ (0 < length (now rest)) × SpellsWords (now bytes) (now index) ⌝ }
-    ensures { λ r. ⌜ r ≡ plainStep (lexicon sets) (now (rest .entry)) ⌝ }
-{
-    let b = rest[0];
-    if b == 0x22 {
-        return moves::one(b, Mode::String);
-    }
-    if ascii::is_letter(b) {
-        return letter_step(rest, bytes, index, sets);
-    }
-    match matching::match_operator(rest, bytes, index) {
-        Match::Word {
-            index: _,
-            used,
-            token,
-        } => moves::token(false, token, Mode::Plain, used),
-        Match::Nothing => other_step(rest),
-    }
-}
-
 // A letter: a TSB word, a V2 word, or the letter.
-fn letter_step(rest: &[u8], bytes: &[u8], index: &[u16], sets: Sets) -> Move
+pub fn letter_step(rest: &[u8], bytes: &[u8], index: &[u16], sets: Sets) -> Move
     requires { ⌜ (0 < length (now rest)) × (isLetter (first (now rest)) ≡ true) × SpellsWords (now bytes) (now index) ⌝ }
     ensures { λ r. ⌜ r ≡ plainStep (lexicon sets) (now (rest .entry)) ⌝ }
 {
@@ -53,7 +31,7 @@ fn letter_step(rest: &[u8], bytes: &[u8], index: &[u16], sets: Sets) -> Move
                 used,
                 token,
             } => moves::token(false, token, opened(token), used),
-            Match::Nothing => other_step(rest),
+            Match::Nothing => moves::one(ascii::upper(rest[0]), Mode::Plain),
         },
     }
 }
@@ -71,23 +49,8 @@ fn opened(token: u8) -> Mode
     Mode::Plain
 }
 
-// Pi, ?, or a byte that stands for itself.
-fn other_step(rest: &[u8]) -> Move
-    requires { ⌜ 0 < length (now rest) ⌝ }
-    ensures { λ r. ⌜ r ≡ otherStep (now (rest .entry)) ⌝ }
-{
-    let b = rest[0];
-    if b == 0xCF {
-        return from_pi(rest);
-    }
-    if b == 0x3F {
-        return moves::one(0x99, Mode::Plain);
-    }
-    moves::one(ascii::upper(b), Mode::Plain)
-}
-
 // CF with 80 behind it is pi.
-fn from_pi(rest: &[u8]) -> Move
+pub fn from_pi(rest: &[u8]) -> Move
     requires { ⌜ (0 < length (now rest)) × (first (now rest) ≡ 0xCF) ⌝ }
     ensures { λ r. ⌜ r ≡ otherStep (now (rest .entry)) ⌝ }
 {

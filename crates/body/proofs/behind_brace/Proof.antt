@@ -1,6 +1,6 @@
 -- `body::behind_brace` meets its contract.
 -- Assumes nothing.
-use Rattle.body.proofs.Steps.{brace-at, brace-fits, brace-nowhere}
+use Rattle.body.proofs.Braces.{brace-at, brace-fits, brace-nowhere}
 use borrow.Author.Needs.{needs}
 use Rattle.body.proofs.behind_brace.Statement.{statement}
 use Rattle.body.proofs.behind_brace.Tie as tie

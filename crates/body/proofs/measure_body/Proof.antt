@@ -7,8 +7,8 @@ use mir.Syntax.{w64}
 use mir.Val.{Fits}
 use Rattle.body.specs.Lexicon.{lexicon}
 use Rattle.body.proofs.Beginnings.{document-proper}
-use Rattle.body.proofs.Writing.{Measured, measured-start, measured-full, measured-turn, measured-end, rest-some, measured-fits, measured-less}
-use Rattle.body.proofs.Steps.{closes-known}
+use Rattle.body.proofs.Writing.{Measured, measured-start, measured-full, measured-turn, measured-end, rest-some, measured-fits, measured-less, short-full, short-measured, long-byte, long-here}
+use Rattle.body.proofs.Braces.{closes-known}
 use Rattle.steps.proofs.The.{the}
 use native.Mathlib.Omega.{arith}
 use borrow.Author.Needs.{needs}
@@ -27,23 +27,32 @@ text-fits c = record { fits = omega arith }
 loop-holds : tie.Need-loop-holds Inv-loop μ-loop
 loop-holds c = search measured-start
 
-step-requires : tie.Need-step-requires Inv-loop μ-loop
-step-requires c κs = search (rest-some, closes-known)
+add-n : tie.Need-add-n Inv-loop μ-loop
+add-n c = search needs
 
 returns : tie.Need-returns Inv-loop μ-loop
-returns c = search (measured-full, document-proper)
-
-add-at : tie.Need-add-at Inv-loop μ-loop
-add-at c = search (measured-fits, document-proper, text-fits (search))
-
-loop-less : tie.Need-loop-less Inv-loop μ-loop
-loop-less c = search (measured-less, document-proper)
+returns c = search short-full
 
 loop-again : tie.Need-loop-again Inv-loop μ-loop
-loop-again c = search (measured-turn, document-proper, the (tie.Else1 Inv-loop μ-loop) (search) .if1 .left)
+loop-again c = search (short-measured, the (tie.Else2 Inv-loop μ-loop) (search) .if2 .left)
+
+step-requires : tie.Need-step-requires Inv-loop μ-loop
+step-requires c κs = search (rest-some, long-byte, closes-known)
 
 returns-2 : tie.Need-returns-2 Inv-loop μ-loop
-returns-2 c = search measured-end
+returns-2 c = search (measured-full, document-proper, long-here)
+
+add-at-2 : tie.Need-add-at-2 Inv-loop μ-loop
+add-at-2 c = search (measured-fits, document-proper, long-here, text-fits (search))
+
+loop-less-2 : tie.Need-loop-less-2 Inv-loop μ-loop
+loop-less-2 c = search (measured-less, document-proper, long-here)
+
+loop-again-2 : tie.Need-loop-again-2 Inv-loop μ-loop
+loop-again-2 c = search (measured-turn, document-proper, long-here, the (tie.Else3 Inv-loop μ-loop) (search) .if3 .left)
+
+returns-3 : tie.Need-returns-3 Inv-loop μ-loop
+returns-3 c = search measured-end
 
 pub measure-body-spec : {M : Type 1} → statement M
 measure-body-spec =
@@ -54,12 +63,20 @@ measure-body-spec =
     (λ c κs. search needs)
     loop-holds
     (λ c. search needs)
+    (λ c κs. search needs)
+    (λ c κs. search needs)
+    (λ c. search needs)
+    add-n
+    returns
+    (λ c. search needs)
+    loop-again
+    (λ c. search needs)
     (λ c. search needs)
     (λ c. search needs)
     step-requires
     (λ c κs. search needs)
-    returns
-    add-at
-    loop-less
-    loop-again
-    returns-2)
+    returns-2
+    add-at-2
+    loop-less-2
+    loop-again-2
+    returns-3)

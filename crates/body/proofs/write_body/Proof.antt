@@ -7,8 +7,8 @@ use mir.Syntax.{w64}
 use mir.Val.{Fits}
 use Rattle.body.specs.Lexicon.{lexicon}
 use Rattle.body.proofs.Beginnings.{document-proper}
-use Rattle.body.proofs.Writing.{Owed, owed-start, owed-room, owed-turn, owed-end, rest-some, owed-fits, owed-less}
-use Rattle.body.proofs.Steps.{closes-known}
+use Rattle.body.proofs.Writing.{Owed, owed-start, owed-room, owed-turn, owed-end, rest-some, owed-fits, owed-less, short-known, short-room, short-turn, long-byte, long-here}
+use Rattle.body.proofs.Braces.{closes-known}
 use native.Mathlib.Omega.{arith}
 use borrow.Author.Needs.{needs}
 use Rattle.body.proofs.write_body.Statement.{statement}
@@ -26,20 +26,38 @@ text-fits c = record { fits = omega arith }
 loop-holds : tie.Need-loop-holds Inv-loop μ-loop
 loop-holds c = search owed-start
 
-step-requires : tie.Need-step-requires Inv-loop μ-loop
-step-requires c κs = search (rest-some, closes-known)
+short-byte-requires : tie.Need-short-byte-requires Inv-loop μ-loop
+short-byte-requires c κs = search short-known
 
-put-move-requires : tie.Need-put-move-requires Inv-loop μ-loop
-put-move-requires c κs = search (owed-room, document-proper)
+slice-write-out : tie.Need-slice-write-out Inv-loop μ-loop
+slice-write-out c = search short-room
 
 add-at : tie.Need-add-at Inv-loop μ-loop
-add-at c = search (owed-fits, document-proper, text-fits (search))
+add-at c = search needs
+
+add-n : tie.Need-add-n Inv-loop μ-loop
+add-n c = omega (arith, slice-write-out (search))
 
 loop-less : tie.Need-loop-less Inv-loop μ-loop
-loop-less c = search (owed-less, document-proper)
+loop-less c = search needs
 
 loop-again : tie.Need-loop-again Inv-loop μ-loop
-loop-again c = search (owed-turn, document-proper)
+loop-again c = search short-turn
+
+step-requires : tie.Need-step-requires Inv-loop μ-loop
+step-requires c κs = search (rest-some, long-byte, closes-known)
+
+put-move-requires : tie.Need-put-move-requires Inv-loop μ-loop
+put-move-requires c κs = search (owed-room, document-proper, long-here)
+
+add-at-2 : tie.Need-add-at-2 Inv-loop μ-loop
+add-at-2 c = search (owed-fits, document-proper, long-here, text-fits (search))
+
+loop-less-2 : tie.Need-loop-less-2 Inv-loop μ-loop
+loop-less-2 c = search (owed-less, document-proper, long-here)
+
+loop-again-2 : tie.Need-loop-again-2 Inv-loop μ-loop
+loop-again-2 c = search (owed-turn, document-proper, long-here)
 
 returns : tie.Need-returns Inv-loop μ-loop
 returns c = search owed-end
@@ -53,12 +71,21 @@ write-body-spec =
     (λ c κs. search needs)
     loop-holds
     (λ c. search needs)
+    (λ c κs. search needs)
+    short-byte-requires
+    slice-write-out
+    (λ c κs. search needs)
+    add-at
+    add-n
+    loop-less
+    loop-again
+    (λ c. search needs)
     (λ c. search needs)
     (λ c. search needs)
     step-requires
     put-move-requires
-    add-at
-    loop-less
-    loop-again
+    add-at-2
+    loop-less-2
+    loop-again-2
     (λ c. search needs)
     returns)

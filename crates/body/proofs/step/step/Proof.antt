@@ -1,24 +1,22 @@
 -- `body::step::step` meets its contract.
 -- Assumes nothing.
-use Rattle.body.proofs.Steps.{by-data, by-data-quote, by-plain, by-remark, by-string}
+use Rattle.body.proofs.ShortSteps.{long-brace, long-pi, long-letter, letter-left}
+use Rattle.steps.proofs.The.{the}
 use borrow.Author.Needs.{needs}
 use Rattle.body.proofs.step.step.Statement.{statement}
 use Rattle.body.proofs.step.step.Tie as tie
 
 returns : tie.Need-returns
-returns c = search by-plain
+returns c = search long-brace
 
 returns-2 : tie.Need-returns-2
-returns-2 c = search by-string
+returns-2 c = search long-pi
+
+letter-step-requires : tie.Need-letter-step-requires
+letter-step-requires c κs = search (letter-left, the tie.Else1 (search) .if1 .left, the tie.Else2 (search) .if2 .left)
 
 returns-3 : tie.Need-returns-3
-returns-3 c = search by-remark
-
-returns-4 : tie.Need-returns-4
-returns-4 c = search by-data
-
-returns-5 : tie.Need-returns-5
-returns-5 c = search by-data-quote
+returns-3 c = search (long-letter, the tie.Else1 (search) .if1 .left)
 
 pub step-spec : {M : Type 1} → statement M
 step-spec =
@@ -26,19 +24,8 @@ step-spec =
     (tie.spec
     (λ c. search needs)
     (λ c κs. search needs)
-    (λ c. search needs)
-    (λ c κs. search needs)
-    (λ c. search needs)
-    (λ c. search needs)
-    (λ c κs. search needs)
-    (λ c. search needs)
-    (λ c. search needs)
-    (λ c κs. search needs)
-    (λ c. search needs)
-    (λ c. search needs)
-    (λ c κs. search needs)
     returns
+    (λ c κs. search needs)
     returns-2
-    returns-3
-    returns-4
-    returns-5)
+    letter-step-requires
+    returns-3)

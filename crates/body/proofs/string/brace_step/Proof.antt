@@ -1,38 +1,12 @@
 -- `body::string::brace_step` meets its contract.
 -- Assumes nothing.
-use Rattle.body.proofs.StringSteps.{brace-known, brace-open, brace-unknown}
+use Rattle.body.proofs.StringSteps.{brace-last}
 use borrow.Author.Needs.{needs}
 use Rattle.body.proofs.string.brace_step.Statement.{statement}
 use Rattle.body.proofs.string.brace_step.Tie as tie
 
-returns : tie.Need-returns
-returns c = search brace-open
-
 returns-2 : tie.Need-returns-2
-returns-2 c = search brace-known
-
-returns-3 : tie.Need-returns-3
-returns-3 c = search brace-unknown
+returns-2 c = search brace-last
 
 pub brace-step-spec : {M : Type 1} → statement M
-brace-step-spec =
-    tie.close
-    (tie.spec
-    (λ c. search needs)
-    (λ c. search needs)
-    (λ c. search needs)
-    (λ c κs. search needs)
-    (λ c. search needs)
-    (λ c κs. search needs)
-    returns
-    (λ c. search needs)
-    (λ c. search needs)
-    (λ c. search needs)
-    (λ c. search needs)
-    (λ c κs. search needs)
-    (λ c. search needs)
-    (λ c. search needs)
-    (λ c. search needs)
-    (λ c κs. search needs)
-    returns-2
-    returns-3)
+brace-step-spec = tie.close (tie.spec (λ c κs. search needs) (λ c. search needs) (λ c κs. search needs) returns-2)

@@ -1,11 +1,11 @@
--- `body::string::lettered` meets its contract.
+-- `body::short::lettered` meets its contract.
 -- Assumes nothing.
 use native.Mathlib.Omega.{arith}
 use Rattle.body.proofs.StringSteps.{lettered-small, lettered-capital, lettered-other, capital-to, raised-from}
 use Rattle.steps.proofs.The.{the}
 use borrow.Author.Needs.{needs}
-use Rattle.body.proofs.string.lettered.Statement.{statement}
-use Rattle.body.proofs.string.lettered.Tie as tie
+use Rattle.body.proofs.short.lettered.Statement.{statement}
+use Rattle.body.proofs.short.lettered.Tie as tie
 
 sub-result : tie.Need-sub-result
 sub-result c = search raised-from

@@ -1,4 +1,4 @@
--- A step in each mode, and the last } of a body.
+-- The last } of a body, and from where on none follows.
 -- Assumes nothing.
 use Prim.Native.Nat.{ℕ, suc, _+_, _-_, _≤_}
 use mathlib.Core.Path.{_≡_, refl, sym, _∙_}
@@ -10,18 +10,11 @@ use lib.ListN.{length, take, drop}
 use borrow.Author.Tests.{ltb-false}
 use mir.Syntax.{w64}
 use mir.Val.{Fits}
-use Rattle.ascii.specs.Search.{equals, before, last}
+use Rattle.ascii.specs.Search.{equals, last}
 use Rattle.ascii.specs.declared.search.Found.{Found}
 use Rattle.ascii.specs.declared.search.Found.the-variants.{At, Nowhere}
 use Rattle.ascii.proofs.Searching.{tail, last-within, Behind, none-behind}
 use Rattle.body.specs.BraceHelpers.{behindBrace, Closes}
-use Rattle.body.specs.Lexicon.{Lexicon}
-use Rattle.body.specs.Steps.{first, one, plainStep, stringStep, dataStep, dataQuoteStep, crunchStep}
-use Rattle.body.specs.declared.moves.Mode.{Mode}
-use Rattle.body.specs.declared.moves.Mode.the-variants.{Plain, String, Remark, Data, DataQuote}
-use Rattle.body.specs.declared.moves.Move.{Move}
-
--- ---- from where on no } follows
 
 pub brace-at : (t : List ℕ) {f : Found} {n : ℕ} → f ≡ At n → f ≡ last (equals 0x7D) t → n + 1 ≡ behindBrace t
 unfolding behindBrace
@@ -45,26 +38,3 @@ closes-known s at {place} e = go (ltb at place) refl
     go : (b : Bool) → ltb at place ≡ b → Closes b (take (length s - at) (drop at s))
     go true p = tt
     go false p = rw (tail s at) (none-behind (equals 0x7D) s at (behind (last (equals 0x7D) s) (omega (arith, e, ltb-false at place p))))
-
--- ---- the modes
-
-module _ (l : Lexicon) (t : List ℕ) {m : Mode} {r : Move} where
-  pub by-plain : r ≡ plainStep l t → m ≡ Plain → r ≡ crunchStep l m t
-  unfolding crunchStep
-  by-plain q e = rw e q
-
-  pub by-string : r ≡ stringStep t → m ≡ String → r ≡ crunchStep l m t
-  unfolding crunchStep
-  by-string q e = rw e q
-
-  pub by-remark : r ≡ one (first t) Remark → m ≡ Remark → r ≡ crunchStep l m t
-  unfolding crunchStep
-  by-remark q e = rw e q
-
-  pub by-data : r ≡ dataStep (first t) → m ≡ Data → r ≡ crunchStep l m t
-  unfolding crunchStep
-  by-data q e = rw e q
-
-  pub by-data-quote : r ≡ dataQuoteStep (first t) → m ≡ DataQuote → r ≡ crunchStep l m t
-  unfolding crunchStep
-  by-data-quote q e = rw e q
