@@ -1,4 +1,5 @@
 pub mod Beginnings
+pub mod Bound
 pub mod Braces
 pub mod PlainSteps
 pub mod Progress

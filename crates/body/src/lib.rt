@@ -6,7 +6,7 @@ use ascii::search::Found;
 use ascii::search::Kind;
 use tables::sets::Sets;
 ghost use mathlib.Core.Path.{_≡_};
-ghost use Prim.Native.Nat.{_+_, _<_, min};
+ghost use Prim.Native.Nat.{_+_, _≤_, _<_, min};
 ghost use lib.ListN.{length, replicate};
 ghost use Rattle.lent.specs.Stores.{Room, Put};
 ghost use Rattle.tables.specs.WordsHelpers.{SpellsWords};
@@ -50,6 +50,17 @@ pub fn measure_body(text: &[u8], bytes: &[u8], index: &[u16], sets: Sets) -> usi
         }
     }
     n
+}
+
+// A length that the body does not pass, or 65,536: that of its text, where there is no } in it.
+pub fn bound_body(text: &[u8], bytes: &[u8], index: &[u16], sets: Sets) -> usize
+    requires { ⌜ SpellsWords (now bytes) (now index) ⌝ }
+    ensures { λ r. ⌜ min (length (crunchedBody (lexicon sets) (now (text .entry)))) 65536 ≤ r ⌝ }
+{
+    if behind_brace(text) == 0 {
+        return text.len();
+    }
+    measure_body(text, bytes, index, sets)
 }
 
 // The place behind the last }, 0 where there is none.

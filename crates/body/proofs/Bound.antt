@@ -1,0 +1,195 @@
+-- A body without } is never longer than its text: each step writes no more bytes than it takes. A TSB word gives two bytes, and has two.
+-- Assumes nothing.
+use Prim.Native.Nat.{ℕ, suc, zero, _+_, _≤_, _<_, min}
+use mathlib.Core.Path.{_≡_, refl, sym, ap, _∙_}
+use mathlib.Core.Bool.{Bool, true, false, not, _&&_}
+use mathlib.Core.List.{List, [], _∷_, _++_}
+use native.Mathlib.Decide.{decLt}
+use native.Mathlib.Omega.{arith}
+use lib.Dec.{T, eqb, leb, leb→le}
+use lib.ListN.{length, getD, drop, length-append, length-drop, drop-of-length-le}
+use lib.Seq.{drop-drop}
+use borrow.Author.Tests.{le-ltb}
+use Rattle.ascii.specs.Bytes.{upper}
+use Rattle.ascii.specs.Search.{equals, before, last, front}
+use Rattle.ascii.specs.declared.search.Found.{Found}
+use Rattle.ascii.specs.declared.search.Found.the-variants.{At, Nowhere}
+use Rattle.ascii.proofs.Searching.{none-behind}
+use Rattle.words.specs.Find.{Entry, firstThat, wordIn, amongIn}
+use Rattle.words.specs.declared.Match.{Match}
+use Rattle.words.specs.declared.Match.the-variants.{Word, Nothing}
+use Rattle.words.proofs.Search.{and-left, and-right}
+use Rattle.tables.specs.Tsb.{tsbWords}
+use Rattle.tables.specs.Sets.{isDemoted, isLive, liveWord}
+use Rattle.tables.specs.declared.sets.Sets.{Sets}
+use Rattle.body.specs.Body.{written, crunchedFrom, crunchedBody}
+use Rattle.body.specs.BraceHelpers.{behindBrace}
+use Rattle.body.specs.Lexicon.{lexicon}
+use Rattle.body.specs.Steps.{first, one, token, opened, otherStep, plainStep, lettered, stringByte, braced, stringStep, dataStep, dataQuoteStep, crunchStep}
+use Rattle.body.specs.declared.moves.Mode.{Mode}
+use Rattle.body.specs.declared.moves.Mode.the-variants.{Plain, String, Remark, Data, DataQuote}
+use Rattle.body.specs.declared.moves.Move.{Move}
+use Rattle.body.proofs.Beginnings.{Takes, document-proper, word-takes, v2-start, operators-start}
+use Rattle.body.proofs.Progress.{step-takes}
+use Rattle.body.proofs.Run.{body-end, body-step}
+
+-- ---- the TSB words
+
+unfoldable allLong : List Entry → Bool
+allLong [] = true
+allLong (e ∷ es) = leb 2 (length (e .word)) && allLong es
+
+tsb-long : T (allLong tsbWords)
+unfolding allLong tsbWords
+tsb-long = tt
+
+found-long : (p : ℕ → List ℕ → Bool) (es : List Entry) (k : ℕ) → T (allLong es) → {i u t : ℕ} → firstThat p es k ≡ Word i u t → 2 ≤ u
+unfolding firstThat allLong
+found-long p [] k a {i} {u} {t} q = let z : _≡_ {A = ℕ} 0 1 = cc in absurd (omega arith)
+found-long p (e ∷ es) k a {i} {u} {t} q = go (p k (e .word)) q (found-long p es (suc k) (and-right (leb 2 (length (e .word))) _ a))
+  where
+    go : (b : Bool) → elim b [ true ↦ Word k (length (e .word)) (e .token) | false ↦ firstThat p es (suc k) ] ≡ Word i u t
+        → (firstThat p es (suc k) ≡ Word i u t → 2 ≤ u) → 2 ≤ u
+    go true h f =
+        let size : length (e .word) ≡ u = cc in
+        omega (arith, leb→le 2 (length (e .word)) (and-left (leb 2 (length (e .word))) _ a))
+    go false h f = f h
+
+live-long : (s : Sets) (t : List ℕ) {i u k : ℕ} → liveWord s tsbWords t ≡ Word i u k → 2 ≤ u
+unfolding liveWord amongIn
+live-long s t {i} {u} {k} e = go (amongIn (isDemoted s) tsbWords t) e
+  where
+    go : (d : Match) → elim d [ Word j v c ↦ Nothing | Nothing ↦ amongIn (isLive s) tsbWords t ] ≡ Word i u k → 2 ≤ u
+    go (Word j v c) q = let z : _≡_ {A = ℕ} 0 1 = cc in absurd (omega arith)
+    go Nothing q = found-long _ tsbWords 0 tsb-long q
+
+-- ---- a step writes no more than it takes
+
+abbrev Narrow : Move → Type 0
+Narrow o = length (written o) ≤ o .used
+
+by-test : (r : Bool) (x y : Move) → Narrow x → Narrow y → Narrow (elim r [ true ↦ x | false ↦ y ])
+by-test true x y f g = f
+by-test false x y f g = g
+
+by-match : (m : Match) (x : ℕ → ℕ → Move) (y : Move) → ((i u k : ℕ) → m ≡ Word i u k → Narrow (x u k)) → Narrow y
+    → Narrow (elim m [ Word i u k ↦ x u k | Nothing ↦ y ])
+by-match (Word i u k) x y f g = f i u k refl
+by-match Nothing x y f g = g
+
+one-narrow : (b : ℕ) (m : Mode) → Narrow (one b m)
+unfolding written
+one-narrow b m = omega arith
+
+other-narrow : (t : List ℕ) → Narrow (otherStep t)
+unfolding otherStep written
+other-narrow t =
+    by-test (eqb (first t) 0xCF && eqb (getD t 1 0) 0x80) (token false 0xFF Plain 2) _ (omega arith) (by-test (eqb (first t) 0x3F) (one 0x99 Plain) (one (upper (first t)) Plain) (one-narrow 0x99 Plain) (one-narrow (upper (first t)) Plain))
+
+module _ (s : Sets) (t : List ℕ) where
+  token-narrow : (k u : ℕ) (m : Mode) → Takes t u → Narrow (token false k m u)
+  unfolding written
+  token-narrow k u m r = omega (arith, r .more)
+
+  tsb-narrow : (k u : ℕ) → 2 ≤ u → Narrow (token true k Plain u)
+  unfolding written
+  tsb-narrow k u r = omega (arith, r)
+
+  plain-narrow : Narrow (plainStep (lexicon s) t)
+  unfolding plainStep
+  plain-narrow =
+      by-test (eqb (first t) 0x22) (one 0x22 String) _ (one-narrow _ _) (
+      by-match (liveWord s tsbWords t) (λ u k. token true k Plain u) _ (λ i u k e. tsb-narrow k u (live-long s t e)) (
+      by-match (wordIn (lexicon s .v2) t) (λ u k. token false k (opened k) u) _
+      (λ i u k e. token-narrow k u (opened k) (word-takes true _ (v2-start (lexicon s) (document-proper s)) t e)) (
+      by-match (wordIn (lexicon s .operators) t) (λ u k. token false k Plain u) (otherStep t)
+      (λ i u k e. token-narrow k u Plain (word-takes false _ (operators-start (lexicon s) (document-proper s)) t e)) (other-narrow t))))
+
+byte-narrow : (b : ℕ) → Narrow (stringByte b)
+unfolding stringByte
+byte-narrow b = by-test (eqb b 0x22) (one 0x22 Plain) (one (lettered b) String) (one-narrow _ _) (one-narrow _ _)
+
+-- no } follows: no escape
+unclosed-narrow : (u : List ℕ) → before (equals 0x7D) u ≡ length u → Narrow (braced u (before (equals 0x7D) u))
+unfolding braced
+unclosed-narrow u f =
+    let all : length u ≤ before (equals 0x7D) u = omega (arith, f) in
+    rw (braced, le-ltb _ _ all) (byte-narrow 0x7B)
+
+string-narrow : (t : List ℕ) → before (equals 0x7D) t ≡ length t → Narrow (stringStep t)
+unfolding stringStep before front
+string-narrow [] e = byte-narrow 0
+string-narrow (b ∷ u) e = by-test (eqb b 0x7B) (braced u (before (equals 0x7D) u)) (stringByte b) (unclosed-narrow u (behind (eqb b 0x7D) e)) (byte-narrow b)
+  where
+    behind : (x : Bool) → elim (not x) [ true ↦ suc (before (equals 0x7D) u) | false ↦ 0 ] ≡ suc (length u) → before (equals 0x7D) u ≡ length u
+    behind true f = absurd (omega arith)
+    behind false f = omega arith
+
+step-narrow : (s : Sets) (m : Mode) (t : List ℕ) → before (equals 0x7D) t ≡ length t → Narrow (crunchStep (lexicon s) m t)
+unfolding crunchStep dataStep dataQuoteStep
+step-narrow s Plain t e = plain-narrow s t
+step-narrow s String t e = string-narrow t e
+step-narrow s Remark t e = one-narrow (first t) Remark
+step-narrow s Data t e =
+    by-test (eqb (first t) 0x22) (one 0x22 DataQuote) _ (one-narrow _ _)
+    (by-test (eqb (first t) 0x3A) (one 0x3A Plain) (one (upper (first t)) Data) (one-narrow _ _) (one-narrow _ _))
+step-narrow s DataQuote t e = by-test (eqb (first t) 0x22) (one 0x22 Data) (one (upper (first t)) DataQuote) (one-narrow _ _) (one-narrow _ _)
+
+-- ---- the whole body
+
+module _ (w : Sets) (s : List ℕ) (e : last (equals 0x7D) s ≡ Nowhere) where
+  none-from : (at : ℕ) → before (equals 0x7D) (drop at s) ≡ length (drop at s)
+  none-from at = none-behind (equals 0x7D) s at (rw e tt)
+
+  abbrev Bounded : ℕ → Type 0
+  Bounded n = (m : Mode) (at : ℕ) → length (drop at s) ≤ n → length (crunchedFrom (lexicon w) m (drop at s)) ≤ length (drop at s)
+
+  bound-step : (n : ℕ) → Bounded n → (m : Mode) (at : ℕ) → length (drop at s) ≤ suc n → at < length s
+      → length (crunchedFrom (lexicon w) m (drop at s)) ≤ length (drop at s)
+  bound-step n f m at h q =
+      let o = crunchStep (lexicon w) m (drop at s) in
+      let some : 0 < length (drop at s) = omega (arith, length-drop at s) in
+      let r : Takes (drop at s) (o .used) = step-takes (lexicon w) (document-proper w) m (drop at s) some in
+      let next : drop (o .used) (drop at s) ≡ drop (at + o .used) s = drop-drop (o .used) at s in
+      let split : crunchedFrom (lexicon w) m (drop at s) ≡ written o ++ crunchedFrom (lexicon w) (o .mode) (drop (at + o .used) s)
+      = rw (← next) (body-step (lexicon w) (document-proper w) m (drop at s) some refl) in
+      let more : length (crunchedFrom (lexicon w) (o .mode) (drop (at + o .used) s)) ≤ length (drop (at + o .used) s)
+      = f (o .mode) (at + o .used) (omega (arith, length-drop (at + o .used) s, length-drop at s, r .more)) in
+      omega (
+        arith,
+        ap length split,
+        length-append (written o) (crunchedFrom (lexicon w) (o .mode) (drop (at + o .used) s)),
+        more,
+        step-narrow w m (drop at s) (none-from at),
+        length-drop (at + o .used) s,
+        length-drop at s,
+        r .most,
+      )
+
+  bound-end : (m : Mode) (at : ℕ) → length s ≤ at → length (crunchedFrom (lexicon w) m (drop at s)) ≤ length (drop at s)
+  bound-end m at l = rw (drop-of-length-le s l, body-end (lexicon w) m) (omega arith)
+
+  bound-from : (n : ℕ) → Bounded n
+  bound-from zero m at h = bound-end m at (omega (arith, length-drop at s))
+  bound-from (suc n) m at h = go (decLt at (length s)) (bound-from n)
+    where
+      go : Dec (at < length s) → Bounded n → length (crunchedFrom (lexicon w) m (drop at s)) ≤ length (drop at s)
+      go (yes q) f = bound-step n f m at h q
+      go (no q) f = bound-end m at (omega arith)
+
+  pub body-bound : length (crunchedBody (lexicon w) s) ≤ length s
+  body-bound = bound-from (length s) Plain 0 (omega arith)
+
+-- ---- as the code asks
+
+module _ (w : Sets) (s : List ℕ) where
+  pub bound-text : {n : ℕ} → n ≡ 0 → n ≡ behindBrace s → min (length (crunchedBody (lexicon w) s)) 65536 ≤ length s
+  unfolding behindBrace
+  bound-text z e = omega (arith, body-bound w s (nowhere (last (equals 0x7D) s) (sym e ∙ z)))
+    where
+      nowhere : (f : Found) → _≡_ {A = ℕ} (elim f [ At n ↦ suc n | Nowhere ↦ 0 ]) 0 → f ≡ Nowhere
+      nowhere (At n) q = absurd (omega arith)
+      nowhere Nowhere q = refl
+
+  pub bound-measured : {r : ℕ} → r ≡ min (length (crunchedBody (lexicon w) s)) 65536 → min (length (crunchedBody (lexicon w) s)) 65536 ≤ r
+  bound-measured e = omega (arith, e)
