@@ -67,6 +67,7 @@ pub enum Refusal {
     NoSuchFile,
     DirectoryFull,
     DiskFull,
+    TooManyImages,
     /// A number that this module does not know, from a newer library, with the two values beside it.
     Other {
         number: u8,
@@ -101,6 +102,7 @@ impl Refusal {
             23 => Refusal::NoSuchFile,
             24 => Refusal::DirectoryFull,
             25 => Refusal::DiskFull,
+            26 => Refusal::TooManyImages,
             _ => Refusal::Other {
                 number,
                 first,
@@ -132,6 +134,7 @@ impl Refusal {
             Refusal::NoSuchFile => (23, 0, 0),
             Refusal::DirectoryFull => (24, 0, 0),
             Refusal::DiskFull => (25, 0, 0),
+            Refusal::TooManyImages => (26, 0, 0),
             Refusal::Other {
                 number,
                 first,

@@ -28,10 +28,11 @@ pub enum Refusal {
     NoSuchFile,
     DirectoryFull,
     DiskFull,
+    TooManyImages,
 }
 
 /// Number, name and carried values of each refusal that the judge can give.
-const TABLE: [(u8, &str, &[&str]); 21] = [
+const TABLE: [(u8, &str, &[&str]); 22] = [
     (1, "TextTooLong", &["length"]),
     (2, "BadByte", &["offset"]),
     (3, "MissingLineNumber", &["text line"]),
@@ -53,6 +54,7 @@ const TABLE: [(u8, &str, &[&str]); 21] = [
     (23, "NoSuchFile", &[]),
     (24, "DirectoryFull", &[]),
     (25, "DiskFull", &[]),
+    (26, "TooManyImages", &[]),
 ];
 
 /// The name of the refusal with this number, and what it carries.
@@ -86,6 +88,7 @@ impl Refusal {
             Refusal::NoSuchFile => numbered(23, &[]),
             Refusal::DirectoryFull => numbered(24, &[]),
             Refusal::DiskFull => numbered(25, &[]),
+            Refusal::TooManyImages => numbered(26, &[]),
         }
     }
 }

@@ -72,3 +72,8 @@ directoryFull = record { number = 24; carries = [] }
 
 abbrev pub diskFull : Numbered
 diskFull = record { number = 25; carries = [] }
+
+-- Document 02, No. 12: counts over images. "26 TooManyImages at the 1,001st", which carries nothing.
+
+abbrev pub tooManyImages : Numbered
+tooManyImages = record { number = 26; carries = [] }

@@ -27,6 +27,8 @@ pub enum Refusal {
     NoSuchFile,
     DirectoryFull,
     DiskFull,
+    // Of counting, at the 1,001st image.
+    TooManyImages,
 }
 
 // An answer as numbers, for callers in other languages: 0 or a refusal's number, how many values it carries, and the values, 0 where
@@ -97,5 +99,6 @@ pub fn refusal_code(refusal: Refusal) -> Code
         Refusal::NoSuchFile => bare(23),
         Refusal::DirectoryFull => bare(24),
         Refusal::DiskFull => bare(25),
+        Refusal::TooManyImages => bare(26),
     }
 }

@@ -157,6 +157,9 @@ returns-19 c = by-case (c .bare9 .ensures) (c .before .enum-told9 .given .1)
 returns-20 : tie.Need-returns-20
 returns-20 c = by-case (c .bare10 .ensures) (c .before .enum-told10 .given .1)
 
+returns-21 : tie.Need-returns-21
+returns-21 c = by-case (c .bare11 .ensures) (c .before .enum-told11 .given .1)
+
 pub refusal-code-spec : {M : Type 1} → statement M
 refusal-code-spec =
     tie.close
@@ -201,6 +204,8 @@ refusal-code-spec =
     (λ c κs. search needs)
     (λ c. search needs)
     (λ c κs. search needs)
+    (λ c. search needs)
+    (λ c κs. search needs)
     returns
     returns-2
     returns-3
@@ -220,4 +225,5 @@ refusal-code-spec =
     returns-17
     returns-18
     returns-19
-    returns-20)
+    returns-20
+    returns-21)
