@@ -73,7 +73,7 @@ pub fn put(out: &mut [u8], at: usize, text: &[u8]) -> usize
 }
 
 // The TSB word of 64 and the byte behind it; empty where there is none.
-fn tsb_word<'a>(bytes: &'a [u8], starts: &[u16], b: u8) -> &'a [u8]
+pub fn tsb_word<'a>(bytes: &'a [u8], starts: &[u16], b: u8) -> &'a [u8]
     requires { ⌜ SpellsTexts (now bytes) (now starts) ⌝ }
     ensures { λ r. ⌜ now r ≡ tsbText b ⌝ }
 {
@@ -84,7 +84,8 @@ fn tsb_word<'a>(bytes: &'a [u8], starts: &[u16], b: u8) -> &'a [u8]
     texts::text_at(bytes, starts, id)
 }
 
-fn tsb_id(b: u8) -> u8
+// The byte that a TSB word is listed under: B1, B2 and B3 are read as 3E, 3D and 3C.
+pub fn tsb_id(b: u8) -> u8
     ensures { λ r. ⌜ r ≡ tsbId b ⌝ }
 {
     match b {

@@ -1,0 +1,10 @@
+pub mod Bodies
+pub mod Bounds
+pub mod Laws
+pub mod Raising
+pub mod Shares
+pub mod Table
+pub mod Taking
+pub mod Tallying
+pub mod Thousand
+pub mod Tight

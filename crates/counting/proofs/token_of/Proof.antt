@@ -1,0 +1,42 @@
+-- `counting::token_of` meets its contract.
+-- Assumes nothing.
+use Rattle.counting.proofs.Raising.{char-none, token-itself, pair-token, pair-none, lone-none, remarked-none}
+use borrow.Author.Needs.{needs}
+use Rattle.counting.proofs.token_of.Statement.{statement}
+use Rattle.counting.proofs.token_of.Tie as tie
+
+returns : tie.Need-returns
+returns c = search pair-token
+
+returns-2 : tie.Need-returns-2
+returns-2 c = search char-none
+
+returns-3 : tie.Need-returns-3
+returns-3 c = search token-itself
+
+returns-4 : tie.Need-returns-4
+returns-4 c = search pair-none
+
+returns-5 : tie.Need-returns-5
+returns-5 c = search lone-none
+
+returns-6 : tie.Need-returns-6
+returns-6 c = search remarked-none
+
+pub token-of-spec : {M : Type 1} → statement M
+token-of-spec =
+    tie.close
+    (tie.spec
+    (λ c. search needs)
+    (λ c. search needs)
+    (λ c. search needs)
+    (λ c κs. search needs)
+    (λ c κs. search needs)
+    returns
+    (λ c. search needs)
+    (λ c. search needs)
+    returns-2
+    returns-3
+    returns-4
+    returns-5
+    returns-6)

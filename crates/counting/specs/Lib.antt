@@ -1,0 +1,5 @@
+pub mod Carried
+pub mod CountedTable
+pub mod TallyHelpers
+pub mod Tokens
+pub mod Totals

@@ -1,0 +1,28 @@
+-- For the functions below the public ones alone: how far numbers can be raised, and what has been counted.
+-- Assumes nothing.
+use Prim.Native.Nat.{ℕ, _+_, _≤_}
+use mathlib.Core.Path.{_≡_}
+use mathlib.Core.Bool.{cond}
+use mathlib.Core.List.{List, [], _∷_}
+use lib.Dec.{ltb}
+use lib.ListN.{length, getD}
+use Rattle.refusals.specs.Answer.{Answer, done}
+use Rattle.counting.specs.Totals.{tally, added}
+
+-- a token below CC; what is not below is none
+unfoldable pub only : ℕ → List ℕ
+only k = cond (ltb k 0xCC) (k ∷ []) []
+
+-- 206 numbers, each of which can be raised n times
+pub record Raisable (n : ℕ) (t : List ℕ) : Type 0 where
+  pub long : length t ≡ 206
+  pub each : (k : ℕ) → getD t k 0 + n ≤ 18446744073709551615
+
+-- 206 numbers, none above what 1,000 images can give
+pub record Small (t : List ℕ) : Type 0 where
+  pub long : length t ≡ 206
+  pub each : (k : ℕ) → getD t k 0 ≤ 1048576000
+
+-- marks, where there are any, on top of totals
+pub record Tallied (a : Answer (List ℕ)) (t t′ : List ℕ) : Type 0 where
+  pub is : (ms : List ℕ) → a ≡ done ms → t′ ≡ added t (tally ms)

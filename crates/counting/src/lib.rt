@@ -1,0 +1,258 @@
+// Which words are used: how often each token stands in images, and its share (document 02, No. 12).
+//
+// Totals are 206 numbers that the caller lends and carries from image to image; empty ones are all 0. A token's count stands at the token's
+// own number: those of V2 at 80 to CB, those of TSB at the byte behind 64. Behind them stand the images taken and, among these, the
+// refused ones.
+ghost use mathlib.Core.Path.{_≡_};
+ghost use Prim.Native.Nat.{_+_, _≤_, _<_, min};
+ghost use mathlib.Core.List.{[], _∷_};
+ghost use lib.ListN.{length};
+ghost use Rattle.tables.specs.Texts.{SpellsTexts};
+ghost use Rattle.counting.specs.Tokens.{countRules, countedAs, tokensOf, tokensIn};
+ghost use Rattle.counting.specs.Totals.{tally, added, isTotals, tokensSum, tokensCounted, shareOf};
+ghost use Rattle.counting.specs.Carried.{carried, withMarks, withImage, joined};
+ghost use Rattle.counting.specs.TallyHelpers.{only, Raisable, Small, Tallied};
+use readers::By;
+use readers::Checked;
+use readers::Step;
+use refusals::Refusal;
+use tables::texts;
+use units::Mode;
+use units::Rules;
+use units::Unit;
+
+// How many numbers totals have.
+pub const LENGTH: usize = 206;
+
+// Where the images taken stand, and among these the refused ones. Tokens stand below.
+pub const TAKEN: usize = 0xCC;
+
+pub const REFUSED: usize = 0xCD;
+
+// An image has at most this many bytes, so fewer tokens than that.
+const LONGEST: u64 = 1048576;
+
+const MOST_IMAGES: u64 = 1000;
+
+// What carrying totals on came to.
+pub enum Carried {
+    // The image's tokens are counted, or the other totals are joined.
+    Taken,
+    // The image is counted apart: reading by terminators refuses it.
+    Apart(Refusal),
+    // The totals are as they were.
+    Refused(Refusal),
+    // The numbers are no totals: no images give them. They are as they were.
+    NoTotals,
+}
+
+// Takes one more image into the totals.
+pub fn add_image(totals: &mut [u64], image: &[u8]) -> Carried
+    ensures { λ r. ⌜ carried r (now (totals .exit)) ≡ withImage (now (totals .entry)) (now (image .entry)) ⌝ }
+{
+    if !are_totals(totals) {
+        return Carried::NoTotals;
+    }
+    if totals[TAKEN] >= MOST_IMAGES {
+        return Carried::Refused(Refusal::TooManyImages);
+    }
+    take_image(totals, image)
+}
+
+// Joins the totals of other images to the totals.
+pub fn join(totals: &mut [u64], other: &[u64]) -> Carried
+    ensures { λ r. ⌜ carried r (now (totals .exit)) ≡ joined (now (totals .entry)) (now (other .entry)) ⌝ }
+{
+    if !are_totals(totals) {
+        return Carried::NoTotals;
+    }
+    if !are_totals(other) {
+        return Carried::NoTotals;
+    }
+    if totals[TAKEN] + other[TAKEN] > MOST_IMAGES {
+        return Carried::Refused(Refusal::TooManyImages);
+    }
+    add_all(totals, other);
+    Carried::Taken
+}
+
+// Whether numbers are totals that images can give.
+pub fn are_totals(totals: &[u64]) -> bool
+    ensures { λ r. ⌜ r ≡ isTotals (now (totals .entry)) ⌝ }
+{
+    if totals.len() != LENGTH {
+        return false;
+    }
+    let taken = totals[TAKEN];
+    if taken > MOST_IMAGES {
+        return false;
+    }
+    if totals[REFUSED] > taken {
+        return false;
+    }
+    let most = LONGEST * taken;
+    sum_up_to(totals, most) <= most
+}
+
+// How many tokens are counted in all; none where the numbers are no totals.
+pub fn tokens(totals: &[u64]) -> u64
+    ensures { λ r. ⌜ r ≡ tokensCounted (now (totals .entry)) ⌝ }
+{
+    if are_totals(totals) {
+        return sum_up_to(totals, LONGEST * MOST_IMAGES);
+    }
+    0
+}
+
+// The share of a token in all tokens counted, in thousandths, rounded down; 0 where none is counted, and of what is no token.
+pub fn share(totals: &[u64], token: u8) -> u64
+    ensures { λ r. ⌜ r ≡ shareOf (now (totals .entry)) token ⌝ }
+{
+    let sum = tokens(totals);
+    if sum == 0 {
+        return 0;
+    }
+    let k = token as usize;
+    if k >= TAKEN {
+        return 0;
+    }
+    1000 * totals[k] / sum
+}
+
+// The tokens' counts together, or one more than most where they are more.
+fn sum_up_to(totals: &[u64], most: u64) -> u64
+    requires { ⌜ (length (now totals) ≡ 206) × (most ≤ 1048576000) ⌝ }
+    ensures { λ r. ⌜ r ≡ min (tokensSum (now (totals .entry))) (most + 1) ⌝ }
+{
+    let mut k: usize = 0;
+    let mut sum: u64 = 0;
+    while k < TAKEN {
+        let count = totals[k];
+        if count > most - sum {
+            return most + 1;
+        }
+        sum += count;
+        k += 1;
+    }
+    sum
+}
+
+// Adds other totals, place by place.
+fn add_all(totals: &mut [u64], other: &[u64])
+    requires { ⌜ Small (now totals) × Small (now other) ⌝ }
+    ensures { λ r. ⌜ now (totals .exit) ≡ added (now (totals .entry)) (now (other .entry)) ⌝ }
+{
+    let mut k: usize = 0;
+    while k < totals.len() {
+        totals[k] += other[k];
+        k += 1;
+    }
+}
+
+fn take_image(totals: &mut [u64], image: &[u8]) -> Carried
+    requires { ⌜ Raisable 1048577 (now totals) ⌝ }
+    ensures { λ r. ⌜ carried r (now (totals .exit)) ≡ withMarks (now (totals .entry)) (tokensIn (now (image .entry))) ⌝ }
+{
+    raise(totals, TAKEN);
+    match readers::check_by(image, By::Terminators) {
+        Checked::Image { load: _, lines: _ } => {
+            count_image(totals, &texts::TEXT_BYTES, &texts::TEXT_STARTS, image);
+            Carried::Taken
+        }
+        Checked::Refused(refusal) => {
+            raise(totals, REFUSED);
+            Carried::Apart(refusal)
+        }
+    }
+}
+
+// Counts the tokens of an image that reading accepts.
+fn count_image(totals: &mut [u64], bytes: &[u8], starts: &[u16], image: &[u8])
+    requires { ⌜ SpellsTexts (now bytes) (now starts) × Raisable 1048576 (now totals) ⌝ }
+    ensures { λ r. ⌜ Tallied (tokensIn (now (image .entry))) (now (totals .entry)) (now (totals .exit)) ⌝ }
+{
+    let mut offset: usize = 2;
+    loop {
+        match readers::step_by(image, offset, By::Terminators) {
+            Step::Found(line) => {
+                let from = line.from;
+                let to = line.to;
+                count_body(totals, bytes, starts, &image[from..to]);
+                offset = line.next;
+            }
+            Step::End => {
+                return;
+            }
+            // An image that is accepted is refused nowhere.
+            Step::Refused(_) => {
+                return;
+            }
+        }
+    }
+}
+
+// Counts the tokens of a body.
+fn count_body(totals: &mut [u64], bytes: &[u8], starts: &[u16], body: &[u8])
+    requires { ⌜ SpellsTexts (now bytes) (now starts) × Raisable (length (now body)) (now totals) ⌝ }
+    ensures { λ r. ⌜ now (totals .exit) ≡ added (now (totals .entry)) (tally (tokensOf (now (body .entry)))) ⌝ }
+{
+    let rules = count_rules();
+    let mut i: usize = 0;
+    let mut mode = Mode::Plain;
+    while i < body.len() {
+        let taken = units::unit_at(body, i, mode, rules);
+        let unit = taken.unit;
+        count_unit(totals, bytes, starts, unit);
+        i += taken.used;
+        mode = taken.mode;
+    }
+}
+
+// What counting heeds.
+fn count_rules() -> Rules
+    ensures { λ r. ⌜ r ≡ countRules ⌝ }
+{
+    Rules {
+        prefix: true,
+        remarks: true,
+        items: false,
+    }
+}
+
+// Counts a unit as its token, if it has one.
+fn count_unit(totals: &mut [u64], bytes: &[u8], starts: &[u16], unit: Unit)
+    requires { ⌜ SpellsTexts (now bytes) (now starts) × Raisable 1 (now totals) ⌝ }
+    ensures { λ r. ⌜ now (totals .exit) ≡ added (now (totals .entry)) (tally (countedAs unit)) ⌝ }
+{
+    let k = token_of(bytes, starts, unit) as usize;
+    if k < TAKEN {
+        raise(totals, k);
+    }
+}
+
+// The token that a unit counts as; FF, which is no token, where it counts as none.
+fn token_of(bytes: &[u8], starts: &[u16], unit: Unit) -> u8
+    requires { ⌜ SpellsTexts (now bytes) (now starts) ⌝ }
+    ensures { λ r. ⌜ only r ≡ countedAs unit ⌝ }
+{
+    match unit {
+        Unit::Char(_) => 0xFF,
+        Unit::Token(b) => b,
+        Unit::Pair(b) => {
+            if pieces::tsb_word(bytes, starts, b).len() > 0 {
+                return pieces::tsb_id(b);
+            }
+            0xFF
+        }
+        Unit::Lone => 0xFF,
+        Unit::Remarked(_) => 0xFF,
+    }
+}
+
+// Makes a mark: raises one of the totals by 1.
+fn raise(totals: &mut [u64], k: usize)
+    requires { ⌜ (k < 206) × Raisable 1 (now totals) ⌝ }
+    ensures { λ r. ⌜ now (totals .exit) ≡ added (now (totals .entry)) (tally (k ∷ [])) ⌝ }
+{
+    totals[k] += 1;
+}
