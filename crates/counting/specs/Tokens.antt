@@ -1,9 +1,9 @@
 -- The tokens that are counted (document 02, No. 12: "for each V2 token and each TSB token, how often it occurs unquoted outside remarks
 -- (their 8F counts)"; "Images are read by terminators as the listing reads them; a pair after 64 that is no TSB word counts as nothing").
 -- Assumes nothing.
-use Prim.Native.Nat.{ℕ}
+use Prim.Native.Nat.{ℕ, zero, suc}
 use mathlib.Core.Bool.{true, false, cond}
-use mathlib.Core.List.{List, [], _∷_, flatMap}
+use mathlib.Core.List.{List, [], _∷_, _++_, flatMap}
 use lib.Dec.{ltb}
 use Rattle.refusals.specs.Answer.{Answer, mapDone}
 use Rattle.readers.specs.declared.By.the-variants.{Terminators}
@@ -47,3 +47,19 @@ tokensFrom image p = mapDone (flatMap (λ (l : NumberedBody). tokensOf (l .body)
 -- the tokens of an image
 abbrev pub tokensIn : List ℕ → Answer (List ℕ)
 tokensIn image = tokensFrom image 2
+
+-- n numbers from k on
+unfoldable pub upFrom : ℕ → ℕ → List ℕ
+upFrom zero k = []
+upFrom (suc n) k = k ∷ upFrom n (suc k)
+
+-- of n bytes from k on those that are TSB tokens
+unfoldable pub tsbTokensFrom : ℕ → ℕ → List ℕ
+unfolding tsbText
+tsbTokensFrom zero k = []
+tsbTokensFrom (suc n) k = ifWord (tsbText k) k ++ tsbTokensFrom n (suc k)
+
+-- the tokens that are counted: those of V2, 80 to CB, then those of TSB, below 80
+unfoldable pub countedTokens : List ℕ
+unfolding upFrom tsbTokensFrom
+countedTokens = upFrom 76 0x80 ++ tsbTokensFrom 0x80 0
