@@ -1,0 +1,5 @@
+pub mod Opening
+pub mod Stepping
+pub mod Table
+pub mod Targets
+pub mod Walking

@@ -1,0 +1,2 @@
+pub mod JumpHelpers
+pub mod Jumps
