@@ -47,7 +47,9 @@ enum {
     MOLDTHATCH_NO_SUCH_FILE = 23,
     MOLDTHATCH_DIRECTORY_FULL = 24,
     MOLDTHATCH_DISK_FULL = 25,
-    MOLDTHATCH_TOO_MANY_IMAGES = 26
+    MOLDTHATCH_TOO_MANY_IMAGES = 26,
+    MOLDTHATCH_TOO_MANY_LINES = 27,
+    MOLDTHATCH_TARGET_TOO_HIGH = 28
 };
 
 /* The limits: the most bytes of a text and of an image (beyond them, 1 and 7), and

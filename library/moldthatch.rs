@@ -68,6 +68,8 @@ pub enum Refusal {
     DirectoryFull,
     DiskFull,
     TooManyImages,
+    TooManyLines,
+    TargetTooHigh,
     /// A number that this module does not know, from a newer library, with the two values beside it.
     Other {
         number: u8,
@@ -103,6 +105,8 @@ impl Refusal {
             24 => Refusal::DirectoryFull,
             25 => Refusal::DiskFull,
             26 => Refusal::TooManyImages,
+            27 => Refusal::TooManyLines,
+            28 => Refusal::TargetTooHigh,
             _ => Refusal::Other {
                 number,
                 first,
@@ -135,6 +139,8 @@ impl Refusal {
             Refusal::DirectoryFull => (24, 0, 0),
             Refusal::DiskFull => (25, 0, 0),
             Refusal::TooManyImages => (26, 0, 0),
+            Refusal::TooManyLines => (27, 0, 0),
+            Refusal::TargetTooHigh => (28, 0, 0),
             Refusal::Other {
                 number,
                 first,

@@ -29,10 +29,12 @@ pub enum Refusal {
     DirectoryFull,
     DiskFull,
     TooManyImages,
+    TooManyLines,
+    TargetTooHigh,
 }
 
 /// Number, name and carried values of each refusal that the judge can give.
-const TABLE: [(u8, &str, &[&str]); 22] = [
+const TABLE: [(u8, &str, &[&str]); 24] = [
     (1, "TextTooLong", &["length"]),
     (2, "BadByte", &["offset"]),
     (3, "MissingLineNumber", &["text line"]),
@@ -55,6 +57,8 @@ const TABLE: [(u8, &str, &[&str]); 22] = [
     (24, "DirectoryFull", &[]),
     (25, "DiskFull", &[]),
     (26, "TooManyImages", &[]),
+    (27, "TooManyLines", &[]),
+    (28, "TargetTooHigh", &[]),
 ];
 
 /// The name of the refusal with this number, and what it carries.
@@ -89,6 +93,8 @@ impl Refusal {
             Refusal::DirectoryFull => numbered(24, &[]),
             Refusal::DiskFull => numbered(25, &[]),
             Refusal::TooManyImages => numbered(26, &[]),
+            Refusal::TooManyLines => numbered(27, &[]),
+            Refusal::TargetTooHigh => numbered(28, &[]),
         }
     }
 }

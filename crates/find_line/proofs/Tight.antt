@@ -8,7 +8,7 @@ use lib.Dec.{eqb}
 use Rattle.refusals.specs.Numbers.{Numbered}
 use Rattle.refusals.specs.Answer.{Answer, done, refused, numbered}
 use Rattle.refusals.specs.declared.Refusal.{Refusal}
-use Rattle.refusals.specs.declared.Refusal.the-variants.{TextTooLong, BadByte, MissingLineNumber, LineNumberOutOfRange, AddressOverflow, NoRoom, ImageTooLong, TooShort, UnexpectedEof, MissingEnd, LinkBackward, LinkOutside, LinkNoEnd, UnknownDialect, BadDisk, BadName, NameTaken, NoSuchFile, DirectoryFull, DiskFull, TooManyImages}
+use Rattle.refusals.specs.declared.Refusal.the-variants.{TextTooLong, BadByte, MissingLineNumber, LineNumberOutOfRange, AddressOverflow, NoRoom, ImageTooLong, TooShort, UnexpectedEof, MissingEnd, LinkBackward, LinkOutside, LinkNoEnd, UnknownDialect, BadDisk, BadName, NameTaken, NoSuchFile, DirectoryFull, DiskFull, TooManyImages, TooManyLines, TargetTooHigh}
 use Rattle.refusals.proofs.Tight.{named, named-numbered, tells-apart}
 use Rattle.find_line.specs.declared.Sought.{Sought}
 use Rattle.find_line.specs.declared.Sought.the-variants.{Found as FoundLine, Nowhere, LimitReached, Refused}
@@ -47,6 +47,8 @@ other-number NoSuchFile = refl
 other-number DirectoryFull = refl
 other-number DiskFull = refl
 other-number TooManyImages = refl
+other-number TooManyLines = refl
+other-number TargetTooHigh = refl
 
 sought-back : (r : Sought) → soughtOf (soughtAnswer r) ≡ r
 unfolding soughtOf byNumber

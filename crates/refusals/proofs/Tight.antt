@@ -7,7 +7,7 @@ use lib.ListN.{getD}
 use Rattle.refusals.specs.Numbers.{Numbered}
 use Rattle.refusals.specs.Answer.{numbered}
 use Rattle.refusals.specs.declared.Refusal.{Refusal}
-use Rattle.refusals.specs.declared.Refusal.the-variants.{TextTooLong, BadByte, MissingLineNumber, LineNumberOutOfRange, AddressOverflow, NoRoom, ImageTooLong, TooShort, UnexpectedEof, MissingEnd, LinkBackward, LinkOutside, LinkNoEnd, UnknownDialect, BadDisk, BadName, NameTaken, NoSuchFile, DirectoryFull, DiskFull, TooManyImages}
+use Rattle.refusals.specs.declared.Refusal.the-variants.{TextTooLong, BadByte, MissingLineNumber, LineNumberOutOfRange, AddressOverflow, NoRoom, ImageTooLong, TooShort, UnexpectedEof, MissingEnd, LinkBackward, LinkOutside, LinkNoEnd, UnknownDialect, BadDisk, BadName, NameTaken, NoSuchFile, DirectoryFull, DiskFull, TooManyImages, TooManyLines, TargetTooHigh}
 
 -- the refusal of a number and values
 unfoldable pub named : Numbered → Refusal
@@ -15,7 +15,7 @@ named n =
     let a = getD (n .carries) 0 0 in
     let b = getD (n .carries) 1 0 in
     getD
-    (TextTooLong a ∷ BadByte a ∷ MissingLineNumber a ∷ LineNumberOutOfRange a b ∷ AddressOverflow ∷ NoRoom a ∷ ImageTooLong a ∷ TooShort ∷ UnexpectedEof ∷ MissingEnd a ∷ LinkBackward a ∷ LinkOutside a ∷ LinkNoEnd a ∷ UnknownDialect ∷ UnknownDialect ∷ UnknownDialect ∷ UnknownDialect ∷ UnknownDialect ∷ UnknownDialect ∷ BadDisk ∷ BadName ∷ NameTaken ∷ NoSuchFile ∷ DirectoryFull ∷ DiskFull ∷ TooManyImages ∷ [])
+    (TextTooLong a ∷ BadByte a ∷ MissingLineNumber a ∷ LineNumberOutOfRange a b ∷ AddressOverflow ∷ NoRoom a ∷ ImageTooLong a ∷ TooShort ∷ UnexpectedEof ∷ MissingEnd a ∷ LinkBackward a ∷ LinkOutside a ∷ LinkNoEnd a ∷ UnknownDialect ∷ UnknownDialect ∷ UnknownDialect ∷ UnknownDialect ∷ UnknownDialect ∷ UnknownDialect ∷ BadDisk ∷ BadName ∷ NameTaken ∷ NoSuchFile ∷ DirectoryFull ∷ DiskFull ∷ TooManyImages ∷ TooManyLines ∷ TargetTooHigh ∷ [])
     (n .number - 1)
     UnknownDialect
 
@@ -42,6 +42,8 @@ named-numbered NoSuchFile = refl
 named-numbered DirectoryFull = refl
 named-numbered DiskFull = refl
 named-numbered TooManyImages = refl
+named-numbered TooManyLines = refl
+named-numbered TargetTooHigh = refl
 
 -- what has a left inverse tells its arguments apart
 pub tells-apart : {A B : Type 0} (f : A → B) (g : B → A) → ((a : A) → g (f a) ≡ a) → (a b : A) → f a ≡ f b → a ≡ b

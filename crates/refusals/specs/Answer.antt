@@ -2,9 +2,9 @@
 -- Assumes nothing.
 use Prim.Native.Nat.{ℕ}
 use mathlib.Core.List.{List}
-use Rattle.refusals.specs.Numbers.{Numbered, textTooLong, badByte, missingLineNumber, lineNumberOutOfRange, addressOverflow, noRoom, imageTooLong, tooShort, unexpectedEof, missingEnd, linkBackward, linkOutside, linkNoEnd, unknownDialect, badDisk, badName, nameTaken, noSuchFile, directoryFull, diskFull, tooManyImages}
+use Rattle.refusals.specs.Numbers.{Numbered, textTooLong, badByte, missingLineNumber, lineNumberOutOfRange, addressOverflow, noRoom, imageTooLong, tooShort, unexpectedEof, missingEnd, linkBackward, linkOutside, linkNoEnd, unknownDialect, badDisk, badName, nameTaken, noSuchFile, directoryFull, diskFull, tooManyImages, tooManyLines, targetTooHigh}
 use Rattle.refusals.specs.declared.Refusal.{Refusal}
-use Rattle.refusals.specs.declared.Refusal.the-variants.{TextTooLong, BadByte, MissingLineNumber, LineNumberOutOfRange, AddressOverflow, NoRoom, ImageTooLong, TooShort, UnexpectedEof, MissingEnd, LinkBackward, LinkOutside, LinkNoEnd, UnknownDialect, BadDisk, BadName, NameTaken, NoSuchFile, DirectoryFull, DiskFull, TooManyImages}
+use Rattle.refusals.specs.declared.Refusal.the-variants.{TextTooLong, BadByte, MissingLineNumber, LineNumberOutOfRange, AddressOverflow, NoRoom, ImageTooLong, TooShort, UnexpectedEof, MissingEnd, LinkBackward, LinkOutside, LinkNoEnd, UnknownDialect, BadDisk, BadName, NameTaken, NoSuchFile, DirectoryFull, DiskFull, TooManyImages, TooManyLines, TargetTooHigh}
 
 pub data Answer (A : Type 0) : Type 0 where
   done : A → Answer A
@@ -33,6 +33,8 @@ numbered NoSuchFile = noSuchFile
 numbered DirectoryFull = directoryFull
 numbered DiskFull = diskFull
 numbered TooManyImages = tooManyImages
+numbered TooManyLines = tooManyLines
+numbered TargetTooHigh = targetTooHigh
 
 -- the same refusal, or the result taken further
 abbrev pub mapDone : {A B : Type 0} → (A → B) → Answer A → Answer B

@@ -77,3 +77,11 @@ diskFull = record { number = 25; carries = [] }
 
 abbrev pub tooManyImages : Numbered
 tooManyImages = record { number = 26; carries = [] }
+
+-- Document 02, No. 13: a line index beside the image. Both carry nothing.
+
+abbrev pub tooManyLines : Numbered
+tooManyLines = record { number = 27; carries = [] }
+
+abbrev pub targetTooHigh : Numbered
+targetTooHigh = record { number = 28; carries = [] }

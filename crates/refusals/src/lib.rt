@@ -29,6 +29,9 @@ pub enum Refusal {
     DiskFull,
     // Of counting, at the 1,001st image.
     TooManyImages,
+    // Of a line index, in this and the next.
+    TooManyLines,
+    TargetTooHigh,
 }
 
 // An answer as numbers, for callers in other languages: 0 or a refusal's number, how many values it carries, and the values, 0 where
@@ -100,5 +103,7 @@ pub fn refusal_code(refusal: Refusal) -> Code
         Refusal::DirectoryFull => bare(24),
         Refusal::DiskFull => bare(25),
         Refusal::TooManyImages => bare(26),
+        Refusal::TooManyLines => bare(27),
+        Refusal::TargetTooHigh => bare(28),
     }
 }

@@ -160,6 +160,12 @@ returns-20 c = by-case (c .bare10 .ensures) (c .before .enum-told10 .given .1)
 returns-21 : tie.Need-returns-21
 returns-21 c = by-case (c .bare11 .ensures) (c .before .enum-told11 .given .1)
 
+returns-22 : tie.Need-returns-22
+returns-22 c = by-case (c .bare12 .ensures) (c .before .enum-told12 .given .1)
+
+returns-23 : tie.Need-returns-23
+returns-23 c = by-case (c .bare13 .ensures) (c .before .enum-told13 .given .1)
+
 pub refusal-code-spec : {M : Type 1} → statement M
 refusal-code-spec =
     tie.close
@@ -206,6 +212,10 @@ refusal-code-spec =
     (λ c κs. search needs)
     (λ c. search needs)
     (λ c κs. search needs)
+    (λ c. search needs)
+    (λ c κs. search needs)
+    (λ c. search needs)
+    (λ c κs. search needs)
     returns
     returns-2
     returns-3
@@ -226,4 +236,6 @@ refusal-code-spec =
     returns-18
     returns-19
     returns-20
-    returns-21)
+    returns-21
+    returns-22
+    returns-23)
