@@ -1,4 +1,3 @@
 pub mod Laws
-pub mod Named
 pub mod Ranges
 pub mod Searching

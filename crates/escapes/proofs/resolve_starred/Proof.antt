@@ -1,6 +1,6 @@
 -- `escapes::resolve_starred` meets its contract.
 -- Assumes nothing.
-use Rattle.ascii.proofs.Named.{the}
+use Rattle.steps.proofs.The.{the}
 use Rattle.escapes.proofs.Resolving.{starred-missing, starred-zero, starred-counted, star-taken}
 use borrow.Author.Needs.{needs}
 use Rattle.escapes.proofs.resolve_starred.Statement.{statement}

@@ -3,7 +3,7 @@
 use Prim.Native.Nat.{_-_}
 use lib.ListN.{length}
 use Rattle.words.proofs.Comparing.{Going, begins-short, going-start, going-turn, going-other, going-end}
-use Rattle.ascii.proofs.Named.{the}
+use Rattle.steps.proofs.The.{the}
 use borrow.Author.Needs.{needs}
 use Rattle.words.proofs.goes_on.Statement.{statement}
 use Rattle.words.proofs.goes_on.Tie as tie

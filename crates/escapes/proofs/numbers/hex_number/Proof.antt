@@ -1,7 +1,7 @@
 -- `escapes::numbers::hex_number` meets its contract.
 -- Assumes nothing.
 use Rattle.escapes.proofs.Numbering.{hex-empty, hex-other, hex-digits}
-use Rattle.ascii.proofs.Named.{the}
+use Rattle.steps.proofs.The.{the}
 use borrow.Author.Needs.{needs}
 use Rattle.escapes.proofs.numbers.hex_number.Statement.{statement}
 use Rattle.escapes.proofs.numbers.hex_number.Tie as tie

@@ -5,7 +5,7 @@ use native.Mathlib.Omega.{arith}
 use lib.ListN.{length}
 use Rattle.escapes.specs.Numbers.{numberOf}
 use Rattle.escapes.proofs.Numbering.{number-empty, Made, made-start, made-other, made-over, made-fits, made-turn, made-end}
-use Rattle.ascii.proofs.Named.{the}
+use Rattle.steps.proofs.The.{the}
 use borrow.Author.Needs.{needs}
 use Rattle.escapes.proofs.numbers.number_in.Statement.{statement}
 use Rattle.escapes.proofs.numbers.number_in.Tie as tie

@@ -1,7 +1,7 @@
 -- `escapes::numbers::without_plus` meets its contract.
 -- Assumes nothing.
 use Rattle.escapes.proofs.Numbering.{plus-empty, plus-other, plus-left-out}
-use Rattle.ascii.proofs.Named.{the}
+use Rattle.steps.proofs.The.{the}
 use borrow.Author.Needs.{needs}
 use Rattle.escapes.proofs.numbers.without_plus.Statement.{statement}
 use Rattle.escapes.proofs.numbers.without_plus.Tie as tie

@@ -1,6 +1,6 @@
 -- `lines::number::number_line` meets its contract: a law for each answer.
 -- Assumes nothing.
-use Rattle.ascii.proofs.Named.{the}
+use Rattle.steps.proofs.The.{the}
 use Rattle.lines.proofs.Numbers.{line-empty, line-blank, line-missing, line-range, count-within, count-fits, body-fits, end-fits, line-numbered}
 use borrow.Author.Needs.{needs}
 use Rattle.lines.proofs.number.number_line.Statement.{statement}

@@ -1,7 +1,7 @@
 -- `tables::matching::group_of` meets its contract.
 -- Assumes nothing.
 use Rattle.tables.proofs.Storage.{group-empty, group-outside, group-inside, group-low, group-fits, group-within}
-use Rattle.ascii.proofs.Named.{the}
+use Rattle.steps.proofs.The.{the}
 use borrow.Author.Needs.{needs}
 use Rattle.tables.proofs.matching.group_of.Statement.{statement}
 use Rattle.tables.proofs.matching.group_of.Tie as tie
