@@ -27,6 +27,7 @@ fn token_of(text: &[u8], bytes: &[u8], index: &[u16]) -> u8
     }
 }
 
+// Whether the row was written.
 fn print_row(k: u8) -> bool {
     let text_bytes = texts::TEXT_BYTES;
     let text = texts::text_at(&text_bytes, &texts::TEXT_STARTS, k);
@@ -36,9 +37,9 @@ fn print_row(k: u8) -> bool {
         petscii::hex_digit(token),
         b'\t',
     ];
-    io::write_all(STDOUT_FILENO, &head);
-    io::write_all(STDOUT_FILENO, text);
-    io::write_all(STDOUT_FILENO, b"\n")
+    io::write_all(STDOUT_FILENO, &head)
+        && io::write_all(STDOUT_FILENO, text)
+        && io::write_all(STDOUT_FILENO, b"\n")
 }
 
 fn main() {
