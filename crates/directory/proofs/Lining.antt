@@ -9,7 +9,7 @@ use lib.ListN.{length, getD, take, drop, drop-of-length-le}
 use Rattle.refusals.specs.Numbers.{badDisk}
 use Rattle.refusals.specs.Answer.{numbered}
 use Rattle.refusals.specs.declared.Refusal.the-variants.{BadDisk}
-use Rattle.tables.specs.Spelling.{bytesOf}
+use Rattle.words.specs.Spelling.{bytesOf}
 use Rattle.ascii.proofs.Searching.{here}
 use Rattle.sentences.specs.Decimal.{inDecimal}
 use Rattle.sentences.specs.Clipped.{Clipped}

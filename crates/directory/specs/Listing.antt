@@ -10,7 +10,7 @@ use Rattle.refusals.specs.Numbers.{badDisk}
 use Rattle.refusals.specs.Answer.{numbered}
 use Rattle.lent.specs.declared.Outcome.{Outcome}
 use Rattle.lent.specs.declared.Outcome.the-variants.{Done, Refused}
-use Rattle.tables.specs.Spelling.{bytesOf}
+use Rattle.words.specs.Spelling.{bytesOf}
 use Rattle.sentences.specs.Decimal.{inDecimal}
 use Rattle.sentences.specs.Clipped.{Clipped}
 use Rattle.d64.specs.Entries.{listed, nameAt, chainOf}

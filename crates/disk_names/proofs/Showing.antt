@@ -12,8 +12,8 @@ use mir.Syntax.{w8}
 use borrow.Author.Tests.{eq-eqb, ne-eqb}
 use Rattle.ascii.specs.Bytes.{between}
 use Rattle.ascii.proofs.Searching.{here}
-use Rattle.tables.specs.Texts.{hexDigits, hexByte}
-use Rattle.tables.proofs.ByteTexts.{hex-digits}
+use Rattle.petscii.specs.ByteTexts.{hexDigits, hexByte}
+use Rattle.petscii.proofs.ByteTexts.{hex-digits}
 use Rattle.sentences.specs.Clipped.{Clipped}
 use Rattle.sentences.proofs.Clipping.{Owes, owes-all, owes-less, owes-none, clip-as}
 use Rattle.disk_names.specs.Names.{isShown, byteShown, nameShown}

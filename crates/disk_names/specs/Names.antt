@@ -8,7 +8,7 @@ use mathlib.Core.List.{List, [], _∷_, _++_}
 use lib.Dec.{leb, ltb, eqb}
 use lib.ListN.{length, getD}
 use Rattle.ascii.specs.Bytes.{between, upper, isDigit}
-use Rattle.tables.specs.Texts.{hexByte}
+use Rattle.petscii.specs.ByteTexts.{hexByte}
 use Rattle.disk_names.specs.declared.Form.{Form}
 use Rattle.disk_names.specs.declared.Form.the-variants.{Byte, Nothing}
 

@@ -3,7 +3,7 @@ use ascii::search;
 use ascii::search::Found;
 use ascii::search::Kind;
 use sentences::put::put_text;
-use tables::petscii::hex_digit;
+use petscii::hex_digit;
 ghost use mathlib.Core.Path.{_≡_};
 ghost use Prim.Native.Nat.{_+_, _≤_, _<_};
 ghost use lib.ListN.{length, drop};

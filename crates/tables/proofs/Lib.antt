@@ -1,4 +1,5 @@
 pub mod Groups
+pub mod Laid
 pub mod Lists
 pub mod Living
 pub mod Storage

@@ -1,20 +1,20 @@
--- The search in the stored words is the search in document 01's lists; and the tables that pass one computed test spell these lists.
+-- The search in the stored words is the search in document 01's lists.
 -- Assumes nothing.
-use Prim.Native.Nat.{ℕ, zero, suc, _+_, _-_, _≤_, _<_}
+use Prim.Native.Nat.{ℕ, suc, _+_, _-_, _≤_, _<_}
 use mathlib.Core.Path.{_≡_, refl, sym, ap, _∙_, subst}
 use mathlib.Core.Bool.{Bool, true, false, not, _&&_, false≢true}
 use mathlib.Core.List.{List, [], _∷_, map}
 use native.Mathlib.Omega.{arith}
-use lib.Dec.{T, leb, ltb, eqb, leb→le, ltb→lt, eqb→eq}
+use lib.Dec.{T, ltb, eqb, ltb→lt, eqb→eq}
 use lib.ListN.{length, getD, length-map}
 use borrow.Author.Tests.{lt-ltb, le-ltb, not-true, not-false}
 use mir.Syntax.{w64}
 use mir.Val.{Fits}
 use Rattle.ascii.specs.Bytes.{between, upper}
 use Rattle.ascii.proofs.Ranges.{between-in}
-use Rattle.words.specs.Compare.{begins, same, passes}
+use Rattle.words.specs.Compare.{passes}
 use Rattle.words.specs.Find.{Entry, firstThat, matchIn, wordIn, nameIn}
-use Rattle.words.specs.RunHelpers.{Lies, Ready, Stored, raised, wordOf, passesAt, firstFrom}
+use Rattle.words.specs.RunHelpers.{Ready, Stored, raised, wordOf, passesAt, firstFrom}
 use Rattle.words.specs.declared.Match.{Match}
 use Rattle.words.specs.declared.Match.the-variants.{Word, Nothing}
 use Rattle.words.specs.declared.Section.{Section}
@@ -22,15 +22,13 @@ use Rattle.words.specs.declared.Test.{Test}
 use Rattle.words.specs.declared.Test.the-variants.{Begins, Alike}
 use Rattle.words.proofs.Comparing.{raise-begins, raise-alike}
 use Rattle.words.proofs.Search.{and-left, and-right, first-from}
-use Rattle.words.proofs.Sameness.{same-eq, T-true}
-use Rattle.words.proofs.Storing.{allBelow, all-below, liesAt, lies-at}
 use Rattle.tables.specs.Rom.{v2Words, operators}
 use Rattle.tables.specs.Tsb.{tsbWords}
 use Rattle.tables.specs.Escapes.{escapeNames}
-use Rattle.tables.specs.WordsHelpers.{Placed, capitals, initial, grouped, storedWords, groupsOf, groupAt, wordFound, Held, wordsOf, SpellsWords}
+use Rattle.tables.specs.WordsHelpers.{Placed, capitals, initial, groupsOf, groupAt, wordFound, Held, wordsOf, SpellsWords}
 use Rattle.tables.specs.declared.matching.WordList.{WordList}
 use Rattle.tables.specs.declared.matching.WordList.the-variants.{V2, Operators, Tsb, Escapes}
-use Rattle.tables.proofs.Groups.{firstPlaced, ranged, Confined, first-grouped, confined-test, good, allGood, grouped-good, none-grouped, storedAt, good-at, passesPlaced, answer, first-stored, ready-word}
+use Rattle.tables.proofs.Groups.{firstPlaced, ranged, Confined, first-grouped, confined-test, good, allGood, grouped-good, storedAt, good-at, passesPlaced, answer, first-stored, ready-word}
 
 -- each list keeps the rule of groups: its words begin with bytes from 20 to 5F
 pub ranged-list : (l : WordList) → T (ranged (capitals (wordsOf l)))
@@ -105,11 +103,11 @@ part-stored text l from a b sp = record {
 
 -- ---- the look-up of a group
 
-groups-end : (l : WordList) → groupsOf l ≤ 815
-groups-end V2 = omega arith
-groups-end Operators = omega arith
-groups-end Tsb = omega arith
-groups-end Escapes = omega arith
+pub groups-within : (l : WordList) → (623 ≤ groupsOf l) × (groupsOf l ≤ 815)
+groups-within V2 = (omega arith, omega arith)
+groups-within Operators = (omega arith, omega arith)
+groups-within Tsb = (omega arith, omega arith)
+groups-within Escapes = (omega arith, omega arith)
 
 initial-first : (t : List ℕ) → (length t ≡ 0 → ⊥) → initial t ≡ upper (getD t 0 0)
 unfolding initial
@@ -141,10 +139,18 @@ module _ (u : ℕ) {r : Bool} where
   group-low n e = between-in 32 95 u (sym e ∙ not-false r n) .0
 
   pub group-fits : (l : WordList) {g w : ℕ} → w ≡ u - 32 → g ≡ groupsOf l → not r ≡ false → r ≡ between 32 95 u → Fits w64 (g + w)
-  group-fits l d k n e = record { fits = omega (arith, groups-end l, between-in 32 95 u (sym e ∙ not-false r n)) }
+  group-fits l d k n e = record { fits = omega (arith, groups-within l, between-in 32 95 u (sym e ∙ not-false r n)) }
 
   pub group-within : (l : WordList) (index : List ℕ) {g w : ℕ} → w ≡ u - 32 → g ≡ groupsOf l → not r ≡ false → r ≡ between 32 95 u → 880 ≤ length index → g + w + 1 < length index
-  group-within l index d k n e s = omega (arith, groups-end l, between-in 32 95 u (sym e ∙ not-false r n))
+  group-within l index d k n e s = omega (arith, groups-within l, between-in 32 95 u (sym e ∙ not-false r n))
+
+pub section-read : (index : List ℕ) (at : ℕ) {from to : ℕ} → from ≡ getD index at 0 → to ≡ getD index (at + 1) 0
+    → _≡_ {A = Section} (record { from = from; to = to }) (record { from = getD index at 0; to = getD index (at + 1) 0 })
+section-read index at e f = rw (e, f)
+
+pub found-read : (bytes index : List ℕ) (i : ℕ) {place : ℕ} {word : List ℕ} → place ≡ getD index (312 + i) 0 → word ≡ wordOf bytes index i
+    → Word place (length word) (getD bytes (1482 + i) 0) ≡ wordFound bytes index i
+found-read bytes index i e f = rw (e, f)
 
 -- ---- `match_in`
 
@@ -169,97 +175,6 @@ module _ (test : Test) (text bytes index : List ℕ) (l : WordList) {s : Section
         → s ≡ groupAt index l (initial text) → SpellsWords bytes index → Nothing ≡ matchIn test (capitals (wordsOf l)) text
     unfolding passesAt
     match-none h f e sp = none-stored (λ k w. passes test w text) (initial text) (confined-test test text) bytes index sp l (rw e at f) (rw e at h)
-
--- ---- the tables: one test over all words and groups
-
-samePlaced : List Placed → List Placed → Bool
-unfolding same
-samePlaced [] [] = true
-samePlaced [] (y ∷ ys) = false
-samePlaced (x ∷ xs) [] = false
-samePlaced (x ∷ xs) (y ∷ ys) = eqb (x .place) (y .place) && (same (x .word) (y .word) && (eqb (x .token) (y .token) && samePlaced xs ys))
-
-same-placed : (xs ys : List Placed) → T (samePlaced xs ys) → xs ≡ ys
-unfolding samePlaced
-same-placed [] [] t = refl
-same-placed [] (y ∷ ys) t = absurd t
-same-placed (x ∷ xs) [] t = absurd t
-same-placed (x ∷ xs) (y ∷ ys) t =
-    let t₁ = and-right (eqb (x .place) (y .place)) _ t in
-    let t₂ = and-right (same (x .word) (y .word)) _ t₁ in
-    let place : x .place ≡ y .place = eqb→eq _ _ (and-left (eqb (x .place) (y .place)) _ t) in
-    let word : x .word ≡ y .word = same-eq _ _ (T-true _ (and-left (same (x .word) (y .word)) _ t₁)) in
-    let token : x .token ≡ y .token = eqb→eq _ _ (and-left (eqb (x .token) (y .token)) _ t₂) in
-    let rest : xs ≡ ys = same-placed xs ys (and-right (eqb (x .token) (y .token)) _ t₂) in
-    let head : x ≡ y = rw (place, word, token) in
-    cc
-
-module _ (bytes index : List ℕ) where
-  -- group g of a list whose words are es is spelled as it must be
-  unfoldable pub groupTest : List Entry → ℕ → ℕ → Bool
-  unfolding samePlaced storedWords grouped
-  groupTest es groups g =
-      leb (getD index (groups + g) 0) (getD index (groups + g + 1) 0) && (leb (getD index (groups + g + 1) 0) 311
-      && samePlaced (storedWords bytes index (getD index (groups + g) 0) (getD index (groups + g + 1) 0 - getD index (groups + g) 0)) (grouped (g + 32) 0 es))
-
-  unfoldable pub listTest : WordList → Bool
-  unfolding groupTest allBelow capitals v2Words operators tsbWords escapeNames
-  listTest l = allBelow (groupTest (capitals (wordsOf l)) (groupsOf l)) 64
-
-  unfoldable pub wordsTest : Bool
-  unfolding allBelow liesAt listTest
-  wordsTest =
-      leb 1793 (length bytes) && (leb 880 (length index) && (allBelow (liesAt bytes index) 311 && (listTest V2 && (listTest Operators && (listTest Tsb && listTest Escapes)))))
-
-  record Group (l : WordList) (b : ℕ) : Type 0 where
-    pub up : groupAt index l b .from ≤ groupAt index l b .to
-    pub end : groupAt index l b .to ≤ 311
-    pub spells : storedWords bytes index (groupAt index l b .from) (groupAt index l b .to - groupAt index l b .from) ≡ grouped b 0 (capitals (wordsOf l))
-
-  each-group : (l : WordList) → T (listTest l) → (b : ℕ) → Group l b
-  unfolding listTest groupTest groupAt storedWords
-  each-group l t b = go (between 32 95 b) refl
-    where
-      go : (r : Bool) → between 32 95 b ≡ r → Group l b
-      go false e = record {
-        up = rw (groupAt, e) (omega arith);
-        end = rw (groupAt, e) (omega arith);
-        spells = rw (groupAt, e) (sym (none-grouped b e (capitals (wordsOf l)) 0 (ranged-list l)));
-      }
-      go true e =
-          let w = between-in 32 95 b e in
-          let back : b - 32 + 32 ≡ b = omega (arith, w) in
-          let g : T (groupTest (capitals (wordsOf l)) (groupsOf l) (b - 32)) =
-          all-below (groupTest (capitals (wordsOf l)) (groupsOf l)) 64 t (b - 32) (omega (arith, w)) in
-          let up? = leb (getD index (groupsOf l + (b - 32)) 0) (getD index (groupsOf l + (b - 32) + 1) 0) in
-          let end? = leb (getD index (groupsOf l + (b - 32) + 1) 0) 311 in
-          record {
-            up = rw (groupAt, e) (leb→le _ _ (and-left up? _ g));
-            end = rw (groupAt, e) (leb→le _ _ (and-left end? _ (and-right up? _ g)));
-            spells = rw (groupAt, e) (same-placed _ _ (and-right end? _ (and-right up? _ g)) ∙ rw back);
-          }
-
-  -- tables that pass the test spell the lists
-  pub words-lent : T wordsTest → SpellsWords bytes index
-  unfolding wordsTest
-  words-lent t =
-      let t₁ = and-right (leb 1793 (length bytes)) _ t in
-      let t₂ = and-right (leb 880 (length index)) _ t₁ in
-      let t₃ = and-right (allBelow (liesAt bytes index) 311) _ t₂ in
-      record {
-        bytesLong = leb→le _ _ (and-left (leb 1793 (length bytes)) _ t);
-        indexLong = leb→le _ _ (and-left (leb 880 (length index)) _ t₁);
-        lie = λ k h. lies-at bytes index k (all-below (liesAt bytes index) 311 (and-left (allBelow (liesAt bytes index) 311) _ t₂) k h);
-        up = λ l b. each-group l (each t₃ l) b .up;
-        end = λ l b. each-group l (each t₃ l) b .end;
-        spells = λ l b. each-group l (each t₃ l) b .spells;
-      }
-    where
-      each : T (listTest V2 && (listTest Operators && (listTest Tsb && listTest Escapes))) → (l : WordList) → T (listTest l)
-      each t V2 = and-left (listTest V2) _ t
-      each t Operators = and-left (listTest Operators) _ (and-right (listTest V2) _ t)
-      each t Tsb = and-left (listTest Tsb) _ (and-right (listTest Operators) _ (and-right (listTest V2) _ t))
-      each t Escapes = and-right (listTest Tsb) _ (and-right (listTest Operators) _ (and-right (listTest V2) _ t))
 
 -- ---- a list and its capitals
 

@@ -1,5 +1,6 @@
 pub mod Comparing
 pub mod Order
+pub mod Runs
 pub mod Sameness
 pub mod Search
 pub mod Storing

@@ -1,6 +1,6 @@
 -- `counting::take_image` meets its contract: the constants that it lends are the tables.
 -- Assumes nothing.
-use Rattle.tables.proofs.TextTable.{texts-right, rightBelow}
+use Rattle.texts.proofs.TextTable.{textBytes, textStarts, texts-spelt}
 use Rattle.counting.proofs.Taking.{once, room-left, once-more, image-counted, image-apart}
 use borrow.Author.Needs.{needs}
 use Rattle.counting.proofs.take_image.Statement.{statement}
@@ -10,8 +10,8 @@ raise-requires : tie.Need-raise-requires
 raise-requires c κs = (search needs, search once)
 
 count-image-requires : tie.Need-count-image-requires
-unfolding rightBelow
-count-image-requires c κs = (texts-right _ _ tt, search room-left)
+unfolding textBytes textStarts
+count-image-requires c κs = (texts-spelt refl refl, search room-left)
 
 raise-requires-2 : tie.Need-raise-requires-2
 raise-requires-2 c κs = (search needs, search once-more)

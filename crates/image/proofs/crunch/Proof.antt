@@ -1,13 +1,14 @@
 -- `image::crunch` meets its contract: the constants that it lends are the lists.
 -- Assumes nothing.
-use Rattle.tables.proofs.Storage.{words-lent, wordsTest}
+use mathlib.Core.Path.{refl}
+use Rattle.tables.proofs.Laid.{wordBytes, wordIndex, words-spelt}
 use borrow.Author.Needs.{needs}
 use Rattle.image.proofs.crunch.Statement.{statement}
 use Rattle.image.proofs.crunch.Tie as tie
 
 crunch-with-requires : tie.Need-crunch-with-requires
-unfolding wordsTest
-crunch-with-requires c κs = words-lent _ _ tt
+unfolding wordBytes wordIndex
+crunch-with-requires c κs = words-spelt refl refl
 
 pub crunch-spec : {M : Type 1} → statement M
 crunch-spec =

@@ -1,14 +1,14 @@
 -- `listing::list_under` meets its contract: the constants that it lends are the tables.
 -- Assumes nothing.
-use Rattle.texts.proofs.TextTable.{texts-right, rightBelow}
+use Rattle.texts.proofs.TextTable.{textBytes, textStarts, texts-spelt}
 use Rattle.listing.proofs.Whole.{listing-under}
 use borrow.Author.Needs.{needs}
 use Rattle.listing.proofs.list_under.Statement.{statement}
 use Rattle.listing.proofs.list_under.Tie as tie
 
 list-with-requires : tie.Need-list-with-requires
-unfolding rightBelow
-list-with-requires c κs = texts-right _ _ tt
+unfolding textBytes textStarts
+list-with-requires c κs = texts-spelt refl refl
 
 returns : tie.Need-returns
 returns c = search listing-under

@@ -1,14 +1,14 @@
 -- `listing::room_under` meets its contract: the constants that it lends are the tables.
 -- Assumes nothing.
-use Rattle.texts.proofs.TextTable.{texts-right, rightBelow}
+use Rattle.texts.proofs.TextTable.{textBytes, textStarts, texts-spelt}
 use Rattle.listing.proofs.Whole.{room-under}
 use borrow.Author.Needs.{needs}
 use Rattle.listing.proofs.room_under.Statement.{statement}
 use Rattle.listing.proofs.room_under.Tie as tie
 
 measure-requires : tie.Need-measure-requires
-unfolding rightBelow
-measure-requires c κs = texts-right _ _ tt
+unfolding textBytes textStarts
+measure-requires c κs = texts-spelt refl refl
 
 returns : tie.Need-returns
 returns c = search room-under

@@ -1,18 +1,19 @@
 -- `rom::print_row` is safe: the constants that it lends are the tables.
 -- Assumes nothing.
-use Rattle.tables.proofs.Storage.{wordsTest, words-lent}
-use Rattle.texts.proofs.TextTable.{texts-right, rightBelow}
+use mathlib.Core.Path.{refl}
+use Rattle.tables.proofs.Laid.{wordBytes, wordIndex, words-spelt}
+use Rattle.texts.proofs.TextTable.{textBytes, textStarts, texts-spelt}
 use borrow.Author.Needs.{needs}
 use Rattle.rom.proofs.print_row.Statement.{statement}
 use Rattle.rom.proofs.print_row.Tie as tie
 
 text-at-requires : tie.Need-text-at-requires
-unfolding rightBelow
-text-at-requires c κs = texts-right _ _ tt
+unfolding textBytes textStarts
+text-at-requires c κs = texts-spelt refl refl
 
 token-of-requires : tie.Need-token-of-requires
-unfolding wordsTest
-token-of-requires c κs = words-lent _ _ tt
+unfolding wordBytes wordIndex
+token-of-requires c κs = words-spelt refl refl
 
 pub print-row-spec : {M : Type 1} → statement M
 print-row-spec =

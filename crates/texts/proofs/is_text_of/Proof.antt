@@ -1,11 +1,11 @@
 -- `texts::is_text_of` meets its contract: the stored texts are the texts, by the test over all of them.
 -- Assumes nothing.
-use mathlib.Core.Path.{ap, _∙_}
+use mathlib.Core.Path.{refl, ap, _∙_}
 use mathlib.Core.List.{List}
 use Prim.Native.Nat.{ℕ}
 use denote.Ref.{now}
 use Rattle.words.specs.Compare.{same}
-use Rattle.texts.proofs.TextTable.{texts-right, rightBelow}
+use Rattle.texts.proofs.TextTable.{textBytes, textStarts, texts-spelt}
 use borrow.Author.Needs.{needs}
 use Rattle.texts.proofs.is_text_of.Statement.{statement}
 use Rattle.texts.proofs.is_text_of.Tie as tie
@@ -17,8 +17,8 @@ slice-aggregate-text-at-2 : tie.Need-slice-aggregate-text-at-2
 slice-aggregate-text-at-2 c = search needs
 
 text-at-requires : tie.Need-text-at-requires
-unfolding rightBelow
-text-at-requires c κs = texts-right _ _ tt
+unfolding textBytes textStarts
+text-at-requires c κs = texts-spelt refl refl
 
 same-requires : tie.Need-same-requires
 same-requires c κs = search needs

@@ -1,14 +1,15 @@
 -- `guess::resolve::guessed` meets its contract: the stored words are the lists', and in each arm the dialect is known.
 -- Assumes nothing.
+use mathlib.Core.Path.{refl}
 use Rattle.guess.proofs.Texts.{auto-tsb, auto-v2, as-v2, as-tsb}
-use Rattle.tables.proofs.Storage.{words-lent, wordsTest}
+use Rattle.tables.proofs.Laid.{wordBytes, wordIndex, words-spelt}
 use borrow.Author.Needs.{needs}
 use Rattle.guess.proofs.resolve.guessed.Statement.{statement}
 use Rattle.guess.proofs.resolve.guessed.Tie as tie
 
 text-evidence-requires : tie.Need-text-evidence-requires
-unfolding wordsTest
-text-evidence-requires c κs = words-lent _ _ tt
+unfolding wordBytes wordIndex
+text-evidence-requires c κs = words-spelt refl refl
 
 returns : tie.Need-returns
 returns c = search auto-tsb

@@ -1,11 +1,12 @@
 -- `tables::matching::section_at` meets its contract.
 -- Assumes nothing.
+use Rattle.tables.proofs.Storage.{section-read}
 use borrow.Author.Needs.{needs}
 use Rattle.tables.proofs.matching.section_at.Statement.{statement}
 use Rattle.tables.proofs.matching.section_at.Tie as tie
 
 returns : tie.Need-returns
-returns c = cc
+returns c = search section-read
 
 pub section-at-spec : {M : Type 1} → statement M
 section-at-spec =

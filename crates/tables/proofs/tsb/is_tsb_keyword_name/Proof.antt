@@ -1,14 +1,15 @@
 -- `tables::tsb::is_tsb_keyword_name` meets its contract: the stored words are the lists', and one of them is found just where the test says yes.
 -- Assumes nothing.
-use Rattle.tables.proofs.Storage.{wordsTest, words-lent}
+use mathlib.Core.Path.{refl}
+use Rattle.tables.proofs.Laid.{wordBytes, wordIndex, words-spelt}
 use Rattle.tables.proofs.TsbTest.{tsb-yes, tsb-no}
 use borrow.Author.Needs.{needs}
 use Rattle.tables.proofs.tsb.is_tsb_keyword_name.Statement.{statement}
 use Rattle.tables.proofs.tsb.is_tsb_keyword_name.Tie as tie
 
 match-in-requires : tie.Need-match-in-requires
-unfolding wordsTest
-match-in-requires c κs = words-lent _ _ tt
+unfolding wordBytes wordIndex
+match-in-requires c κs = words-spelt refl refl
 
 returns : tie.Need-returns
 returns c = search tsb-yes

@@ -1,0 +1,234 @@
+-- The two tables of words as the lists give them, group by group; such tables spell the lists. So the stored constants do, which are these
+-- tables.
+-- Assumes nothing.
+use Prim.Native.Nat.{ℕ, zero, suc, _+_, _-_, _*_, _≤_, _<_}
+use mathlib.Core.Path.{_≡_, refl, sym, ap, _∙_}
+use mathlib.Core.Bool.{Bool, true, false}
+use mathlib.Core.List.{List, [], _∷_, _++_, map}
+use native.Mathlib.Nat.{le-of-suc-le-suc}
+use native.Mathlib.Omega.{arith}
+use lib.ListN.{length, getD, take, drop, length-append, length-map, List·getD-append, List·getD-map}
+use lib.Seq.{drop-cons, getD-append-add}
+use Rattle.ascii.specs.Bytes.{between}
+use Rattle.ascii.proofs.Ranges.{between-in}
+use Rattle.words.specs.Find.{Entry}
+use Rattle.words.specs.RunHelpers.{Lies, wordOf}
+use Rattle.words.proofs.Runs.{joined, starts, length-starts, part, run-lies, run-word}
+use Rattle.tables.specs.Rom.{v2Words, operators}
+use Rattle.tables.specs.Tsb.{tsbWords}
+use Rattle.tables.specs.Escapes.{escapeNames}
+use Rattle.tables.specs.WordsHelpers.{Placed, capitals, grouped, storedWords, groupsOf, groupAt, wordsOf, SpellsWords}
+use Rattle.tables.specs.declared.matching.WordList.{WordList}
+use Rattle.tables.specs.declared.matching.WordList.the-variants.{V2, Operators, Tsb, Escapes}
+use Rattle.tables.proofs.Groups.{none-grouped}
+use Rattle.tables.proofs.Storage.{ranged-list, groups-within}
+
+-- ---- groups of words as two tables
+
+module _ (gs : List (List Placed)) where
+  abbrev pub spelt : List (List ℕ)
+  spelt = map (λ x. x .word) (joined gs)
+
+  abbrev pub tokens : List ℕ
+  tokens = map (λ x. x .token) (joined gs)
+
+  abbrev pub places : List ℕ
+  places = map (λ x. x .place) (joined gs)
+
+  -- the words, and behind them their tokens
+  unfoldable pub bytesLaid : List ℕ
+  unfolding joined
+  bytesLaid = joined spelt ++ tokens
+
+  -- the starts of the words, their places in the lists, the starts of the groups
+  unfoldable pub indexLaid : List ℕ
+  unfolding joined starts
+  indexLaid = starts 0 spelt ++ (places ++ starts 0 gs)
+
+  -- 311 words of 1482 bytes in 256 groups
+  module _ (many : length (joined gs) ≡ 311) (long : length (joined spelt) ≡ 1482) (all : length gs ≡ 256) where
+    spelt-many : length spelt ≡ 311
+    spelt-many = length-map (joined gs) (λ x. x .word) ∙ many
+
+    places-many : length places ≡ 311
+    places-many = length-map (joined gs) (λ x. x .place) ∙ many
+
+    starts-many : length (starts 0 spelt) ≡ 312
+    starts-many = length-starts 0 spelt ∙ ap (λ (n : ℕ). n + 1) spelt-many
+
+    pub bytes-long : 1793 ≤ length bytesLaid
+    unfolding bytesLaid
+    bytes-long = omega (arith, length-append (joined spelt) tokens, long, length-map (joined gs) (λ x. x .token), many)
+
+    pub index-long : 880 ≤ length indexLaid
+    unfolding indexLaid
+    index-long =
+        omega (arith, length-append (starts 0 spelt) (places ++ starts 0 gs), length-append places (starts 0 gs), starts-many, places-many, length-starts 0 gs, all)
+
+    pub words-lie : (k : ℕ) → k < 311 → Lies bytesLaid indexLaid k
+    unfolding bytesLaid indexLaid
+    words-lie k h = run-lies spelt tokens (places ++ starts 0 gs) k (omega (arith, spelt-many))
+
+    no-word : Placed
+    no-word = record { place = 0; word = []; token = 0 }
+
+    module _ (i : ℕ) (h : i < 311) where
+      word-is : wordOf bytesLaid indexLaid i ≡ getD (joined gs) i no-word .word
+      unfolding bytesLaid indexLaid no-word
+      word-is = run-word spelt tokens (places ++ starts 0 gs) i (omega (arith, spelt-many)) ∙ List·getD-map (λ x. x .word) (joined gs) i no-word
+
+      token-is : getD bytesLaid (1482 + i) 0 ≡ getD (joined gs) i no-word .token
+      unfolding bytesLaid no-word
+      token-is = rw (← long) (getD-append-add (joined spelt) tokens i 0) ∙ List·getD-map (λ x. x .token) (joined gs) i no-word
+
+      place-is : getD indexLaid (312 + i) 0 ≡ getD (joined gs) i no-word .place
+      unfolding indexLaid no-word
+      place-is =
+          rw (← starts-many) (getD-append-add (starts 0 spelt) (places ++ starts 0 gs) i 0)
+          ∙ List·getD-append places (starts 0 gs) 0 i (omega (arith, places-many)) ∙ List·getD-map (λ x. x .place) (joined gs) i no-word
+
+    stored-is : (n i : ℕ) → i + n ≤ 311 → storedWords bytesLaid indexLaid i n ≡ take n (drop i (joined gs))
+    unfolding storedWords
+    stored-is zero i h = refl
+    stored-is (suc n) i h =
+        let l : i < 311 = omega arith in
+        let rest : storedWords bytesLaid indexLaid (suc i) n ≡ take n (drop (suc i) (joined gs)) = stored-is n (suc i) (omega arith) in
+        let d : drop i (joined gs) ≡ getD (joined gs) i no-word ∷ drop (suc i) (joined gs) = drop-cons (joined gs) i no-word (omega (arith, many)) in
+        rw (d, word-is i l, token-is i l, place-is i l, rest)
+
+    start-is : (m : ℕ) {n : ℕ} → n ≡ 623 + m → getD indexLaid n 0 ≡ getD (starts 0 gs) m 0
+    unfolding indexLaid
+    start-is m {n} e =
+        let f : n ≡ length (starts 0 spelt) + (length places + m) = omega (arith, starts-many, places-many) in
+        ap (λ (k : ℕ). getD indexLaid k 0) f ∙ getD-append-add (starts 0 spelt) (places ++ starts 0 gs) (length places + m) 0 ∙ getD-append-add places (starts 0 gs) m 0
+
+    -- group m lies between two starts that stand side by side in the index
+    pub record Lying (m from to : ℕ) : Type 0 where
+      pub up : from ≤ to
+      pub end : to ≤ 311
+      pub is : storedWords bytesLaid indexLaid from (to - from) ≡ getD gs m []
+
+    pub lying : (m n : ℕ) → m < 256 → n ≡ 623 + m → Lying m (getD indexLaid n 0) (getD indexLaid (n + 1) 0)
+    lying m n h e =
+        let p = part 0 gs m (omega (arith, all)) in
+        let s : ℕ = getD (starts 0 gs) m 0 in
+        let c : ℕ = length (getD gs m []) in
+        let from : getD indexLaid n 0 ≡ s = start-is m e in
+        let to : getD indexLaid (n + 1) 0 ≡ s + c = start-is (suc m) (omega arith) ∙ p .next in
+        let long : s + c - s ≡ c = omega arith in
+        let z : s - 0 ≡ s = omega arith in
+        rw (from, to) (record {
+          up = omega arith;
+          end = omega (arith, p .next, p .high, many);
+          is = rw long (stored-is c s (omega (arith, p .next, p .high, many)) ∙ (rw z at (p .here)));
+        })
+
+-- ---- the groups of the lists
+
+-- the groups of a list's words, n of them, from byte b on
+unfoldable pub groupsFrom : ℕ → ℕ → List Entry → List (List Placed)
+unfolding grouped
+groupsFrom b zero es = []
+groupsFrom b (suc n) es = grouped b 0 es ∷ groupsFrom (suc b) n es
+
+group-from : (es : List Entry) (n b i : ℕ) {c : ℕ} → c ≡ b + i → i < n → getD (groupsFrom b n es) i [] ≡ grouped c 0 es
+unfolding groupsFrom
+group-from es zero b i e h = absurd (omega arith)
+group-from es (suc n) b zero {c} e h = let z : c ≡ b = omega arith in rw z
+group-from es (suc n) b (suc i) e h = group-from es n (suc b) i (omega arith) (le-of-suc-le-suc h)
+
+groups-many : (es : List Entry) (n b : ℕ) → length (groupsFrom b n es) ≡ n
+unfolding groupsFrom
+groups-many es zero b = refl
+groups-many es (suc n) b = ap suc (groups-many es n (suc b))
+
+-- the groups of some lists, one list behind the other
+abbrev pub groupsIn : List WordList → List (List Placed)
+groupsIn [] = []
+groupsIn (l ∷ ls) = groupsFrom 32 64 (capitals (wordsOf l)) ++ groupsIn ls
+
+-- group i of list j of them
+group-in : (ls : List WordList) (j i m : ℕ) → m ≡ 64 * j + i → i < 64 → j < length ls → getD (groupsIn ls) m [] ≡ getD (groupsFrom 32 64 (capitals (wordsOf (getD ls j V2)))) i []
+group-in [] j i m e h k = absurd (omega arith)
+group-in (l ∷ ls) zero i m e h k =
+    let gs : List (List Placed) = groupsFrom 32 64 (capitals (wordsOf l)) in
+    let f : m ≡ i = omega arith in
+    ap (λ (n : ℕ). getD (gs ++ groupsIn ls) n []) f ∙ List·getD-append gs (groupsIn ls) [] i (omega (arith, groups-many (capitals (wordsOf l)) 64 32))
+group-in (l ∷ ls) (suc j) i m e h k =
+    let gs : List (List Placed) = groupsFrom 32 64 (capitals (wordsOf l)) in
+    let f : m ≡ length gs + (64 * j + i) = omega (arith, groups-many (capitals (wordsOf l)) 64 32) in
+    ap (λ (n : ℕ). getD (gs ++ groupsIn ls) n []) f ∙ getD-append-add gs (groupsIn ls) (64 * j + i) [] ∙ group-in ls j i (64 * j + i) refl h (le-of-suc-le-suc k)
+
+abbrev pub allGroups : List (List Placed)
+allGroups = groupsIn (V2 ∷ Operators ∷ Tsb ∷ Escapes ∷ [])
+
+-- group i of a list is group m of all
+among-all : (l : WordList) (i m : ℕ) → i < 64 → 623 + m ≡ groupsOf l + i → getD allGroups m [] ≡ getD (groupsFrom 32 64 (capitals (wordsOf l))) i []
+among-all V2 i m h e = group-in (V2 ∷ Operators ∷ Tsb ∷ Escapes ∷ []) 0 i m (omega arith) h (omega arith)
+among-all Operators i m h e = group-in (V2 ∷ Operators ∷ Tsb ∷ Escapes ∷ []) 1 i m (omega arith) h (omega arith)
+among-all Tsb i m h e = group-in (V2 ∷ Operators ∷ Tsb ∷ Escapes ∷ []) 2 i m (omega arith) h (omega arith)
+among-all Escapes i m h e = group-in (V2 ∷ Operators ∷ Tsb ∷ Escapes ∷ []) 3 i m (omega arith) h (omega arith)
+
+-- ---- the tables
+
+unfoldable pub wordBytes : List ℕ
+unfolding bytesLaid groupsFrom capitals v2Words operators tsbWords escapeNames
+wordBytes = bytesLaid allGroups
+
+unfoldable pub wordIndex : List ℕ
+unfolding indexLaid groupsFrom capitals v2Words operators tsbWords escapeNames
+wordIndex = indexLaid allGroups
+
+many : length (joined allGroups) ≡ 311
+unfolding wordBytes
+many = refl
+
+long : length (joined (spelt allGroups)) ≡ 1482
+unfolding wordBytes
+long = refl
+
+all : length allGroups ≡ 256
+unfolding wordBytes
+all = refl
+
+record Group (l : WordList) (b : ℕ) : Type 0 where
+  pub up : groupAt (indexLaid allGroups) l b .from ≤ groupAt (indexLaid allGroups) l b .to
+  pub end : groupAt (indexLaid allGroups) l b .to ≤ 311
+  pub spells : storedWords (bytesLaid allGroups) (indexLaid allGroups) (groupAt (indexLaid allGroups) l b .from) (groupAt (indexLaid allGroups) l b .to - groupAt (indexLaid allGroups) l b .from)
+      ≡ grouped b 0 (capitals (wordsOf l))
+
+each-group : (l : WordList) (b : ℕ) → Group l b
+unfolding groupAt storedWords
+each-group l b = go (between 32 95 b) refl
+  where
+    go : (r : Bool) → between 32 95 b ≡ r → Group l b
+    go false e = record {
+      up = rw (groupAt, e) (omega arith);
+      end = rw (groupAt, e) (omega arith);
+      spells = rw (groupAt, e) (sym (none-grouped b e (capitals (wordsOf l)) 0 (ranged-list l)));
+    }
+    go true e =
+        let w = between-in 32 95 b e in
+        let m : ℕ = groupsOf l + (b - 32) - 623 in
+        let g = lying allGroups many long all m (groupsOf l + (b - 32)) (omega (arith, w, groups-within l)) (omega (arith, groups-within l)) in
+        record {
+          up = rw (groupAt, e) (g .up);
+          end = rw (groupAt, e) (g .end);
+          spells = rw (groupAt, e)
+              (g .is ∙ among-all l (b - 32) m (omega (arith, w)) (omega (arith, groups-within l)) ∙ group-from (capitals (wordsOf l)) 64 32 (b - 32) (omega (arith, w)) (omega (arith, w)));
+        }
+
+laid : SpellsWords wordBytes wordIndex
+unfolding wordBytes wordIndex
+laid = record {
+  bytesLong = bytes-long allGroups many long all;
+  indexLong = index-long allGroups many long all;
+  lie = words-lie allGroups many long all;
+  up = λ l b. each-group l b .up;
+  end = λ l b. each-group l b .end;
+  spells = λ l b. each-group l b .spells;
+}
+
+-- tables that are these spell the lists
+pub words-spelt : {bytes index : List ℕ} → bytes ≡ wordBytes → index ≡ wordIndex → SpellsWords bytes index
+words-spelt e f = rw (e, f) laid
