@@ -1,5 +1,6 @@
 -- `counting::take_image` meets its contract: the constants that it lends are the tables.
 -- Assumes nothing.
+use mathlib.Core.Path.{refl}
 use Rattle.texts.proofs.TextTable.{textBytes, textStarts, texts-spelt}
 use Rattle.counting.proofs.Taking.{once, room-left, once-more, image-counted, image-apart}
 use borrow.Author.Needs.{needs}

@@ -1,5 +1,6 @@
 -- `image::measured_line` meets its contract: the constants that it lends are the lists.
 -- Assumes nothing.
+use mathlib.Core.Path.{refl}
 use Rattle.tables.proofs.Laid.{wordBytes, wordIndex, words-spelt}
 use borrow.Author.Needs.{needs}
 use Rattle.image.proofs.measured_line.Statement.{statement}

@@ -1,5 +1,6 @@
 -- `listing::room_under` meets its contract: the constants that it lends are the tables.
 -- Assumes nothing.
+use mathlib.Core.Path.{refl}
 use Rattle.texts.proofs.TextTable.{textBytes, textStarts, texts-spelt}
 use Rattle.listing.proofs.Whole.{room-under}
 use borrow.Author.Needs.{needs}
