@@ -54,7 +54,8 @@ pub struct Answer {
 }
 
 impl Answer {
-    fn beginning(first: u8) -> Self
+    // A body that begins with a byte: 00, FF, or the number of a refusal.
+    pub fn beginning(first: u8) -> Self
         ensures { λ r. ⌜ r .len ≡ 5 ⌝ }
     {
         let mut bytes = [0u8; 64];

@@ -61,7 +61,7 @@ fn send_checked(checked: Checked) -> bool {
 }
 
 // A line behind what the answer holds: link, number, next offset, body length, body.
-fn send_line(answer: Answer, line: Line, body: &[u8]) -> bool
+pub fn send_line(answer: Answer, line: Line, body: &[u8]) -> bool
     requires { ⌜ (5 ≤ answer .len) × (answer .len ≤ 32) ⌝ }
 {
     answer

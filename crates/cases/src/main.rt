@@ -6,6 +6,8 @@ mod frames;
 mod images;
 mod listings;
 mod modes;
+mod found;
+mod measured;
 mod rooms;
 mod texts;
 mod words;
@@ -35,10 +37,12 @@ fn answer_request(op: u8, payload: &[u8], room: &mut [u8], disk: &mut [u8]) -> b
         0x09 => images::step(payload, By::Links),
         0x0A => listings::list(payload, room),
         0x0B => listings::room_for_list(payload),
+        0x12 => found::line_by_number(payload),
         0x16 => modes::list(payload, room),
         0x17 => modes::room_for_list(payload),
         0x18 => images::addressed_step(payload, By::Terminators),
         0x19 => images::addressed_step(payload, By::Links),
+        0x1A => measured::measured_line(payload),
         0x20 => disks::format(payload, disk),
         0x22 => disks::read(payload, room),
         0x23 => disks::scratch(payload, disk),

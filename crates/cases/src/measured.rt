@@ -1,0 +1,48 @@
+// Op 1A: the line at a place of the image that a text would have.
+use crate::frames;
+use frames::Answer;
+use image::LineMeasured;
+use image::MeasuredLine;
+use image::Options;
+use readers::Line;
+use tables::dialect;
+use tables::dialect::Named;
+
+// No bit of the options is known yet.
+pub fn measured_line(payload: &[u8]) -> bool {
+    if payload.len() < 12 || payload[3] != 0 {
+        return Answer::malformed().send();
+    }
+    let load = frames::u16_at(payload, 0);
+    let place = frames::u64_at(payload, 4) as usize;
+    let Named::Known(dialect) = dialect::dialect_by_number(payload[2]) else {
+        return Answer::malformed().send();
+    };
+    match image::measured_line(&payload[12..], Options { load, dialect }, place) {
+        LineMeasured::There(found) => send_measured(found),
+        LineMeasured::NoSuchLine => Answer::done().byte(0).send(),
+        LineMeasured::Refused(refusal) => Answer::refused(refusal).send(),
+    }
+}
+
+// A body never ends before it begins; the line does not say so.
+fn body_length(line: Line) -> usize {
+    if line.to < line.from {
+        0
+    } else {
+        line.to - line.from
+    }
+}
+
+// Address, link, number, body length, text line.
+fn send_measured(found: MeasuredLine) -> bool {
+    let line = found.line;
+    Answer::done()
+        .byte(1)
+        .number(line.address)
+        .number(line.link as usize)
+        .number(line.number as usize)
+        .number(body_length(line))
+        .number(found.origin)
+        .send()
+}
