@@ -1,0 +1,4 @@
+pub mod Counting
+pub mod Geometry
+pub mod Room
+pub mod Totals

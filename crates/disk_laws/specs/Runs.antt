@@ -1,0 +1,26 @@
+-- Sequences of calls over a disk (docs/RULES.md, "Disks"; document 02, No. 9: "after any sequence of these calls, refused ones among them").
+-- Assumes nothing.
+use Prim.Native.Nat.{ℕ}
+use mathlib.Core.List.{List, [], _∷_}
+use Rattle.refusals.specs.Answer.{Answer}
+use Rattle.d64.specs.Calls.{formatted, saved, scratched, After, ontoDisk}
+
+-- a call, with the name and the image that it is given
+pub data Call : Type 0 where
+  Format : Call
+  Check : Call
+  Read : List ℕ → Call
+  Save : List ℕ → List ℕ → Call
+  Scratch : List ℕ → Call
+
+-- the disk behind a call: as it was where the call is refused, or only reads
+abbrev pub afterCall : List ℕ → Call → List ℕ
+afterCall disk Format = ontoDisk (formatted disk) disk .disk
+afterCall disk Check = disk
+afterCall disk (Read name) = disk
+afterCall disk (Save name image) = ontoDisk (saved disk name image) disk .disk
+afterCall disk (Scratch name) = ontoDisk (scratched disk name) disk .disk
+
+unfoldable pub afterCalls : List ℕ → List Call → List ℕ
+afterCalls disk [] = disk
+afterCalls disk (c ∷ cs) = afterCalls (afterCall disk c) cs
