@@ -1,4 +1,6 @@
 pub mod Counting
+pub mod Elsewhere
 pub mod Geometry
+pub mod Kept
 pub mod Room
 pub mod Totals

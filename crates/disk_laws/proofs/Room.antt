@@ -15,7 +15,7 @@ use Rattle.d64.specs.Chains.{Chain}
 use Rattle.d64.specs.Entries.{directory, entriesOf, entryAt, isListed, isThat, entriesThat, listed, isNamed}
 use Rattle.d64.specs.Free.{freeSectors}
 use Rattle.d64.specs.Check.{sound}
-use Rattle.d64.specs.Calls.{isFileName, sectorsFor, taken, outside, withEntry, withFile, saved}
+use Rattle.d64.specs.Calls.{isFileName, onSound, sectorsFor, taken, outside, withEntry, withFile, saved}
 use Rattle.sound.proofs.Looking.{numbers-long}
 use Rattle.saves.specs.SaveHelpers.{savedNew}
 use Rattle.disk_laws.proofs.Counting.{count, count-not, stand-few}
@@ -58,16 +58,18 @@ passed p q r t a e f g h = rw (e, f, g, h) refl
 IsDone-as : {a b : Answer (List ℕ)} → a ≡ b → IsDone b → IsDone a
 IsDone-as e d = record { made = d .made; is = e ∙ d .is }
 
-module _ (d name image : List ℕ) (s : sound d ≡ true) (n : isFileName name ≡ true) (f : some (isNamed d name) (listed d) ≡ false) (h : length (listed d) < 144) where
-  tested : cond (sound d) (cond (isFileName name) (cond (some (isNamed d name) (listed d)) (refused nameTaken) (cond (leb 144 (length (listed d))) (refused directoryFull) (savedNew d name image))) (refused badName)) (refused badDisk)
-      ≡ saved d name image
-  unfolding saved savedNew
-  tested = refl
+-- saving, by 22 and 24 and what is answered behind them
+pub tested : (d name image : List ℕ)
+    → onSound d name (cond (some (isNamed d name) (listed d)) (refused nameTaken) (cond (leb 144 (length (listed d))) (refused directoryFull) (savedNew d name image)))
+    ≡ saved d name image
+unfolding saved savedNew
+tested d name image = refl
 
+module _ (d name image : List ℕ) (s : sound d ≡ true) (n : isFileName name ≡ true) (f : some (isNamed d name) (listed d) ≡ false) (h : length (listed d) < 144) where
   -- what is answered behind 20, 21, 22 and 24
   left : saved d name image ≡ savedNew d name image
   left =
-      sym tested
+      sym (tested d name image)
       ∙ passed (sound d) (isFileName name) (some (isNamed d name) (listed d)) (leb 144 (length (listed d))) (savedNew d name image) s n f (lt-leb 144 (length (listed d)) h)
 
   -- "25 exactly when fewer sectors are free than needed"

@@ -90,7 +90,7 @@ chain-held dir (suc k) d n m e = go (mayHold dir n) refl (linkAt d (256 * n)) (�
   go true f (To x) g h = head-or (λ x. mayHold dir x ≡ true) m n (isIn (chain dir k d x .sectors) m) h f (g x)
   go true f Astray g h = head-or (λ x. mayHold dir x ≡ true) m n false h f (none-in (λ x. mayHold dir x ≡ true) m)
 
-by-held : (d : List ℕ) (k : ℕ) (l : Link) (m : ℕ) → isIn (chainBy d k l .sectors) m ≡ true → mayHold false m ≡ true
+pub by-held : (d : List ℕ) (k : ℕ) (l : Link) (m : ℕ) → isIn (chainBy d k l .sectors) m ≡ true → mayHold false m ≡ true
 unfolding some
 by-held d k (Last b) m e = none-in (λ x. mayHold false x ≡ true) m e
 by-held d k (To n) m e = chain-held false k d n m e

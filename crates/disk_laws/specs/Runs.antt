@@ -1,6 +1,7 @@
 -- Sequences of calls over a disk (docs/RULES.md, "Disks"; document 02, No. 9: "after any sequence of these calls, refused ones among them").
 -- Assumes nothing.
 use Prim.Native.Nat.{ℕ}
+use mathlib.Core.Bool.{Bool, true, false}
 use mathlib.Core.List.{List, [], _∷_}
 use Rattle.refusals.specs.Answer.{Answer}
 use Rattle.d64.specs.Calls.{formatted, saved, scratched, After, ontoDisk}
@@ -12,6 +13,13 @@ pub data Call : Type 0 where
   Read : List ℕ → Call
   Save : List ℕ → List ℕ → Call
   Scratch : List ℕ → Call
+
+abbrev pub isFormat : Call → Bool
+isFormat Format = true
+isFormat Check = false
+isFormat (Read name) = false
+isFormat (Save name image) = false
+isFormat (Scratch name) = false
 
 -- the disk behind a call: as it was where the call is refused, or only reads
 abbrev pub afterCall : List ℕ → Call → List ℕ

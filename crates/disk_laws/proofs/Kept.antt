@@ -1,0 +1,247 @@
+-- "No call but formatting changes another file's sectors": on every disk, every byte of a sector in a listed file's chain stays, the scratched file's too.
+-- Assumes nothing.
+use Prim.Native.Nat.{ℕ, zero, suc, _+_, _-_, _*_, _/_, _%_, _≤_, _<_}
+use mathlib.Core.Path.{_≡_, refl, sym, ap, subst, _∙_}
+use mathlib.Core.Bool.{Bool, true, false, not, cond, _&&_, _||_}
+use mathlib.Core.List.{List, [], _∷_, _++_, map}
+use lib.Dec.{eqb, leb, ltb}
+use lib.ListN.{length, getD, take, set, replicate, length-append, length-replicate}
+use lib.Seq.{sets}
+use native.Mathlib.Decide.{decLt}
+use native.Mathlib.Omega.{arith}
+use borrow.Author.Tests.{eqb-true, eq-eqb, leb-true, ltb-true, le-ltb}
+use Rattle.refusals.specs.Numbers.{Numbered, nameTaken, directoryFull, diskFull}
+use Rattle.refusals.specs.Answer.{Answer, done, refused}
+use Rattle.d64.specs.Places.{trackOf, sectorOf, offTrack18}
+use Rattle.d64.specs.Lists.{numbersFrom, those, some, isIn}
+use Rattle.d64.specs.Links.{linkAt}
+use Rattle.d64.specs.Map.{isFree, marked}
+use Rattle.d64.specs.Chains.{Chain, chain}
+use Rattle.d64.specs.Entries.{directory, entryAt, entriesOf, isThat, entriesThat, listed, isNamed, chainOf}
+use Rattle.d64.specs.Free.{freeSectors, markedAll}
+use Rattle.d64.specs.Check.{files, sound}
+use Rattle.d64.specs.Calls.{isFileName, onSound, ofFile, entriesNamed, sectorsFor, taken, laid, sectorBytes, entryBytes, outside, grown, withEntry, withFile, saved, scratched, After, ontoDisk}
+use Rattle.sound.proofs.Looking.{Each, each-none, each-one, each-those}
+use Rattle.saves.specs.SaveHelpers.{savedNew}
+use Rattle.saves.proofs.Placing.{directory-some}
+use Rattle.disk_laws.specs.Runs.{Call, Format, Check, Read, Save, Scratch, isFormat, afterCall}
+use Rattle.disk_laws.proofs.Counting.{and-left, and-right, or-right}
+use Rattle.disk_laws.proofs.Totals.{chain-held, chains-held, by-held, free-is}
+use Rattle.disk_laws.proofs.Room.{tested}
+use Rattle.disk_laws.proofs.Elsewhere.{Off, before, behind, narrow, set-off, sets-off, marked-off, marked-all-off, Within, laid-off}
+
+never : {A : Type 0} → _≡_ {A = Bool} false true → A
+never e = absurd (let z : _≡_ {A = ℕ} 0 1 = cc in omega arith)
+
+-- ---- what stands in lists
+
+pub in-those : (test : ℕ → Bool) (l : List ℕ) (n : ℕ) → isIn (those test l) n ≡ true → test n ≡ true
+unfolding those some
+in-those test [] n e = never e
+in-those test (m ∷ l) n e = go (test m) refl (in-those test l n) e where
+  go : (q : Bool) → test m ≡ q → (isIn (those test l) n ≡ true → test n ≡ true) → isIn (cond q (m ∷ those test l) (those test l)) n ≡ true → test n ≡ true
+  go false f g h = g h
+  go true f g h = by (eqb n m) refl h where
+    by : (r : Bool) → eqb n m ≡ r → (r || isIn (those test l) n) ≡ true → test n ≡ true
+    by true i j = rw (eqb-true n m i) f
+    by false i j = g j
+
+pub in-take : (k : ℕ) (l : List ℕ) (n : ℕ) → isIn (take k l) n ≡ true → isIn l n ≡ true
+unfolding some
+in-take zero l n e = never e
+in-take (suc k) [] n e = never e
+in-take (suc k) (m ∷ l) n e = go (eqb n m) (in-take k l n) e where
+  go : (q : Bool) → (isIn (take k l) n ≡ true → isIn l n ≡ true) → (q || isIn (take k l) n) ≡ true → (q || isIn l n) ≡ true
+  go true f g = refl
+  go false f g = f g
+
+in-at : (l : List ℕ) (i : ℕ) → i < length l → isIn l (getD l i 0) ≡ true
+unfolding some
+in-at [] i h = absurd (omega arith)
+in-at (n ∷ l) zero h = rw (eq-eqb n n refl)
+in-at (n ∷ l) (suc i) h = or-right (eqb (getD l i 0) n) (isIn l (getD l i 0)) (in-at l i (omega arith))
+
+-- what passes a test stands in the list
+in-those-list : (test : ℕ → Bool) (l : List ℕ) (n : ℕ) → isIn (those test l) n ≡ true → isIn l n ≡ true
+unfolding those some
+in-those-list test [] n e = never e
+in-those-list test (m ∷ l) n e = go (test m) (in-those-list test l n) e where
+  go : (q : Bool) → (isIn (those test l) n ≡ true → isIn l n ≡ true) → isIn (cond q (m ∷ those test l) (those test l)) n ≡ true → (eqb n m || isIn l n) ≡ true
+  go false g h = or-right (eqb n m) (isIn l n) (g h)
+  go true g h = by (eqb n m) h where
+    by : (r : Bool) → (r || isIn (those test l) n) ≡ true → (r || isIn l n) ≡ true
+    by true j = refl
+    by false j = g j
+
+run-below : (from k n : ℕ) → isIn (numbersFrom from k) n ≡ true → n < from + k
+unfolding numbersFrom some
+run-below from zero n e = never e
+run-below from (suc k) n e = go (eqb n from) refl (run-below (from + 1) k n) e where
+  go : (q : Bool) → eqb n from ≡ q → (isIn (numbersFrom (from + 1) k) n ≡ true → n < from + 1 + k) → (q || isIn (numbersFrom (from + 1) k) n) ≡ true → n < from + suc k
+  go true f g h = let z : n ≡ from = eqb-true n from f in omega arith
+  go false f g h = let z : n < from + 1 + k = g h in omega arith
+
+-- a test that implies one that fails, fails
+fails : (a b : Bool) → (a ≡ true → b ≡ true) → b ≡ false → a ≡ false
+fails true b f e = let z : b ≡ true = f refl in never (sym e ∙ z)
+fails false b f e = refl
+
+-- ---- what is written of the directory stands on track 18
+
+-- the bytes of 18/1 to 18/18, so many from a place on
+pub record OnTrack18 (size p : ℕ) : Type 0 where
+  pub from : 91648 ≤ p
+  pub to : p + size ≤ 96256
+
+run-each : {P : ℕ → Type 0} (f : ℕ → ℕ) (from k : ℕ) → ((e : ℕ) → from ≤ e → e < from + k → P (f e)) → Each P (map f (numbersFrom from k))
+unfolding numbersFrom
+run-each f from zero h = each-none
+run-each f from (suc k) h =
+    each-one (h from (omega arith) (omega arith)) (run-each f (from + 1) k (λ e a b. h e (omega arith) (omega arith)))
+
+-- a sector of the directory
+dir-sector : (d : List ℕ) (i : ℕ) → i < length (directory d .sectors) → (358 ≤ getD (directory d .sectors) i 0) × (getD (directory d .sectors) i 0 ≤ 375)
+unfolding directory
+dir-sector d i h =
+    let n : ℕ = getD (directory d .sectors) i 0 in
+    let e : (leb 358 n && leb n 375) ≡ true = chain-held true 18 d 358 n (in-at (directory d .sectors) i h) in
+    (leb-true 358 n (and-left (leb 358 n) (leb n 375) e), leb-true n 375 (and-right (leb 358 n) (leb n 375) e))
+
+entries-on : (which : Bool) (d : List ℕ) → Each (OnTrack18 30) (entriesThat which d (directory d .sectors))
+unfolding entriesThat
+entries-on which d =
+    each-those (isThat which d) (entriesOf (directory d .sectors)) (run-each (entryAt (directory d .sectors)) 0 (8 * length (directory d .sectors)) at) where
+      at : (e : ℕ) → 0 ≤ e → e < 0 + 8 * length (directory d .sectors) → OnTrack18 30 (entryAt (directory d .sectors) e)
+      at e a b =
+          let s : (358 ≤ getD (directory d .sectors) (e / 8) 0) × (getD (directory d .sectors) (e / 8) 0 ≤ 375) = dir-sector d (e / 8) (omega arith) in
+          record { from = omega arith; to = omega arith }
+
+outside-on : (sectors : List ℕ) → Each (λ n. (358 ≤ n) × (n ≤ 375)) (outside sectors)
+unfolding numbersFrom
+outside-on sectors = each-those (λ n. not (isIn sectors n)) (numbersFrom 358 18) (plain 358 18 (omega arith) (omega arith)) where
+  plain : (from k : ℕ) → 358 ≤ from → from + k ≤ 376 → Each (λ n. (358 ≤ n) × (n ≤ 375)) (numbersFrom from k)
+  plain from zero a b = each-none
+  plain from (suc k) a b = each-one (a, omega arith) (plain (from + 1) k (omega arith) (omega arith))
+
+-- ---- a byte of a sector that is in use
+
+module _ (d : List ℕ) (n j : ℕ) (u : isIn (files d .sectors) n ≡ true) (w : Within n j) where
+  held : (ltb n 683 && offTrack18 n) ≡ true
+  held = chains-held 683 d (listed d) n u
+
+  below : n < 683
+  below = ltb-true n 683 (and-left (ltb n 683) (offTrack18 n) held)
+
+  -- it stands off track 18
+  off-18 : Off 91392 96256 j
+  off-18 = go (decLt n 357) (decLt 375 n) (and-right (ltb n 683) (offTrack18 n) held) where
+    go : Dec (n < 357) → Dec (375 < n) → offTrack18 n ≡ true → Off 91392 96256 j
+    go (yes a) b e = before (omega (arith, w .to))
+    go (no a) (yes b) e = behind (omega (arith, w .from))
+    go (no a) (no b) e = never (sym (simp (le-ltb n 357 (omega arith), le-ltb 375 n (omega arith))) ∙ e)
+
+  -- it is not free, so that no save takes it
+  not-taken : sound d ≡ true → (image : List ℕ) → isIn (taken d image) n ≡ false
+  unfolding freeSectors
+  not-taken s image =
+      let f : isFree d n ≡ false = free-is d s n below ∙ go (offTrack18 n) (isIn (files d .sectors) n) u in
+      fails (isIn (taken d image) n) (isFree d n) (λ e. in-those (isFree d) (numbersFrom 0 683) n (in-take (sectorsFor image) (freeSectors d) n e)) f where
+        go : (o m : Bool) → m ≡ true → (o && not m) ≡ false
+        go true true e = refl
+        go false m e = refl
+        go true false e = never e
+
+  abbrev Kept : Answer (List ℕ) → Type 0
+  Kept a = getD (ontoDisk a d .disk) j 0 ≡ getD d j 0
+
+  kept-either : (q : Bool) (a b : Answer (List ℕ)) → (q ≡ true → Kept a) → Kept b → Kept (cond q a b)
+  kept-either true a b f g = f refl
+  kept-either false a b f g = g
+
+  kept-behind : (name : List ℕ) (a : Answer (List ℕ)) → (sound d ≡ true → isFileName name ≡ true → Kept a) → Kept (onSound d name a)
+  kept-behind name a f = kept-either (sound d) _ _ (λ s. kept-either (isFileName name) _ _ (λ m. f s m) refl) refl
+
+  -- ---- scratching
+
+  kept-first : (l : List ℕ) → Each (OnTrack18 30) l → Kept (ofFile l (λ p. done (markedAll (set d p 0) (chainOf 683 d p .sectors) true)))
+  kept-first [] e = refl
+  kept-first (p ∷ l) e =
+      let o : OnTrack18 30 p = e .at 0 (omega arith) in
+      marked-all-off (set d p 0) (chainOf 683 d p .sectors) true j
+      (λ m i. ltb-true m 683 (and-left (ltb m 683) (offTrack18 m) (by-held d 683 (linkAt d (p + 1)) m i))) (narrow off-18 (omega arith) (omega arith))
+      ∙ set-off d p 0 j (narrow off-18 (omega (arith, o .from)) (omega (arith, o .to)))
+
+  kept-scratched : (name : List ℕ) → Kept (scratched d name)
+  unfolding scratched
+  kept-scratched name =
+      kept-behind name _ (λ s m. kept-first (entriesNamed d name) (each-those (isNamed d name) (listed d) (entries-on true d)))
+
+  -- ---- saving
+
+  entry-long : (name sectors : List ℕ) → length name ≤ 16 → length (entryBytes name sectors) ≡ 30
+  entry-long name sectors h =
+      simp length-append (omega (arith, length-replicate {A = ℕ} (16 - length name) 0xA0))
+
+  -- bytes written on track 18
+  kept-sets : (x : List ℕ) (p : ℕ) (vs : List ℕ) → OnTrack18 (length vs) p → getD (sets x p vs) j 0 ≡ getD x j 0
+  kept-sets x p vs o = sets-off x p vs j (narrow off-18 (omega (arith, o .from)) (omega (arith, o .to)))
+
+  module _ (s : sound d ≡ true) (name image : List ℕ) (m : isFileName name ≡ true) where
+    abbrev chosen : List ℕ
+    chosen = taken d image
+
+    abbrev written : List ℕ
+    written = markedAll (laid d chosen image) chosen false
+
+    short : length name ≤ 16
+    short =
+        leb-true (length name) 16
+        (and-right (leb 1 (length name)) (leb (length name) 16) (and-left (leb 1 (length name) && leb (length name) 16) (not (isIn name 0xA0)) m))
+
+    kept-written : getD written j 0 ≡ getD d j 0
+    unfolding freeSectors
+    kept-written =
+        marked-all-off (laid d chosen image) chosen false j (λ i e. run-below 0 683 i (in-those-list (isFree d) (numbersFrom 0 683) i (in-take (sectorsFor image) (freeSectors d) i e)))
+        (narrow off-18 (omega arith) (omega arith))
+        ∙ laid-off d chosen image n j (not-taken s image) w
+
+    kept-entry : (p : ℕ) → OnTrack18 30 p → getD (sets written p (entryBytes name chosen)) j 0 ≡ getD d j 0
+    kept-entry p o = kept-sets written p (entryBytes name chosen) (rw (entry-long name chosen short) o) ∙ kept-written
+
+    kept-placed : (sectors l out : List ℕ) → Each (OnTrack18 30) l → Each (λ k. (358 ≤ k) × (k ≤ 375)) out
+        → (358 ≤ getD sectors (length sectors - 1) 0) × (getD sectors (length sectors - 1) 0 ≤ 375)
+        → Kept (withEntry (markedAll (laid d (taken d image) image) (taken d image) false) (entryBytes name (taken d image)) sectors l out)
+    kept-placed sectors (p ∷ l) out e f g = kept-entry p (e .at 0 (omega arith))
+    kept-placed sectors [] [] e f g = refl
+    kept-placed sectors [] (k ∷ out) e f g =
+        let o : (358 ≤ k) × (k ≤ 375) = f .at 0 (omega arith) in
+        let last : ℕ = getD sectors (length sectors - 1) 0 in
+        let whole : List ℕ = sets written (256 * k) (sectorBytes 0 0xFF []) in
+        kept-sets (grown written last k) (256 * k + 2) (entryBytes name chosen) (record { from = omega arith; to = omega (arith, entry-long name chosen short) })
+        ∙ marked-off (sets whole (256 * last) (trackOf k ∷ sectorOf k ∷ [])) k false j (omega arith) (narrow off-18 (omega arith) (omega arith))
+        ∙ kept-sets whole (256 * last) (trackOf k ∷ sectorOf k ∷ []) (record { from = omega arith; to = omega arith })
+        ∙ kept-sets written (256 * k) (sectorBytes 0 0xFF []) (record { from = omega arith; to = omega arith })
+        ∙ kept-written
+
+    kept-new : Kept (savedNew d name image)
+    unfolding savedNew
+    kept-new =
+        kept-either (ltb (length (freeSectors d)) (sectorsFor image)) (refused diskFull) (withFile d name image (taken d image)) (λ e. refl)
+        (kept-placed (directory d .sectors) (entriesThat false d (directory d .sectors)) (outside (directory d .sectors)) (entries-on false d) (outside-on (directory d .sectors))
+        (dir-sector d (length (directory d .sectors) - 1) (omega (arith, directory-some d refl))))
+
+  kept-saved : (name image : List ℕ) → Kept (saved d name image)
+  kept-saved name image =
+      let rest : Answer (List ℕ) = cond (leb 144 (length (listed d))) (refused directoryFull) (savedNew d name image) in
+      subst (λ (a : Answer (List ℕ)). Kept a) (tested d name image)
+      (kept-behind name (cond (some (isNamed d name) (listed d)) (refused nameTaken) rest)
+      (λ s m. kept-either (some (isNamed d name) (listed d)) (refused nameTaken) rest (λ e. refl)
+      (kept-either (leb 144 (length (listed d))) (refused directoryFull) (savedNew d name image) (λ e. refl) (kept-new s name image m))))
+
+  -- "no call but formatting changes another file's sectors"
+  pub kept-by-calls : (c : Call) → isFormat c ≡ false → getD (afterCall d c) j 0 ≡ getD d j 0
+  kept-by-calls Format e = never (sym e)
+  kept-by-calls Check e = refl
+  kept-by-calls (Read name) e = refl
+  kept-by-calls (Save name image) e = kept-saved name image
+  kept-by-calls (Scratch name) e = kept-scratched name
