@@ -183,13 +183,16 @@ module _ (w : Sets) (s : List ℕ) (e : last (equals 0x7D) s ≡ Nowhere) where
 -- ---- as the code asks
 
 module _ (w : Sets) (s : List ℕ) where
-  pub bound-text : {n : ℕ} → n ≡ 0 → n ≡ behindBrace s → min (length (crunchedBody (lexicon w) s)) 65536 ≤ length s
+  pub bound-text : {n : ℕ} → n ≤ 0 → n ≡ behindBrace s → length s ≤ 65536 → (min (length (crunchedBody (lexicon w) s)) 65536 ≤ length s) × (length s ≤ 65536)
   unfolding behindBrace
-  bound-text z e = omega (arith, body-bound w s (nowhere (last (equals 0x7D) s) (sym e ∙ z)))
+  bound-text z e h = (omega (arith, body-bound w s (nowhere (last (equals 0x7D) s) (omega (arith, e, z)))), h)
     where
-      nowhere : (f : Found) → _≡_ {A = ℕ} (elim f [ At n ↦ suc n | Nowhere ↦ 0 ]) 0 → f ≡ Nowhere
+      nowhere : (f : Found) → elim f [ At n ↦ suc n | Nowhere ↦ 0 ] ≤ 0 → f ≡ Nowhere
       nowhere (At n) q = absurd (omega arith)
       nowhere Nowhere q = refl
 
-  pub bound-measured : {r : ℕ} → r ≡ min (length (crunchedBody (lexicon w) s)) 65536 → min (length (crunchedBody (lexicon w) s)) 65536 ≤ r
-  bound-measured e = omega (arith, e)
+  pub bound-measured : {r : ℕ} → r ≡ min (length (crunchedBody (lexicon w) s)) 65536 → (min (length (crunchedBody (lexicon w) s)) 65536 ≤ r) × (r ≤ 65536)
+  bound-measured e = (omega (arith, e), omega (arith, e))
+
+  pub bound-most : (min (length (crunchedBody (lexicon w) s)) 65536 ≤ 65536) × (65536 ≤ 65536)
+  bound-most = (omega arith, omega arith)

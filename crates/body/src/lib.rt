@@ -55,12 +55,15 @@ pub fn measure_body(text: &[u8], bytes: &[u8], index: &[u16], sets: Sets) -> usi
 // A length that the body does not pass, or 65,536: that of its text, where there is no } in it.
 pub fn bound_body(text: &[u8], bytes: &[u8], index: &[u16], sets: Sets) -> usize
     requires { ⌜ SpellsWords (now bytes) (now index) ⌝ }
-    ensures { λ r. ⌜ min (length (crunchedBody (lexicon sets) (now (text .entry)))) 65536 ≤ r ⌝ }
+    ensures { λ r. ⌜ (min (length (crunchedBody (lexicon sets) (now (text .entry)))) 65536 ≤ r) × (r ≤ 65536) ⌝ }
 {
-    if behind_brace(text) == 0 {
-        return text.len();
+    if behind_brace(text) > 0 {
+        return measure_body(text, bytes, index, sets);
     }
-    measure_body(text, bytes, index, sets)
+    if text.len() > 65536 {
+        return 65536;
+    }
+    text.len()
 }
 
 // The place behind the last }, 0 where there is none.
