@@ -2,12 +2,12 @@
 // a frame, calls one function and writes what came back.
 mod dialects;
 mod disks;
+mod found;
 mod frames;
 mod images;
 mod listings;
-mod modes;
-mod found;
 mod measured;
+mod modes;
 mod rooms;
 mod texts;
 mod words;

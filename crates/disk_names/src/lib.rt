@@ -2,8 +2,8 @@
 use ascii::search;
 use ascii::search::Found;
 use ascii::search::Kind;
-use sentences::put::put_text;
 use petscii::hex_digit;
+use sentences::put::put_text;
 ghost use mathlib.Core.Path.{_≡_};
 ghost use Prim.Native.Nat.{_+_, _≤_, _<_};
 ghost use lib.ListN.{length, drop};
