@@ -5,8 +5,7 @@ use image::LineMeasured;
 use image::MeasuredLine;
 use image::Options;
 use readers::Line;
-use tables::dialect;
-use tables::dialect::Named;
+use dialect::Named;
 
 // No bit of the options is known yet.
 pub fn measured_line(payload: &[u8]) -> bool {
