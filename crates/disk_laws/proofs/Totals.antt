@@ -65,6 +65,14 @@ holds d e =
       agrees = and-right j (mapAgrees d (isIn (files d .sectors))) e;
     }
 
+both : {a b : Bool} → a ≡ true → b ≡ true → (a && b) ≡ true
+both e f = rw e f
+
+pub all-hold : (d : List ℕ) → Holds d → sound d ≡ true
+unfolding sound
+all-hold d h =
+    both (both (both (both (both (both (both (both (h .size) (h .track)) (h .sector)) (h .ends)) (h .once)) (h .good)) (h .through)) (h .apart)) (h .agrees)
+
 -- ---- the sectors of chains
 
 head-or : (P : ℕ → Type 0) (m n : ℕ) (r : Bool) → (eqb m n || r) ≡ true → P n → (r ≡ true → P m) → P m
