@@ -30,7 +30,7 @@ use Rattle.disk_laws.proofs.Totals.{chain-held, chains-held, by-held, f
 use Rattle.disk_laws.proofs.Room.{tested}
 use Rattle.disk_laws.proofs.Elsewhere.{Off, before, behind, narrow, set-off, sets-off, marked-off, marked-all-off, Within, laid-off}
 
-never : {A : Type 0} → _≡_ {A = Bool} false true → A
+pub never : {A : Type 0} → _≡_ {A = Bool} false true → A
 never e = absurd (let z : _≡_ {A = ℕ} 0 1 = cc in omega arith)
 
 -- ---- what stands in lists
@@ -62,7 +62,7 @@ in-at (n ∷ l) zero h = rw (eq-eqb n n refl)
 in-at (n ∷ l) (suc i) h = or-right (eqb (getD l i 0) n) (isIn l (getD l i 0)) (in-at l i (omega arith))
 
 -- what passes a test stands in the list
-in-those-list : (test : ℕ → Bool) (l : List ℕ) (n : ℕ) → isIn (those test l) n ≡ true → isIn l n ≡ true
+pub in-those-list : (test : ℕ → Bool) (l : List ℕ) (n : ℕ) → isIn (those test l) n ≡ true → isIn l n ≡ true
 unfolding those some
 in-those-list test [] n e = never e
 in-those-list test (m ∷ l) n e = go (test m) (in-those-list test l n) e where
@@ -123,6 +123,69 @@ outside-on sectors = each-those (λ n. not (isIn sectors n)) (numbersFrom 358 18
   plain from zero a b = each-none
   plain from (suc k) a b = each-one (a, omega arith) (plain (from + 1) k (omega arith) (omega arith))
 
+-- ---- a byte off track 18
+
+module _ (j : ℕ) (off : Off 91392 96256 j) where
+  -- bytes written on track 18
+  sets-18 : (x : List ℕ) (p : ℕ) (vs : List ℕ) → OnTrack18 (length vs) p → getD (sets x p vs) j 0 ≡ getD x j 0
+  sets-18 x p vs o = sets-off x p vs j (narrow off (omega (arith, o .from)) (omega (arith, o .to)))
+
+  -- marks
+  marks-18 : (x ns : List ℕ) (free : Bool) → ((m : ℕ) → isIn ns m ≡ true → m < 683) → getD (markedAll x ns free) j 0 ≡ getD x j 0
+  marks-18 x ns free h = marked-all-off x ns free j h (narrow off (omega arith) (omega arith))
+
+  -- an entry, with or without the directory's growth
+  pub placed-18 : (x y entry sectors l out : List ℕ) → getD x j 0 ≡ getD y j 0 → length entry ≡ 30 → Each (OnTrack18 30) l → Each (λ k. (358 ≤ k) × (k ≤ 375)) out
+      → (358 ≤ getD sectors (length sectors - 1) 0) × (getD sectors (length sectors - 1) 0 ≤ 375)
+      → getD (ontoDisk (withEntry x entry sectors l out) y .disk) j 0 ≡ getD y j 0
+  placed-18 x y entry sectors (p ∷ l) out h n e f g = let o : OnTrack18 30 p = e .at 0 (omega arith) in sets-18 x p entry (rw n o) ∙ h
+  placed-18 x y entry sectors [] [] h n e f g = refl
+  placed-18 x y entry sectors [] (k ∷ out) h n e f g =
+      let o : (358 ≤ k) × (k ≤ 375) = f .at 0 (omega arith) in
+      let last : ℕ = getD sectors (length sectors - 1) 0 in
+      let whole : List ℕ = sets x (256 * k) (sectorBytes 0 0xFF []) in
+      sets-18 (grown x last k) (256 * k + 2) entry (record { from = omega arith; to = omega arith })
+      ∙ marked-off (sets whole (256 * last) (trackOf k ∷ sectorOf k ∷ [])) k false j (omega arith) (narrow off (omega arith) (omega arith))
+      ∙ sets-18 whole (256 * last) (trackOf k ∷ sectorOf k ∷ []) (record { from = omega arith; to = omega arith })
+      ∙ sets-18 x (256 * k) (sectorBytes 0 0xFF []) (record { from = omega arith; to = omega arith })
+      ∙ h
+
+entry-long : (name sectors : List ℕ) → length name ≤ 16 → length (entryBytes name sectors) ≡ 30
+entry-long name sectors h = simp length-append (omega (arith, length-replicate {A = ℕ} (16 - length name) 0xA0))
+
+name-short : (name : List ℕ) → isFileName name ≡ true → length name ≤ 16
+name-short name m =
+    leb-true (length name) 16
+    (and-right (leb 1 (length name)) (leb (length name) 16) (and-left (leb 1 (length name) && leb (length name) 16) (not (isIn name 0xA0)) m))
+
+-- the sectors that a save takes are free
+pub taken-free : (d image : List ℕ) (m : ℕ) → isIn (taken d image) m ≡ true → isFree d m ≡ true
+unfolding freeSectors
+taken-free d image m e = in-those (isFree d) (numbersFrom 0 683) m (in-take (sectorsFor image) (freeSectors d) m e)
+
+pub taken-below : (d image : List ℕ) (m : ℕ) → isIn (taken d image) m ≡ true → m < 683
+unfolding freeSectors
+taken-below d image m e = run-below 0 683 m (in-those-list (isFree d) (numbersFrom 0 683) m (in-take (sectorsFor image) (freeSectors d) m e))
+
+-- a file written: off track 18 it is what was laid
+module _ (d name image : List ℕ) (m : isFileName name ≡ true) (j : ℕ) (off : Off 91392 96256 j) where
+  pub file-18 : (y : List ℕ) → getD (laid d (taken d image) image) j 0 ≡ getD y j 0
+      → getD (ontoDisk (withFile d name image (taken d image)) y .disk) j 0 ≡ getD y j 0
+  file-18 y h =
+      placed-18 j off (markedAll (laid d (taken d image) image) (taken d image) false) y (entryBytes name (taken d image)) (directory d .sectors)
+      (entriesThat false d (directory d .sectors)) (outside (directory d .sectors))
+      (marks-18 j off (laid d (taken d image) image) (taken d image) false (taken-below d image) ∙ h)
+      (entry-long name (taken d image) (name-short name m)) (entries-on false d) (outside-on (directory d .sectors))
+      (dir-sector d (length (directory d .sectors) - 1) (omega (arith, directory-some d refl)))
+
+-- a sector off track 18
+pub sector-off : (n j : ℕ) → Within n j → offTrack18 n ≡ true → Off 91392 96256 j
+sector-off n j w = go (decLt n 357) (decLt 375 n) where
+  go : Dec (n < 357) → Dec (375 < n) → offTrack18 n ≡ true → Off 91392 96256 j
+  go (yes a) b e = before (omega (arith, w .to))
+  go (no a) (yes b) e = behind (omega (arith, w .from))
+  go (no a) (no b) e = never (sym (simp (le-ltb n 357 (omega arith), le-ltb 375 n (omega arith))) ∙ e)
+
 -- ---- a byte of a sector that is in use
 
 module _ (d : List ℕ) (n j : ℕ) (u : isIn (files d .sectors) n ≡ true) (w : Within n j) where
@@ -132,20 +195,14 @@ module _ (d : List ℕ) (n j : ℕ) (u : isIn (files d .sectors) n ≡ true) (w 
   below : n < 683
   below = ltb-true n 683 (and-left (ltb n 683) (offTrack18 n) held)
 
-  -- it stands off track 18
   off-18 : Off 91392 96256 j
-  off-18 = go (decLt n 357) (decLt 375 n) (and-right (ltb n 683) (offTrack18 n) held) where
-    go : Dec (n < 357) → Dec (375 < n) → offTrack18 n ≡ true → Off 91392 96256 j
-    go (yes a) b e = before (omega (arith, w .to))
-    go (no a) (yes b) e = behind (omega (arith, w .from))
-    go (no a) (no b) e = never (sym (simp (le-ltb n 357 (omega arith), le-ltb 375 n (omega arith))) ∙ e)
+  off-18 = sector-off n j w (and-right (ltb n 683) (offTrack18 n) held)
 
   -- it is not free, so that no save takes it
   not-taken : sound d ≡ true → (image : List ℕ) → isIn (taken d image) n ≡ false
-  unfolding freeSectors
   not-taken s image =
       let f : isFree d n ≡ false = free-is d s n below ∙ go (offTrack18 n) (isIn (files d .sectors) n) u in
-      fails (isIn (taken d image) n) (isFree d n) (λ e. in-those (isFree d) (numbersFrom 0 683) n (in-take (sectorsFor image) (freeSectors d) n e)) f where
+      fails (isIn (taken d image) n) (isFree d n) (taken-free d image n) f where
         go : (o m : Bool) → m ≡ true → (o && not m) ≡ false
         go true true e = refl
         go false m e = refl
@@ -161,14 +218,12 @@ module _ (d : List ℕ) (n j : ℕ) (u : isIn (files d .sectors) n ≡ true) (w 
   kept-behind : (name : List ℕ) (a : Answer (List ℕ)) → (sound d ≡ true → isFileName name ≡ true → Kept a) → Kept (onSound d name a)
   kept-behind name a f = kept-either (sound d) _ _ (λ s. kept-either (isFileName name) _ _ (λ m. f s m) refl) refl
 
-  -- ---- scratching
-
   kept-first : (l : List ℕ) → Each (OnTrack18 30) l → Kept (ofFile l (λ p. done (markedAll (set d p 0) (chainOf 683 d p .sectors) true)))
   kept-first [] e = refl
   kept-first (p ∷ l) e =
       let o : OnTrack18 30 p = e .at 0 (omega arith) in
-      marked-all-off (set d p 0) (chainOf 683 d p .sectors) true j
-      (λ m i. ltb-true m 683 (and-left (ltb m 683) (offTrack18 m) (by-held d 683 (linkAt d (p + 1)) m i))) (narrow off-18 (omega arith) (omega arith))
+      marks-18 j off-18 (set d p 0) (chainOf 683 d p .sectors) true
+      (λ m i. ltb-true m 683 (and-left (ltb m 683) (offTrack18 m) (by-held d 683 (linkAt d (p + 1)) m i)))
       ∙ set-off d p 0 j (narrow off-18 (omega (arith, o .from)) (omega (arith, o .to)))
 
   kept-scratched : (name : List ℕ) → Kept (scratched d name)
@@ -176,59 +231,11 @@ module _ (d : List ℕ) (n j : ℕ) (u : isIn (files d .sectors) n ≡ true) (w 
   kept-scratched name =
       kept-behind name _ (λ s m. kept-first (entriesNamed d name) (each-those (isNamed d name) (listed d) (entries-on true d)))
 
-  -- ---- saving
-
-  entry-long : (name sectors : List ℕ) → length name ≤ 16 → length (entryBytes name sectors) ≡ 30
-  entry-long name sectors h =
-      simp length-append (omega (arith, length-replicate {A = ℕ} (16 - length name) 0xA0))
-
-  -- bytes written on track 18
-  kept-sets : (x : List ℕ) (p : ℕ) (vs : List ℕ) → OnTrack18 (length vs) p → getD (sets x p vs) j 0 ≡ getD x j 0
-  kept-sets x p vs o = sets-off x p vs j (narrow off-18 (omega (arith, o .from)) (omega (arith, o .to)))
-
-  module _ (s : sound d ≡ true) (name image : List ℕ) (m : isFileName name ≡ true) where
-    abbrev chosen : List ℕ
-    chosen = taken d image
-
-    abbrev written : List ℕ
-    written = markedAll (laid d chosen image) chosen false
-
-    short : length name ≤ 16
-    short =
-        leb-true (length name) 16
-        (and-right (leb 1 (length name)) (leb (length name) 16) (and-left (leb 1 (length name) && leb (length name) 16) (not (isIn name 0xA0)) m))
-
-    kept-written : getD written j 0 ≡ getD d j 0
-    unfolding freeSectors
-    kept-written =
-        marked-all-off (laid d chosen image) chosen false j (λ i e. run-below 0 683 i (in-those-list (isFree d) (numbersFrom 0 683) i (in-take (sectorsFor image) (freeSectors d) i e)))
-        (narrow off-18 (omega arith) (omega arith))
-        ∙ laid-off d chosen image n j (not-taken s image) w
-
-    kept-entry : (p : ℕ) → OnTrack18 30 p → getD (sets written p (entryBytes name chosen)) j 0 ≡ getD d j 0
-    kept-entry p o = kept-sets written p (entryBytes name chosen) (rw (entry-long name chosen short) o) ∙ kept-written
-
-    kept-placed : (sectors l out : List ℕ) → Each (OnTrack18 30) l → Each (λ k. (358 ≤ k) × (k ≤ 375)) out
-        → (358 ≤ getD sectors (length sectors - 1) 0) × (getD sectors (length sectors - 1) 0 ≤ 375)
-        → Kept (withEntry (markedAll (laid d (taken d image) image) (taken d image) false) (entryBytes name (taken d image)) sectors l out)
-    kept-placed sectors (p ∷ l) out e f g = kept-entry p (e .at 0 (omega arith))
-    kept-placed sectors [] [] e f g = refl
-    kept-placed sectors [] (k ∷ out) e f g =
-        let o : (358 ≤ k) × (k ≤ 375) = f .at 0 (omega arith) in
-        let last : ℕ = getD sectors (length sectors - 1) 0 in
-        let whole : List ℕ = sets written (256 * k) (sectorBytes 0 0xFF []) in
-        kept-sets (grown written last k) (256 * k + 2) (entryBytes name chosen) (record { from = omega arith; to = omega (arith, entry-long name chosen short) })
-        ∙ marked-off (sets whole (256 * last) (trackOf k ∷ sectorOf k ∷ [])) k false j (omega arith) (narrow off-18 (omega arith) (omega arith))
-        ∙ kept-sets whole (256 * last) (trackOf k ∷ sectorOf k ∷ []) (record { from = omega arith; to = omega arith })
-        ∙ kept-sets written (256 * k) (sectorBytes 0 0xFF []) (record { from = omega arith; to = omega arith })
-        ∙ kept-written
-
-    kept-new : Kept (savedNew d name image)
-    unfolding savedNew
-    kept-new =
-        kept-either (ltb (length (freeSectors d)) (sectorsFor image)) (refused diskFull) (withFile d name image (taken d image)) (λ e. refl)
-        (kept-placed (directory d .sectors) (entriesThat false d (directory d .sectors)) (outside (directory d .sectors)) (entries-on false d) (outside-on (directory d .sectors))
-        (dir-sector d (length (directory d .sectors) - 1) (omega (arith, directory-some d refl))))
+  kept-new : (name image : List ℕ) → sound d ≡ true → isFileName name ≡ true → Kept (savedNew d name image)
+  unfolding savedNew
+  kept-new name image s m =
+      kept-either (ltb (length (freeSectors d)) (sectorsFor image)) (refused diskFull) (withFile d name image (taken d image)) (λ e. refl)
+      (file-18 d name image m j off-18 d (laid-off d (taken d image) image n j (not-taken s image) w))
 
   kept-saved : (name image : List ℕ) → Kept (saved d name image)
   kept-saved name image =
@@ -236,7 +243,7 @@ module _ (d : List ℕ) (n j : ℕ) (u : isIn (files d .sectors) n ≡ true) (w 
       subst (λ (a : Answer (List ℕ)). Kept a) (tested d name image)
       (kept-behind name (cond (some (isNamed d name) (listed d)) (refused nameTaken) rest)
       (λ s m. kept-either (some (isNamed d name) (listed d)) (refused nameTaken) rest (λ e. refl)
-      (kept-either (leb 144 (length (listed d))) (refused directoryFull) (savedNew d name image) (λ e. refl) (kept-new s name image m))))
+      (kept-either (leb 144 (length (listed d))) (refused directoryFull) (savedNew d name image) (λ e. refl) (kept-new name image s m))))
 
   -- "no call but formatting changes another file's sectors"
   pub kept-by-calls : (c : Call) → isFormat c ≡ false → getD (afterCall d c) j 0 ≡ getD d j 0

@@ -1,7 +1,10 @@
 pub mod Counting
 pub mod Elsewhere
+pub mod Files
 pub mod Fresh
 pub mod Geometry
 pub mod Kept
+pub mod Laid
 pub mod Room
+pub mod Saved
 pub mod Totals
