@@ -4,4 +4,5 @@ pub mod Examples
 pub mod Lining
 pub mod Longest
 pub mod Progress
+pub mod Stretches
 pub mod Whole

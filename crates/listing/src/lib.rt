@@ -14,6 +14,7 @@ ghost use Rattle.listing.specs.Modes.{heedsPrefix, rulesUnder, listingUn
 
 pub mod body;
 pub mod decimal;
+pub mod stretch;
 
 // How an image is listed.
 pub struct ListOptions {

@@ -1,0 +1,25 @@
+-- `listing::stretch::list_stretch` meets its contract: the constants that it lends are the tables.
+-- Assumes nothing.
+use Rattle.texts.proofs.TextTable.{texts-right, rightBelow}
+use Rattle.listing.proofs.Stretches.{stretch-told, stretch-stored}
+use borrow.Author.Needs.{needs}
+use Rattle.listing.proofs.stretch.list_stretch.Statement.{statement}
+use Rattle.listing.proofs.stretch.list_stretch.Tie as tie
+
+put-stretch-requires : tie.Need-put-stretch-requires
+unfolding rightBelow
+put-stretch-requires c κs = texts-right _ _ tt
+
+returns : tie.Need-returns
+returns c = (search stretch-told, search stretch-stored)
+
+pub list-stretch-spec : {M : Type 1} → statement M
+list-stretch-spec =
+    tie.close
+    (tie.spec
+    (λ c. search needs)
+    (λ c. search needs)
+    (λ c κs. search needs)
+    put-stretch-requires
+    (λ c. search needs)
+    returns)
