@@ -25,7 +25,7 @@ use Rattle.jumps.specs.declared.Moved.{Moved}
 use Rattle.jumps.specs.declared.Next.{Next}
 use Rattle.jumps.specs.declared.Next.the-variants.{Jump, None}
 use Rattle.jumps.specs.Jumps.{withDigit, told, targetsFrom, openedList, heeded, jumpsFrom}
-use Rattle.jumps.specs.JumpHelpers.{low, lowPart, leftFrom, leftOf, distance, Moves, NextIs, Begins}
+use Rattle.jumps.specs.JumpHelpers.{low, lowPart, leftFrom, leftOf, distance, Moves, JumpsTo, NextIs, Begins}
 use Rattle.jumps.proofs.Targets.{targets-none, targets-digit, targets-space, targets-comma, targets-other, low-early}
 use Rattle.jumps.proofs.Walking.{Inert, jumps-none, jumps-more, jumps-pass}
 
@@ -217,19 +217,22 @@ module _ (body : List ℕ) (c : Cursor) (text : c .listed ≡ false) where
 -- what is left now is what was left
 pub record Onwards (body : List ℕ) (c₀ c : Cursor) : Type 0 where
   pub same : leftOf body c₀ ≡ leftOf body c
+  pub near : distance body c ≤ distance body c₀
 
 pub onwards-start : (body : List ℕ) (c : Cursor) → Onwards body c c
-onwards-start body c = record { same = refl }
+onwards-start body c = record { same = refl; near = omega arith }
 
 module _ {body : List ℕ} {c₀ c : Cursor} (o : Onwards body c₀ c) {m : Moved} (k : Moves body c m) where
   pub onwards-turn : m .told ≡ Empty → Onwards body c₀ (m .cursor)
-  onwards-turn e = record { same = o .same ∙ k .same ∙ ap (λ (p : Part). told (lowPart p) (leftOf body (m .cursor))) e }
+  onwards-turn e =
+      record { same = o .same ∙ k .same ∙ ap (λ (p : Part). told (lowPart p) (leftOf body (m .cursor))) e; near = omega (arith, o .near, k .nearer) }
 
-  pub next-told : {target : ℕ} → m .told ≡ Worth target → leftOf body c₀ ≡ low target ∷ leftOf body (m .cursor)
-  next-told e = o .same ∙ k .same ∙ ap (λ (p : Part). told (lowPart p) (leftOf body (m .cursor))) e
+  pub next-told : {target : ℕ} → m .told ≡ Worth target → JumpsTo body c₀ target (m .cursor)
+  next-told e =
+      record { same = o .same ∙ k .same ∙ ap (λ (p : Part). told (lowPart p) (leftOf body (m .cursor))) e; nearer = omega (arith, o .near, k .nearer) }
 
 pub next-last : {body : List ℕ} {c₀ c : Cursor} → Onwards body c₀ c → (r : Next) → NextIs body c r → NextIs body c₀ r
-next-last o (Jump target d) k = o .same ∙ k
+next-last o (Jump target d) k = record { same = o .same ∙ k .same; nearer = omega (arith, o .near, k .nearer) }
 next-last o None k = o .same ∙ k
 
 -- at the end
@@ -248,10 +251,14 @@ module _ (body : List ℕ) (c : Cursor) (h : length body ≤ c .at) where
   last-empty e f = last-list e ∙ ap (λ (p : Part). told (lowPart p) []) f
 
   pub last-worth : c .listed ≡ true → {target : ℕ} → c .part ≡ Worth target
-      → leftOf body c ≡ low target ∷ leftOf body (record { at = c .at; mode = c .mode; listed = false; part = Empty })
+      → JumpsTo body c target (record { at = c .at; mode = c .mode; listed = false; part = Empty })
   last-worth e {target} f =
-      last-list e ∙ ap (λ (p : Part). told (lowPart p) []) f
-      ∙ ap (λ (x : List ℕ). low target ∷ x) (sym (left-text body d refl ∙ ap (λ (x : List ℕ). cut (jumpsFrom (c .mode) x)) (drop-of-length-le body h) ∙ ap cut (jumps-none (c .mode))))
+      record {
+        same =
+            last-list e ∙ ap (λ (p : Part). told (lowPart p) []) f
+            ∙ ap (λ (x : List ℕ). low target ∷ x) (sym (left-text body d refl ∙ ap (λ (x : List ℕ). cut (jumpsFrom (c .mode) x)) (drop-of-length-le body h) ∙ ap cut (jumps-none (c .mode))));
+        nearer = let z : _≡_ {A = ℕ} (cond (c .listed) 1 0) 1 = ap (λ (t : Bool). cond t 1 0) e in omega arith;
+      }
     where
       d : Cursor
       d = record { at = c .at; mode = c .mode; listed = false; part = Empty }

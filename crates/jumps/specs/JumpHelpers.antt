@@ -46,9 +46,14 @@ pub record Moves (body : List ℕ) (c : Cursor) (r : Moved) : Type 0 where
   pub same : leftOf body c ≡ told (lowPart (r .told)) (leftOf body (r .cursor))
   pub nearer : distance body (r .cursor) < distance body c
 
--- the next jump, and what is left behind it
+-- a jump, and what is left behind it, nearer to the end
+pub record JumpsTo (body : List ℕ) (c : Cursor) (target : ℕ) (d : Cursor) : Type 0 where
+  pub same : leftOf body c ≡ low target ∷ leftOf body d
+  pub nearer : distance body d < distance body c
+
+-- the next jump
 abbrev pub NextIs : List ℕ → Cursor → Next → Type 0
-NextIs body c (Jump target d) = leftOf body c ≡ low target ∷ leftOf body d
+NextIs body c (Jump target d) = JumpsTo body c target d
 NextIs body c None = leftOf body c ≡ []
 
 -- the byte at a place of plain text opens a list that begins at a place behind it, and no other jump stands between

@@ -1,0 +1,69 @@
+-- What the contracts of the passes over an image say. Targets are cut at 65536, as the steps over a body tell them. The report leaves
+-- out the jumps to marked numbers; the index leaves out none, since nothing is marked.
+-- Assumes nothing.
+use Prim.Native.Nat.{ℕ, _+_, _*_, _≤_}
+use mathlib.Core.Path.{_≡_}
+use mathlib.Core.Bool.{true, false, cond}
+use mathlib.Core.List.{List, [], _∷_, _++_, map}
+use lib.Dec.{eqb, ltb}
+use lib.ListN.{length, getD}
+use Rattle.refusals.specs.Answer.{Answer, done, refused}
+use Rattle.readers.specs.declared.Line.{Line}
+use Rattle.readers.specs.Bodies.{bodyOf}
+use Rattle.readers.specs.Lines.{linesFrom}
+use Rattle.readers.specs.Links.{linkStep}
+use Rattle.jumps.specs.Jumps.{jumpsFrom, jumpsOf}
+use Rattle.jumps.specs.JumpHelpers.{low}
+use Rattle.bits.specs.Bits.{fieldBits}
+use Rattle.line_index.specs.declared.Counted.{Counted}
+use Rattle.line_index.specs.declared.Counted.the-variants.{TooHigh, Jumps}
+use Rattle.line_index.specs.Index.{IndexJump, jumpTo, jumpFields}
+
+-- the lines from p on, and none where there is a fault
+abbrev pub listed : Answer (List Line) → List Line
+listed (done ls) = ls
+listed (refused n) = []
+
+abbrev pub foundFrom : List ℕ → ℕ → List Line
+foundFrom s p = listed (linesFrom linkStep s p)
+
+-- no fault from p on
+abbrev pub Sound : List ℕ → ℕ → Type 0
+Sound s p = linesFrom linkStep s p ≡ done (foundFrom s p)
+
+-- the targets of a body, cut
+abbrev pub lowJumps : List ℕ → List ℕ
+lowJumps body = map low (jumpsOf body)
+
+-- those of lines
+unfoldable pub lowTargets : List ℕ → List Line → List ℕ
+unfolding jumpsFrom
+lowTargets s [] = []
+lowTargets s (l ∷ ls) = lowJumps (bodyOf s l) ++ lowTargets s ls
+
+-- how many of the targets are not marked, behind n of them, unless one is too high
+unfoldable pub counted : List ℕ → ℕ → List ℕ → Counted
+counted marked n [] = Jumps n
+counted marked n (t ∷ ts) = cond (ltb 65535 t) TooHigh (counted marked (n + cond (eqb (getD marked t 0) 0) 1 0) ts)
+
+-- so many, and no more than a count
+abbrev pub AtMost : ℕ → Counted → Type 0
+AtMost most TooHigh = Unit {0}
+AtMost most (Jumps n) = n ≤ most
+
+pub record CountedIs (marked : List ℕ) (n : ℕ) (ts : List ℕ) (most : ℕ) (r : Counted) : Type 0 where
+  pub is : r ≡ counted marked n ts
+  pub few : AtMost most r
+
+-- the bits of the jumps of a line to numbers that are not marked
+unfoldable pub targetBits : List ℕ → ℕ → List ℕ → List ℕ
+unfolding fieldBits jumpFields
+targetBits marked place [] = []
+targetBits marked place (t ∷ ts) =
+    elim (eqb (getD marked t 0) 0) [ true ↦ fieldBits (jumpFields (jumpTo place t ∷ [])) ++ targetBits marked place ts | false ↦ targetBits marked place ts ]
+
+-- those of lines, v being before these
+unfoldable pub jumpBits : List ℕ → List ℕ → ℕ → List Line → List ℕ
+unfolding jumpsFrom targetBits
+jumpBits marked s v [] = []
+jumpBits marked s v (l ∷ ls) = targetBits marked (v + 1) (lowJumps (bodyOf s l)) ++ jumpBits marked s (v + 1) ls
