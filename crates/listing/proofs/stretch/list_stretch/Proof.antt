@@ -1,14 +1,15 @@
 -- `listing::stretch::list_stretch` meets its contract: the constants that it lends are the tables.
 -- Assumes nothing.
-use Rattle.texts.proofs.TextTable.{texts-right, rightBelow}
+use mathlib.Core.Path.{refl}
+use Rattle.texts.proofs.TextTable.{textBytes, textStarts, texts-spelt}
 use Rattle.listing.proofs.Stretches.{stretch-told, stretch-stored}
 use borrow.Author.Needs.{needs}
 use Rattle.listing.proofs.stretch.list_stretch.Statement.{statement}
 use Rattle.listing.proofs.stretch.list_stretch.Tie as tie
 
 put-stretch-requires : tie.Need-put-stretch-requires
-unfolding rightBelow
-put-stretch-requires c κs = texts-right _ _ tt
+unfolding textBytes textStarts
+put-stretch-requires c κs = texts-spelt refl refl
 
 returns : tie.Need-returns
 returns c = (search stretch-told, search stretch-stored)
