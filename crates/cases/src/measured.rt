@@ -1,11 +1,11 @@
 // Op 1A: the line at a place of the image that a text would have.
 use crate::frames;
+use dialect::Named;
 use frames::Answer;
 use image::LineMeasured;
 use image::MeasuredLine;
 use image::Options;
 use readers::Line;
-use dialect::Named;
 
 // No bit of the options is known yet.
 pub fn measured_line(payload: &[u8]) -> bool {

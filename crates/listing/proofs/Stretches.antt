@@ -170,7 +170,7 @@ module _ {rules : Rules} {body buffer : List ℕ} {s : Spot} {out : List ℕ} {t
           let text = unitText (t .unit) in
           let left : length out - to - length (unitText (t .unit)) ≡ length out′ - to′ = omega (arith, put-long p, p .ends) in
           let r : here ≡ unitBefore t (runFrom rules (length out′ - to′) (t .mode) (drop (at + t .used) body)) =
-              run-fits rules (length out - to) mode body at h e is (not-false fit f) ∙ ap (λ (n : ℕ). unitBefore t (runFrom rules n (t .mode) (drop (at + t .used) body))) left in
+          run-fits rules (length out - to) mode body at h e is (not-false fit f) ∙ ap (λ (n : ℕ). unitBefore t (runFrom rules n (t .mode) (drop (at + t .used) body))) left in
           record {
             low = omega (arith, unit-room, k .low, put-long p, p .ends);
             owed = owed-turn (k .owed) text _ (ap (λ (x : Run). x .text) r) p;
