@@ -9,7 +9,7 @@ use lib.ListN.{length, getD, take, drop, length-drop, drop-of-length-le}
 use lib.Seq.{drop-cons, take-all}
 use borrow.Author.Tests.{eq-eqb, ne-eqb}
 use Rattle.sentences.specs.Clipped.{Clipped}
-use Rattle.sentences.specs.Decimal.{inDecimal}
+use Rattle.decimals.specs.Decimal.{decimal}
 use Rattle.sentences.specs.Sentence.{filled, behindRows}
 use Rattle.sentences.proofs.Clipping.{Owes, owes-all, owes-less, owes-none}
 
@@ -63,7 +63,7 @@ module _ (row : List ℕ) (i a b : ℕ) (h : i < length row) where
   unfolding filled
   filled-lf e = rw (drop-cons row i 0 h, filled, eq-eqb _ _ e)
 
-  filled-mark : getD row i 0 ≡ 0x23 → filled (drop i row) a b ≡ inDecimal a ++ filled (drop (i + 1) row) b 0
+  filled-mark : getD row i 0 ≡ 0x23 → filled (drop i row) a b ≡ decimal a ++ filled (drop (i + 1) row) b 0
   unfolding filled
   filled-mark e =
       let other : getD row i 0 ≡ 0x0A → ⊥ = λ (f : getD row i 0 ≡ 0x0A). omega arith in
@@ -82,9 +82,9 @@ pub filling-start : (row : List ℕ) (first second : ℕ) {at : ℕ} {buffer : L
 filling-start row first second h = record { few = omega arith; owes = owes-all (filled row first second) h }
 
 module _ {row : List ℕ} {first second at : ℕ} {buffer out : List ℕ} {i to value later : ℕ} (k : Filling row first second at buffer out i to value later) where
-  pub filling-mark : i < length row → getD row i 0 ≡ 0x23 → {mid : ℕ} {half : List ℕ} → Clipped out to (inDecimal value) mid half
+  pub filling-mark : i < length row → getD row i 0 ≡ 0x23 → {mid : ℕ} {half : List ℕ} → Clipped out to (decimal value) mid half
       → Filling row first second at buffer half (i + 1) mid later 0
-  filling-mark h e p = record { few = omega arith; owes = owes-less (inDecimal value) (filled (drop (i + 1) row) later 0) (k .owes) (filled-mark row i value later h e) p }
+  filling-mark h e p = record { few = omega arith; owes = owes-less (decimal value) (filled (drop (i + 1) row) later 0) (k .owes) (filled-mark row i value later h e) p }
 
   pub filling-byte : i < length row → (getD row i 0 ≡ 0x0A → ⊥) → (getD row i 0 ≡ 0x23 → ⊥) → {mid : ℕ} {half : List ℕ}
       → Clipped out to (getD row i 0 ∷ []) mid half → Filling row first second at buffer half (i + 1) mid value later

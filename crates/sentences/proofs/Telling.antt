@@ -9,10 +9,11 @@ use borrow.Author.Tests.{eq-eqb, ne-eqb}
 use Rattle.refusals.specs.declared.Code.{Code}
 use Rattle.words.specs.Spelling.{bytesOf}
 use Rattle.sentences.specs.Clipped.{Clipped}
-use Rattle.sentences.specs.Decimal.{inDecimal}
+use Rattle.decimals.specs.Decimal.{decimal}
 use Rattle.sentences.specs.Place.{textPlace}
 use Rattle.sentences.specs.declared.place.Place.{Place}
-use Rattle.sentences.specs.Sentence.{rows, placedRow, filled, behindRows, sentenceOf, sentence, placedSentence, nameFirst, numberLast, message}
+use Rattle.sentences.specs.Rows.{rows, placedRow}
+use Rattle.sentences.specs.Sentence.{filled, behindRows, sentenceOf, sentence, placedSentence, nameFirst, numberLast, message}
 use Rattle.sentences.proofs.Clipping.{clip-as, clip-none, clip-both}
 
 some : (k a b : ℕ) → 0 < k → filled (behindRows (k - 1) rows) a b ≡ sentenceOf k a b
@@ -45,7 +46,7 @@ pub tells-name : (name : List ℕ) {buffer half after : List ℕ} {mid behind : 
 unfolding nameFirst
 tells-name name p q = clip-both _ _ p q
 
-pub tells-number : (n : ℕ) {buffer h₁ h₂ after : List ℕ} {at m₁ m₂ behind : ℕ} → Clipped buffer at (bytesOf " (refusal ") m₁ h₁ → Clipped h₁ m₁ (inDecimal n) m₂ h₂
+pub tells-number : (n : ℕ) {buffer h₁ h₂ after : List ℕ} {at m₁ m₂ behind : ℕ} → Clipped buffer at (bytesOf " (refusal ") m₁ h₁ → Clipped h₁ m₁ (decimal n) m₂ h₂
     → Clipped h₂ m₂ (0x29 ∷ 0x0A ∷ []) behind after → Clipped buffer at (numberLast n) behind after
 unfolding numberLast
 tells-number n p q r = clip-both _ _ p (clip-both _ _ q r)

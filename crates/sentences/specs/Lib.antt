@@ -1,4 +1,5 @@
 pub mod Clipped
-pub mod Decimal
 pub mod Place
+pub mod Rows
 pub mod Sentence
+pub mod SpeltHelpers

@@ -2,8 +2,9 @@
 ghost use mathlib.Core.Path.{_≡_};
 ghost use Prim.Native.Nat.{_+_, _≤_, _<_};
 ghost use lib.ListN.{length, drop};
-ghost use Rattle.sentences.specs.Decimal.{inDecimal};
-ghost use Rattle.sentences.specs.Clipped.{Clipped, Spelt};
+ghost use Rattle.decimals.specs.Decimal.{decimal};
+ghost use Rattle.sentences.specs.Clipped.{Clipped};
+ghost use Rattle.sentences.specs.SpeltHelpers.{Spelt};
 
 pub fn put_text(out: &mut [u8], at: usize, text: &[u8]) -> usize
     requires { ⌜ at ≤ length (now out) ⌝ }
@@ -32,7 +33,7 @@ fn digit(n: usize) -> u8
 // Puts a number's digits at the end of an array, and answers where they begin.
 fn decimal(n: usize, digits: &mut [u8]) -> usize
     requires { ⌜ 20 ≡ length (now digits) ⌝ }
-    ensures { λ r. ⌜ Spelt (inDecimal n) r (now (digits .exit)) ⌝ }
+    ensures { λ r. ⌜ Spelt (decimal n) r (now (digits .exit)) ⌝ }
 {
     let mut i: usize = 20;
     let mut rest = n;
@@ -50,7 +51,7 @@ fn decimal(n: usize, digits: &mut [u8]) -> usize
 
 pub fn put_decimal(out: &mut [u8], at: usize, n: usize) -> usize
     requires { ⌜ at ≤ length (now out) ⌝ }
-    ensures { λ r. ⌜ Clipped (now (out .entry)) at (inDecimal n) r (now (out .exit)) ⌝ }
+    ensures { λ r. ⌜ Clipped (now (out .entry)) at (decimal n) r (now (out .exit)) ⌝ }
 {
     let mut digits = [0u8; 20];
     let from = decimal(n, &mut digits);

@@ -1,6 +1,6 @@
 -- `sentences::put_placed` meets its contract.
 -- Assumes nothing.
-use Rattle.sentences.specs.Sentence.{placedRow}
+use Rattle.sentences.specs.Rows.{placedRow}
 use Rattle.sentences.proofs.Clipping.{clip-long}
 use Rattle.sentences.proofs.Filling.{the}
 use Rattle.sentences.proofs.Telling.{tells-place, tells-otherwise}

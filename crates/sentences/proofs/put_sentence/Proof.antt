@@ -1,6 +1,6 @@
 -- `sentences::put_sentence` meets its contract.
 -- Assumes nothing.
-use Rattle.sentences.specs.Sentence.{rows}
+use Rattle.sentences.specs.Rows.{rows}
 use Rattle.sentences.proofs.Clipping.{clip-long}
 use Rattle.sentences.proofs.Telling.{tells-sentence, tells-nothing}
 use borrow.Author.Needs.{needs}
