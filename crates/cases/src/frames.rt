@@ -2,7 +2,7 @@
 ghost use mathlib.Core.Path.{_≡_};
 ghost use Prim.Native.Nat.{_+_, _*_, _^_, _≤_};
 ghost use lib.ListN.{length};
-ghost use Rattle.cases.specs.Frames.{u16At, u32At, u64At, Sendable};
+ghost use Rattle.cases.specs.FramesHelpers.{u16At, u32At, u64At, Sendable};
 use lent::Outcome;
 use libc::STDOUT_FILENO;
 use refusals::Refusal;

@@ -8,7 +8,7 @@ use Rattle.io.specs.Counts.{Counts}
 use Rattle.io.proofs.Counting.{counts}
 use Rattle.sentences.specs.Clipped.{Clipped}
 use Rattle.sentences.proofs.Clipping.{clip-within}
-use Rattle.desk.specs.Counted.{PartWithin, leavesSome, InputWithin, inputCount}
+use Rattle.desk.specs.CountedHelpers.{PartWithin, leavesSome, InputWithin, inputCount}
 use Rattle.desk.specs.declared.input.Part.{Part}
 use Rattle.desk.specs.declared.input.Part.the-variants.{Cut}
 use Rattle.desk.specs.declared.input.Input.{Input}

@@ -3,7 +3,7 @@
 use crate::names;
 use libc::STDIN_FILENO;
 ghost use Prim.Native.Nat.{_≤_};
-ghost use Rattle.desk.specs.Counted.{PartWithin, InputWithin, inputCount};
+ghost use Rattle.desk.specs.CountedHelpers.{PartWithin, InputWithin, inputCount};
 
 // What filling a buffer came to.
 pub enum Part {

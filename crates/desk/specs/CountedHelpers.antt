@@ -1,4 +1,4 @@
--- What can be said of a reading, and of what is to be written: the count lies within the buffer.
+-- For what the programs read and write, and for no promise of an entry point: a count lies within the buffer.
 -- Assumes nothing.
 use Prim.Native.Nat.{ℕ, _≤_, _<_}
 use mathlib.Core.List.{List}

@@ -1,4 +1,4 @@
--- What the driver's contracts cite: the numbers of a request, and answers that are put together.
+-- For the driver's functions, and for no promise of an entry point: the numbers of a request, and answers that are put together.
 -- Assumes nothing.
 use Prim.Native.Nat.{ℕ, _+_, _*_, _^_, _≤_}
 use mathlib.Core.List.{List}
