@@ -8,7 +8,7 @@ use mathlib.Core.List.{List, [], _∷_}
 use native.Mathlib.Omega.{arith}
 use lib.Dec.{eqb, leb, ltb}
 use lib.ListN.{length}
-use borrow.Author.Tests.{lt-leb, leb-false}
+use borrow.Author.Tests.{lt-leb, leb-false, ltb-true, ltb-false}
 use Rattle.refusals.specs.Numbers.{Numbered, imageTooLong, tooShort}
 use Rattle.refusals.specs.Answer.{Answer, done, refused}
 use Rattle.readers.specs.declared.Line.{Line}
@@ -16,11 +16,11 @@ use Rattle.readers.specs.Image.{sized}
 use Rattle.readers.specs.Chain.{Chain, here, on, Leads}
 use Rattle.readers.specs.Lines.{linesOf}
 use Rattle.readers.specs.Links.{linkStep}
-use Rattle.readers.proofs.ByLinks.{link-sound}
-use Rattle.readers.proofs.Finding.{sized-right}
+use Rattle.readers.proofs.ByLinks.{link-sound, link-long, link-short}
+use Rattle.readers.proofs.Finding.{sized-long, sized-short, sized-right}
 use Rattle.readers.proofs.Reading.{lines-lead}
 use Rattle.find_line.proofs.Seeking.{lined-line, lined-end, lined-refused}
-use Rattle.find_line.specs.Sought.{limitReached, Ending, ended, faulted, Lined, Visit, at, nowhere, firstIn, within, linedFrom, lineSought}
+use Rattle.find_line.specs.Sought.{limitReached, Ending, ended, faulted, Lined, Visit, at, nowhere, firstIn, orFault, within, linedFrom, lineSought}
 
 -- where the answer is not 19, the limit was not reached, and the test of it may be left out
 below : {A : Type 0} (limit v : ℕ) (a : Answer A) → (cond (leb limit v) (refused limitReached) a ≡ refused limitReached → ⊥) → v < limit
@@ -117,3 +117,55 @@ sought-in-full number limit s {ls} e other =
     let r = right-length s e in
     let z : within number limit 0 ls ended ≡ lineSought number limit s = sym w ∙ sized-right s _ (r .0) (r .1) in
     sym z ∙ full-search number limit 0 ls (λ q. other (sym z ∙ q))
+
+-- the count of all lines, where none has the number
+pub none-counted : (number v : ℕ) (ls : List Line) {w : ℕ} → firstIn number v ls ≡ nowhere w → w ≡ v + length ls
+unfolding firstIn
+none-counted number v [] {w} e = let t : v ≡ w = cc in omega arith
+none-counted number v (x ∷ ls) {w} e = go (eqb (x .number) number) (none-counted number (v + 1) ls) e
+  where
+    go : (b : Bool) → (firstIn number (v + 1) ls ≡ nowhere w → w ≡ v + 1 + length ls) → cond b (at (v + 1) x) (firstIn number (v + 1) ls) ≡ nowhere w → w ≡ v + length (x ∷ ls)
+    go true more q = let z : _≡_ {A = ℕ} 0 1 = cc in absurd (omega arith)
+    go false more q = omega (arith, more q)
+
+-- ---- an image that the reader refuses
+
+fault-search : (number limit v : ℕ) (ls : List Line) (n : Numbered) → (within number limit v ls (faulted n) ≡ refused limitReached → ⊥)
+    → within number limit v ls (faulted n) ≡ orFault n (firstIn number v ls)
+unfolding within firstIn
+fault-search number limit v [] n other = let l : v < limit = below limit v (refused n) other in simp (lt-leb _ _ l)
+fault-search number limit v (x ∷ ls) n other =
+    let l : v < limit = below limit v _ other in
+    simp (lt-leb _ _ l) (go (λ o. fault-search number limit (v + 1) ls n o) (eqb (x .number) number) (simp (lt-leb _ _ l) at other))
+  where
+    go : ((within number limit (v + 1) ls (faulted n) ≡ refused limitReached → ⊥) → within number limit (v + 1) ls (faulted n) ≡ orFault n (firstIn number (v + 1) ls)) → (b : Bool)
+        → (cond b (done (at (v + 1) x)) (within number limit (v + 1) ls (faulted n)) ≡ refused limitReached → ⊥)
+        → cond b (done (at (v + 1) x)) (within number limit (v + 1) ls (faulted n)) ≡ orFault n (cond b (at (v + 1) x) (firstIn number (v + 1) ls))
+    go more true o = refl
+    go more false o = more o
+
+module _ (number limit : ℕ) (s : List ℕ) {n : Numbered} (e : linesOf linkStep s ≡ refused n) where
+  -- refused before a header is read
+  fault-first : {m : Numbered} → linkStep s 2 ≡ refused m → lineSought number limit s ≡ refused m → lineSought number limit s ≡ orFault n (firstIn number 0 (linedFrom linkStep s 2 .lines))
+  unfolding firstIn
+  fault-first {m} h q =
+      let lined = lined-refused link-sound s 2 h in
+      let same : faulted m ≡ faulted n = ap (λ (x : Lined). x .ending) (sym lined) ∙ refused-at s e in
+      let is : m ≡ n = cc in
+      q ∙ ap refused is ∙ sym (ap (λ (x : Lined). orFault n (firstIn number 0 (x .lines))) lined)
+
+  -- document 02: "on one it refuses, the first match among the lines before the fault, else the fault's refusal"
+  pub sought-before-fault : (lineSought number limit s ≡ refused limitReached → ⊥) → lineSought number limit s ≡ orFault n (firstIn number 0 (linedFrom linkStep s 2 .lines))
+  unfolding lineSought
+  sought-before-fault other = go (ltb 1048576 (length s)) refl (ltb (length s) 2) refl
+    where
+      ls : List Line
+      ls = linedFrom linkStep s 2 .lines
+
+      go : (b : Bool) → ltb 1048576 (length s) ≡ b → (c : Bool) → ltb (length s) 2 ≡ c → lineSought number limit s ≡ orFault n (firstIn number 0 ls)
+      go true p c q = let h = ltb-true 1048576 (length s) p in fault-first (sym (link-long s 2 h)) (sym (sized-long s _ h))
+      go false p true q = let h = ltb-true (length s) 2 q in fault-first (sym (link-short s 2 h)) (sym (sized-short s _ h))
+      go false p false q =
+          let w : within number limit 0 ls (faulted n) ≡ lineSought number limit s =
+          ap (within number limit 0 ls) (sym (refused-at s e)) ∙ sized-right s _ (ltb-false 1048576 (length s) p) (ltb-false (length s) 2 q) in
+          sym w ∙ fault-search number limit 0 ls n (λ z. other (sym w ∙ z))

@@ -55,7 +55,12 @@ unfoldable pub firstIn : ℕ → ℕ → List Line → Visit
 firstIn number v [] = nowhere v
 firstIn number v (l ∷ ls) = cond (eqb (l .number) number) (at (v + 1) l) (firstIn number (v + 1) ls)
 
--- the same over at most so many headers, v being visited: "19 LimitReached, given exactly when that many headers were visited without a
+-- "the first match among the lines before the fault, else the fault's refusal"
+abbrev pub orFault : Numbered → Visit → Answer Visit
+orFault n (at v l) = done (at v l)
+orFault n (nowhere v) = refused n
+
+-- the search over at most so many headers, v being visited: "19 LimitReached, given exactly when that many headers were visited without a
 -- match and the end marker isn't next; then 10 to 13"
 unfoldable pub within : ℕ → ℕ → ℕ → List Line → Ending → Answer Visit
 within number limit v [] ended = done (nowhere v)
