@@ -1,0 +1,19 @@
+-- The table of the machine profile, by computation.
+-- Assumes nothing.
+use mathlib.Core.Path.{refl}
+use Rattle.ascii.specs.Bytes.{between, upper}
+use Rattle.ascii.specs.Search.{last}
+use Rattle.ascii.specs.Trim.{trim}
+use Rattle.words.specs.Find.{nameIn, meaning}
+use Rattle.tables.specs.Escapes.{escapeNames, cbmLetters, ctrlDigits}
+use Rattle.tables.specs.Rom.{v2Words, operators}
+use Rattle.tables.specs.Tsb.{tsbWords}
+use Rattle.escapes.specs.Numbers.{digitOf, numberAfter, numberOf, hexOf, unsigned, countOf}
+use Rattle.escapes.specs.Keys.{keyNames, controlByte, keyWith, keyed, keyEscape}
+use Rattle.escapes.specs.Escape.{nameEscape, repeated, starred, countedName}
+use Rattle.profile.specs.Examples.{ProfileTable}
+use Rattle.profile.specs.Profile.{profiledLines}
+
+pub profile-table : ProfileTable
+unfolding profiledLines v2Words operators tsbWords nameIn meaning countedName starred repeated nameEscape keyEscape keyed keyWith controlByte keyNames countOf unsigned hexOf numberOf numberAfter digitOf escapeNames cbmLetters ctrlDigits last trim upper between
+profile-table = (refl, refl, refl, refl, refl, refl, refl, refl, refl, refl)
