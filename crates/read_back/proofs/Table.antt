@@ -1,4 +1,4 @@
--- The table of document 01, "Proved table (P) and run cases", by computation.
+-- The table of document 01, "Proved table (P) and run cases", and that of measured lines, by computation.
 -- Assumes nothing.
 use mathlib.Core.Path.{refl}
 use Rattle.ascii.specs.Bytes.{between, upper}
@@ -17,8 +17,14 @@ use Rattle.readers.specs.Lines.{overview}
 use Rattle.readers.specs.Links.{linkStep}
 use Rattle.readers.specs.Terminators.{beforeZero, terminatorStep}
 use Rattle.image.specs.Crunched.{crunched}
+use Rattle.image.specs.Measured.{measuredLines, lineMeasured}
+use Rattle.read_back.specs.MeasuredBack.{MeasuredTable}
 use Rattle.read_back.specs.ProvedTable.{ProvedTable}
 
 pub proved-table : ProvedTable
 unfolding crunched overview bodiesFrom linkStep terminatorStep beforeZero v2Words operators tsbWords nameIn meaning countedName starred repeated nameEscape keyEscape keyed keyWith controlByte keyNames countOf unsigned hexOf numberOf numberAfter digitOf escapeNames cbmLetters ctrlDigits last trim upper between
 proved-table = (refl, refl, refl, refl, refl, refl, refl, refl, refl, refl, refl, refl, refl, refl, refl, refl, refl, refl, refl)
+
+pub measured-table : MeasuredTable
+unfolding measuredLines lineMeasured v2Words operators tsbWords trim upper between
+measured-table = (refl, refl, refl)

@@ -2,16 +2,20 @@
 -- Assumes nothing.
 use Prim.Native.Nat.{ℕ, suc, _-_, _≤_}
 use mathlib.Core.Path.{_≡_}
-use mathlib.Core.List.{List, [], _∷_, map}
+use mathlib.Core.List.{List, [], _∷_, _++_, map}
+use mathlib.Core.Option.{none}
 use lib.ListN.{length}
 use Rattle.refusals.specs.Answer.{done}
+use Rattle.tables.specs.Spelling.{bytesOf}
+use Rattle.tables.specs.declared.dialect.Dialect.the-variants.{Auto}
 use Rattle.readers.specs.Image.{addressAt, end}
 use Rattle.readers.specs.Lines.{linesOf}
 use Rattle.readers.specs.Links.{linkStep}
 use Rattle.readers.specs.declared.Line.{Line}
 use Rattle.layout.specs.Reads.{LinksLead}
-use Rattle.image.specs.Measured.{nonblankLines}
+use Rattle.image.specs.Measured.{nonblankLines, measuredLines, lineMeasured}
 use Rattle.image.specs.declared.MeasuredLine.{MeasuredLine}
+use Rattle.image.specs.declared.Options.{Options}
 
 -- the first number is at least m, and each is above the one before
 abbrev pub AscendFrom : ℕ → List ℕ → Type 0
@@ -35,3 +39,21 @@ pub record MeasuredBack (ms : List MeasuredLine) (s : List ℕ) : Type 0 where
   pub read : linesOf linkStep s ≡ done (imageLines ms)
   pub marker : linkStep s (length s - 2) ≡ done end
   pub lead : LinksLead (imageLines ms) (addressAt s (length s - 2))
+
+-- an empty line, `10 A`, an empty line, `20`
+abbrev pub twoOfFour : List ℕ
+twoOfFour = 0x0A ∷ bytesOf "10 A" ++ 0x0A ∷ 0x0A ∷ bytesOf "20"
+
+abbrev pub at0801 : Options
+at0801 = record { load = 0x0801; dialect = Auto }
+
+-- its lines come from the second and the fourth text line; there is no line at place 0, nor at place 3
+abbrev pub MeasuredTable : Type 0
+MeasuredTable =
+    (measuredLines at0801 twoOfFour
+    ≡ done
+    (record { line = record { address = 0x0801; link = 0x0807; number = 10; from = 6; to = 7; next = 8 }; origin = 2 }
+    ∷ record { line = record { address = 0x0807; link = 0x080C; number = 20; from = 12; to = 12; next = 13 }; origin = 4 }
+    ∷ []))
+    × (lineMeasured at0801 0 twoOfFour ≡ done none)
+    × (lineMeasured at0801 3 twoOfFour ≡ done none)
