@@ -2,28 +2,28 @@
 -- Assumes nothing.
 use Prim.Native.Nat.{ℕ, _+_, _≤_, _<_}
 use mathlib.Core.Path.{_≡_, refl, sym, ap, _∙_}
-use mathlib.Core.Bool.{Bool, true, false, not}
+use mathlib.Core.Bool.{true, false, not}
 use mathlib.Core.List.{List}
 use lib.ListN.{length, take, set, replicate, length-take, length-set}
 use lib.Seq.{sets}
 use native.Mathlib.Omega.{arith}
-use Rattle.refusals.specs.Numbers.{Numbered, badDisk, noRoom}
+use Rattle.refusals.specs.Numbers.{badDisk, noRoom}
 use Rattle.refusals.specs.Answer.{Answer, done, refused, numbered, andThen}
 use Rattle.refusals.specs.declared.Refusal.{Refusal}
 use Rattle.lent.specs.Lent.{Lent, intoBuffer}
-use Rattle.lent.proofs.Outcomes.{into-none, into-done, into-refused}
+use Rattle.lent.proofs.Outcomes.{into-none, into-done}
 use Rattle.d64.specs.Chains.{Chain}
 use Rattle.d64.specs.Entries.{listed, chainOf}
 use Rattle.d64.specs.Free.{freeSectors, markedAll}
 use Rattle.d64.specs.Check.{sound}
-use Rattle.d64.specs.Calls.{Holding, diskHolding, chainBytes, fileBytes, scratched, After, ontoDisk}
+use Rattle.d64.specs.Calls.{diskHolding, chainBytes, fileBytes, scratched, After, ontoDisk}
 use Rattle.chains.specs.ChainHelpers.{Sectors, Traces, Lists}
 use Rattle.chains.specs.declared.Traced.{Traced}
 use Rattle.chains.proofs.Marking.{marked-all-long}
 use Rattle.sound.specs.SoundHelpers.{Looks}
 use Rattle.sound.specs.declared.Seen.{Seen}
 use Rattle.sound.proofs.Looking.{entry-sectors, logged-start}
-use Rattle.disk.specs.LocateHelpers.{located, locatedAnswer, Stands, Locates}
+use Rattle.disk.specs.LocateHelpers.{located, locatedAnswer, Locates}
 use Rattle.disk.specs.declared.Located.{Located}
 use Rattle.disk.specs.declared.Located.the-variants.{At, Refused}
 use Rattle.disk.proofs.Locating.{not-long, look-sound, look-unsound, by-entry}

@@ -1,22 +1,21 @@
 -- Names, and the entry of a name.
 -- Assumes nothing.
-use Prim.Native.Nat.{ℕ, zero, suc, _+_, _*_, _≤_, _<_}
+use Prim.Native.Nat.{ℕ, suc, _*_, _≤_, _<_}
 use mathlib.Core.Path.{_≡_, refl, sym, ap, _∙_}
 use mathlib.Core.Bool.{Bool, true, false, not, cond, _&&_}
 use mathlib.Core.List.{List, [], _∷_}
-use lib.Dec.{eqb, leb}
+use lib.Dec.{leb}
 use lib.ListN.{length, getD, take}
 use lib.Seq.{getD-take}
 use native.Mathlib.Omega.{arith}
 use mir.Val.{Fits}
 use mir.Syntax.{w64}
 use borrow.Author.Tests.{ne-eqb, le-leb, lt-leb, leb-true, not-true, not-false}
-use Rattle.refusals.specs.Numbers.{Numbered, badDisk, badName, noSuchFile}
+use Rattle.refusals.specs.Numbers.{badDisk, badName, noSuchFile}
 use Rattle.refusals.specs.Answer.{Answer, done, refused, numbered, andThen}
 use Rattle.refusals.specs.declared.Refusal.{Refusal}
 use Rattle.refusals.specs.declared.Refusal.the-variants.{BadDisk, BadName, NoSuchFile}
-use Rattle.d64.specs.Lists.{some, those, isIn}
-use Rattle.d64.specs.Chains.{Chain}
+use Rattle.d64.specs.Lists.{those, isIn}
 use Rattle.d64.specs.Entries.{directory, listed, isNamed}
 use Rattle.d64.specs.Check.{sound}
 use Rattle.d64.specs.Calls.{isFileName, onSound, ofFile, entriesNamed}
@@ -24,10 +23,9 @@ use Rattle.entries.specs.EntryHelpers.{Entries, firstEntry}
 use Rattle.sound.specs.SoundHelpers.{Looks}
 use Rattle.sound.specs.declared.Seen.{Seen}
 use Rattle.sound.proofs.Looking.{known-entries}
-use Rattle.disk.specs.LocateHelpers.{admitted, soughtAnswer, Known, Seeks, located, locatedAnswer, Locates}
+use Rattle.disk.specs.LocateHelpers.{admitted, soughtAnswer, Known, Seeks, located, Locates}
 use Rattle.disk.specs.declared.Sought.{Sought}
 use Rattle.disk.specs.declared.Sought.the-variants.{On, Refused as RefusedSought}
-use Rattle.disk.specs.declared.Located.{Located}
 use Rattle.disk.specs.declared.Located.the-variants.{At, Refused}
 
 -- ---- names

@@ -2,13 +2,13 @@
 -- Assumes nothing.
 use Prim.Native.Nat.{ℕ, _≤_, _<_}
 use mathlib.Core.Path.{_≡_, refl, sym, ap, _∙_}
-use mathlib.Core.Bool.{Bool, true, false, cond}
+use mathlib.Core.Bool.{Bool, false, cond}
 use mathlib.Core.List.{List}
 use lib.Dec.{leb}
 use lib.ListN.{length}
 use native.Mathlib.Omega.{arith}
 use borrow.Author.Tests.{le-leb, lt-leb}
-use Rattle.refusals.specs.Numbers.{Numbered, nameTaken, directoryFull}
+use Rattle.refusals.specs.Numbers.{nameTaken, directoryFull}
 use Rattle.refusals.specs.Answer.{Answer, refused, numbered}
 use Rattle.refusals.specs.declared.Refusal.{Refusal}
 use Rattle.d64.specs.Lists.{some}

@@ -1,20 +1,20 @@
 -- What a call leaves alone: bytes that are not written stay, and no call but formatting writes into a sector that is in use.
 -- Assumes nothing.
-use Prim.Native.Nat.{ℕ, zero, suc, _+_, _-_, _*_, _/_, _%_, _≤_, _<_}
-use mathlib.Core.Path.{_≡_, refl, sym, ap, subst, _∙_}
-use mathlib.Core.Bool.{Bool, true, false, not, cond, _&&_, _||_}
-use mathlib.Core.List.{List, [], _∷_, _++_}
+use Prim.Native.Nat.{ℕ, suc, _+_, _-_, _*_, _/_, _≤_, _<_}
+use mathlib.Core.Path.{_≡_, refl, subst, _∙_}
+use mathlib.Core.Bool.{Bool, true, false, _||_}
+use mathlib.Core.List.{List, [], _∷_}
 use lib.Dec.{eqb}
-use lib.ListN.{length, getD, take, drop, set, replicate, length-set, length-append, length-replicate, length-take}
-use lib.Seq.{sets, length-sets, getD-set-other}
+use lib.ListN.{length, getD, take, drop, set, replicate, length-append, length-replicate, length-take}
+use lib.Seq.{sets, getD-set-other}
 use native.Mathlib.Decide.{decLt}
 use native.Mathlib.Omega.{arith}
-use borrow.Author.Tests.{eqb-true, eqb-false, eq-eqb, ne-eqb}
+use borrow.Author.Tests.{eqb-false, eq-eqb}
 use Rattle.d64.specs.Places.{trackOf, sectorOf}
 use Rattle.d64.specs.Lists.{some, isIn}
-use Rattle.d64.specs.Map.{withBit, ones, marked, mapAt}
+use Rattle.d64.specs.Map.{marked, mapAt}
 use Rattle.d64.specs.Free.{markedAll}
-use Rattle.d64.specs.Calls.{sectorBytes, linkBytes, laid, grown}
+use Rattle.d64.specs.Calls.{sectorBytes, linkBytes, laid}
 use Rattle.disk_laws.proofs.Counting.{or-right}
 use Rattle.disk_laws.proofs.Geometry.{Placed, place}
 

@@ -2,16 +2,15 @@
 -- Assumes nothing.
 use Prim.Native.Nat.{ℕ, zero, suc, _+_, _-_, _*_, _≤_, _<_}
 use mathlib.Core.Path.{_≡_, refl, sym, ap, _∙_}
-use mathlib.Core.Bool.{Bool, true, false, not, cond, _&&_, _||_}
+use mathlib.Core.Bool.{Bool, true, false, cond}
 use mathlib.Core.List.{List, [], _∷_, _++_}
-use lib.Dec.{eqb, leb, ltb}
+use lib.Dec.{eqb}
 use lib.ListN.{length, getD, take, drop, set, length-take, length-drop, length-set}
-use lib.Seq.{sets, length-sets, ext-getD, getD-take, getD-drop}
+use lib.Seq.{ext-getD, getD-take, getD-drop}
 use native.Mathlib.Omega.{arith}
 use borrow.Author.Tests.{eq-eqb}
 use Rattle.refusals.specs.Numbers.{Numbered, badDisk, badName}
 use Rattle.refusals.specs.Answer.{Answer, done, refused}
-use Rattle.d64.specs.Places.{trackOf, sectorOf}
 use Rattle.d64.specs.Lists.{some, isIn}
 use Rattle.d64.specs.Links.{linkTo, linkAt}
 use Rattle.d64.specs.declared.Link.{Link}
@@ -20,7 +19,7 @@ use Rattle.d64.specs.Chains.{Chain, chain, brokenChain, mayHold, chainOnward}
 use Rattle.d64.specs.Entries.{chainOf}
 use Rattle.d64.specs.Free.{markedAll}
 use Rattle.d64.specs.Check.{files, sound}
-use Rattle.d64.specs.Calls.{isFileName, onSound, ofFile, entriesNamed, payload, chainBytes, saved, scratched, After, ontoDisk}
+use Rattle.d64.specs.Calls.{isFileName, onSound, ofFile, entriesNamed, payload, chainBytes, saved, scratched, ontoDisk}
 use Rattle.disk_laws.specs.Runs.{Call, Format, Check, Read, Save, Scratch, isFormat, afterCall}
 use Rattle.disk_laws.proofs.Counting.{or-right}
 use Rattle.disk_laws.proofs.Elsewhere.{Within}

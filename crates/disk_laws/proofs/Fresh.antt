@@ -1,27 +1,27 @@
 -- The check holds on a fresh disk.
 -- Assumes nothing.
-use Prim.Native.Nat.{ℕ, zero, suc, _+_, _-_, _*_, _/_, _%_, _≤_, _<_}
-use mathlib.Core.Path.{_≡_, refl, sym, ap, subst, _∙_}
+use Prim.Native.Nat.{ℕ, zero, suc, _+_, _*_, _/_, _%_, _≤_, _<_}
+use mathlib.Core.Path.{_≡_, refl, ap, _∙_}
 use mathlib.Core.Bool.{Bool, true, false, not, cond, _&&_, _||_}
 use mathlib.Core.List.{List, [], _∷_, map}
-use lib.Dec.{eqb, leb, ltb}
+use lib.Dec.{eqb, ltb}
 use lib.ListN.{length, getD, set, replicate, length-set, length-replicate}
 use lib.Seq.{sets, length-sets, getD-set-same}
 use native.Mathlib.Omega.{arith}
 use borrow.Author.Tests.{eq-eqb}
-use Rattle.d64.specs.Places.{sectorsOn, sectorsBefore, sectorAt}
+use Rattle.d64.specs.Places.{sectorsOn}
 use Rattle.d64.specs.Lists.{numbersFrom, those, every, some, isIn, noneTwice}
 use Rattle.d64.specs.Links.{linkTo, linkAt}
 use Rattle.d64.specs.declared.Link.{Link}
 use Rattle.d64.specs.declared.Link.the-variants.{Last}
-use Rattle.d64.specs.Map.{bitOf, bitAt, mapAt}
+use Rattle.d64.specs.Map.{bitOf, mapAt}
 use Rattle.d64.specs.Free.{bitAgrees, mapAgrees}
 use Rattle.d64.specs.Chains.{Chain, chain, chainOnward}
-use Rattle.d64.specs.Entries.{directory, entryAt, entriesOf, isThat, entriesThat, listed, entriesGood, chains}
+use Rattle.d64.specs.Entries.{directory, entryAt, isThat, entriesThat, listed, entriesGood, chains}
 use Rattle.d64.specs.Check.{files, sound}
 use Rattle.d64.specs.Calls.{repeatedBytes, freshHeader, fresh}
-use Rattle.disk_laws.proofs.Totals.{Holds, all-hold}
-use Rattle.disk_laws.proofs.Elsewhere.{Off, before, behind, sets-off}
+use Rattle.disk_laws.proofs.Totals.{all-hold}
+use Rattle.disk_laws.proofs.Elsewhere.{before, behind, sets-off}
 
 -- bytes that were set are there
 pub sets-at : (l : List ℕ) (i : ℕ) (vs : List ℕ) (k : ℕ) → i + length vs ≤ length l → k < length vs → getD (sets l i vs) (i + k) 0 ≡ getD vs k 0

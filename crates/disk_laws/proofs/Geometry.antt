@@ -4,10 +4,8 @@ use Prim.Native.Nat.{ℕ, _+_, _-_, _*_, _/_, _%_, _≤_, _<_}
 use mathlib.Core.Path.{_≡_, refl, sym, ap, _∙_}
 use native.Mathlib.Decide.{decLt}
 use native.Mathlib.Omega.{arith}
-use borrow.Author.Tests.{lt-ltb, le-ltb, le-leb, eq-eqb, ne-eqb}
 use Rattle.d64.specs.Places.{sectorsOn, sectorsBefore, sectorAt, trackOf, sectorOf}
 use Rattle.d64.specs.Links.{linkTo}
-use Rattle.d64.specs.declared.Link.{Link}
 use Rattle.d64.specs.declared.Link.the-variants.{To}
 use Rattle.sectors.proofs.Geometry.{zone-1, zone-2, zone-3, zone-4, link-on}
 

@@ -1,26 +1,25 @@
 -- "No call but formatting changes another file's sectors": on every disk, every byte of a sector in a listed file's chain stays, the scratched file's too.
 -- Assumes nothing.
-use Prim.Native.Nat.{ℕ, zero, suc, _+_, _-_, _*_, _/_, _%_, _≤_, _<_}
-use mathlib.Core.Path.{_≡_, refl, sym, ap, subst, _∙_}
+use Prim.Native.Nat.{ℕ, zero, suc, _+_, _-_, _*_, _/_, _≤_, _<_}
+use mathlib.Core.Path.{_≡_, refl, sym, subst, _∙_}
 use mathlib.Core.Bool.{Bool, true, false, not, cond, _&&_, _||_}
-use mathlib.Core.List.{List, [], _∷_, _++_, map}
+use mathlib.Core.List.{List, [], _∷_, map}
 use lib.Dec.{eqb, leb, ltb}
-use lib.ListN.{length, getD, take, set, replicate, length-append, length-replicate}
+use lib.ListN.{length, getD, take, set, length-append, length-replicate}
 use lib.Seq.{sets}
 use native.Mathlib.Decide.{decLt}
 use native.Mathlib.Omega.{arith}
 use borrow.Author.Tests.{eqb-true, eq-eqb, leb-true, ltb-true, le-ltb}
-use Rattle.refusals.specs.Numbers.{Numbered, nameTaken, directoryFull, diskFull}
+use Rattle.refusals.specs.Numbers.{nameTaken, directoryFull, diskFull}
 use Rattle.refusals.specs.Answer.{Answer, done, refused}
 use Rattle.d64.specs.Places.{trackOf, sectorOf, offTrack18}
 use Rattle.d64.specs.Lists.{numbersFrom, those, some, isIn}
 use Rattle.d64.specs.Links.{linkAt}
-use Rattle.d64.specs.Map.{isFree, marked}
-use Rattle.d64.specs.Chains.{Chain, chain}
+use Rattle.d64.specs.Map.{isFree}
 use Rattle.d64.specs.Entries.{directory, entryAt, entriesOf, isThat, entriesThat, listed, isNamed, chainOf}
 use Rattle.d64.specs.Free.{freeSectors, markedAll}
 use Rattle.d64.specs.Check.{files, sound}
-use Rattle.d64.specs.Calls.{isFileName, onSound, ofFile, entriesNamed, sectorsFor, taken, laid, sectorBytes, entryBytes, outside, grown, withEntry, withFile, saved, scratched, After, ontoDisk}
+use Rattle.d64.specs.Calls.{isFileName, onSound, ofFile, entriesNamed, sectorsFor, taken, laid, sectorBytes, entryBytes, outside, grown, withEntry, withFile, saved, scratched, ontoDisk}
 use Rattle.sound.proofs.Looking.{Each, each-none, each-one, each-those}
 use Rattle.saves.specs.SaveHelpers.{savedNew}
 use Rattle.saves.proofs.Placing.{directory-some}

@@ -2,22 +2,21 @@
 -- Assumes nothing.
 use Prim.Native.Nat.{ℕ, zero, suc, _+_, _-_, _*_, _≤_, _<_}
 use mathlib.Core.Path.{_≡_, refl, sym, ap, _∙_}
-use mathlib.Core.Bool.{Bool, true, false, not, cond, _&&_, _||_}
+use mathlib.Core.Bool.{Bool, true, false, not, cond, _||_}
 use mathlib.Core.List.{List, [], _∷_, _++_, append-nil}
 use lib.Dec.{eqb}
 use lib.ListN.{length, getD, take, drop, replicate, length-take, length-drop, take-append-drop, List·getD-append}
 use lib.Seq.{sets, length-sets, ext-getD, getD-take, getD-drop, take-all, length-take-le}
 use native.Mathlib.Omega.{arith}
 use borrow.Author.Tests.{eq-eqb, ne-eqb, ltb-true, not-true}
-use Rattle.d64.specs.Places.{trackOf, sectorOf, offTrack18}
+use Rattle.d64.specs.Places.{trackOf, offTrack18}
 use Rattle.d64.specs.Lists.{some, isIn, noneTwice}
 use Rattle.d64.specs.Links.{linkTo, linkAt}
-use Rattle.d64.specs.declared.Link.{Link}
 use Rattle.d64.specs.declared.Link.the-variants.{Last, To}
-use Rattle.d64.specs.Chains.{Chain, chain, brokenChain, mayHold, mayEnd, chainOnward}
-use Rattle.d64.specs.Calls.{sectorBytes, linkBytes, laid, payload, chainBytes}
+use Rattle.d64.specs.Chains.{Chain, chain, brokenChain, mayHold, chainOnward}
+use Rattle.d64.specs.Calls.{linkBytes, laid, payload, chainBytes}
 use Rattle.disk_laws.proofs.Counting.{and-left, and-right, or-right}
-use Rattle.disk_laws.proofs.Geometry.{Placed, place, link-back}
+use Rattle.disk_laws.proofs.Geometry.{place, link-back}
 use Rattle.disk_laws.proofs.Elsewhere.{Within, laid-off, link-long}
 use Rattle.disk_laws.proofs.Fresh.{sets-at}
 

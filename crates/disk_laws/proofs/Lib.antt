@@ -5,6 +5,7 @@ pub mod Fresh
 pub mod Geometry
 pub mod Kept
 pub mod Laid
+pub mod Marks
 pub mod Room
 pub mod Saved
 pub mod Totals

@@ -1,18 +1,17 @@
 -- "25 exactly when fewer sectors are free than needed; below 144 files there is always an entry or a sector to grow by."
 -- Assumes nothing.
-use Prim.Native.Nat.{ℕ, zero, suc, _+_, _-_, _*_, _≤_, _<_}
+use Prim.Native.Nat.{ℕ, _+_, _*_, _≤_, _<_}
 use mathlib.Core.Path.{_≡_, refl, sym, ap, _∙_}
-use mathlib.Core.Bool.{Bool, true, false, not, cond, _&&_, _||_}
-use mathlib.Core.List.{List, [], _∷_, map}
-use lib.Dec.{ltb, leb}
+use mathlib.Core.Bool.{Bool, true, false, not, cond}
+use mathlib.Core.List.{List, [], _∷_}
+use lib.Dec.{leb}
 use lib.ListN.{length, length-map}
 use native.Mathlib.Omega.{arith}
 use borrow.Author.Tests.{lt-ltb, le-ltb, lt-leb}
-use Rattle.refusals.specs.Numbers.{Numbered, badDisk, badName, nameTaken, directoryFull, diskFull}
+use Rattle.refusals.specs.Numbers.{badDisk, badName, nameTaken, directoryFull, diskFull}
 use Rattle.refusals.specs.Answer.{Answer, done, refused}
-use Rattle.d64.specs.Lists.{numbersFrom, those, some, isIn}
-use Rattle.d64.specs.Chains.{Chain}
-use Rattle.d64.specs.Entries.{directory, entriesOf, entryAt, isListed, isThat, entriesThat, listed, isNamed}
+use Rattle.d64.specs.Lists.{numbersFrom, some, isIn}
+use Rattle.d64.specs.Entries.{directory, entriesOf, entryAt, isListed, entriesThat, listed, isNamed}
 use Rattle.d64.specs.Free.{freeSectors}
 use Rattle.d64.specs.Check.{sound}
 use Rattle.d64.specs.Calls.{isFileName, onSound, sectorsFor, taken, outside, withEntry, withFile, saved}

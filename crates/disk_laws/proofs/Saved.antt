@@ -1,7 +1,7 @@
 -- "A saved file reads back exactly its bytes": on the disk that a save makes, the chain from the file's first sector is the sectors that it took,
 -- and their bytes are the image.
 -- Assumes nothing.
-use Prim.Native.Nat.{ℕ, zero, suc, _+_, _-_, _*_, _/_, _≤_, _<_, max}
+use Prim.Native.Nat.{ℕ, zero, suc, _+_, _-_, _*_, _≤_}
 use mathlib.Core.Path.{_≡_, refl, sym, ap, _∙_}
 use mathlib.Core.Bool.{Bool, true, false, not, cond, _&&_, _||_}
 use mathlib.Core.List.{List, [], _∷_}
@@ -9,23 +9,23 @@ use lib.Dec.{eqb, leb, ltb}
 use lib.ListN.{length, getD, take, drop}
 use lib.Seq.{sets, length-sets, length-take-le}
 use native.Mathlib.Omega.{arith}
-use borrow.Author.Tests.{eqb-true, eq-eqb, ltb-true, ltb-false, lt-ltb}
+use borrow.Author.Tests.{eqb-true, ltb-true, ltb-false, lt-ltb}
 use Rattle.refusals.specs.Numbers.{Numbered, badDisk, badName, nameTaken, directoryFull, diskFull}
 use Rattle.refusals.specs.Answer.{Answer, done, refused}
 use Rattle.d64.specs.Places.{trackOf, sectorOf, offTrack18}
 use Rattle.d64.specs.Lists.{numbersFrom, those, some, isIn, noneTwice}
-use Rattle.d64.specs.Map.{bitAt, isFree, marked}
-use Rattle.d64.specs.Chains.{Chain, chain, mayHold}
+use Rattle.d64.specs.Map.{bitAt, isFree}
+use Rattle.d64.specs.Chains.{chain, mayHold}
 use Rattle.d64.specs.Entries.{directory, entriesThat, listed, isNamed}
 use Rattle.d64.specs.Free.{freeSectors, markedAll}
 use Rattle.d64.specs.Check.{sound}
-use Rattle.d64.specs.Calls.{isFileName, onSound, sectorsFor, taken, sectorBytes, linkBytes, laid, entryBytes, outside, grown, withEntry, withFile, saved, chainBytes, After, ontoDisk}
+use Rattle.d64.specs.Calls.{isFileName, sectorsFor, taken, sectorBytes, linkBytes, laid, entryBytes, outside, grown, withEntry, withFile, saved, chainBytes, ontoDisk}
 use Rattle.chains.proofs.Marking.{marked-long, marked-all-long}
 use Rattle.saves.specs.SaveHelpers.{savedNew}
 use Rattle.saves.proofs.Choosing.{free-few}
-use Rattle.disk_laws.proofs.Counting.{and-left, and-right, or-right}
-use Rattle.disk_laws.proofs.Totals.{Holds, holds}
-use Rattle.disk_laws.proofs.Elsewhere.{Off, Within}
+use Rattle.disk_laws.proofs.Counting.{and-left, and-right}
+use Rattle.disk_laws.proofs.Totals.{holds}
+use Rattle.disk_laws.proofs.Elsewhere.{Within}
 use Rattle.disk_laws.proofs.Room.{tested}
 use Rattle.disk_laws.proofs.Kept.{never, in-those-list, in-take, taken-free, taken-below, sector-off, file-18}
 use Rattle.disk_laws.proofs.Laid.{LieAll, laid-lies, lies-chain, lies-bytes}

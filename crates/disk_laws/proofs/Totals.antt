@@ -4,17 +4,17 @@ use Prim.Native.Nat.{ℕ, zero, suc, _+_, _-_, _*_, _/_, _%_, _≤_, _<_}
 use mathlib.Core.Path.{_≡_, refl, sym, ap, _∙_}
 use mathlib.Core.Bool.{Bool, true, false, not, cond, _&&_, _||_}
 use mathlib.Core.List.{List, [], _∷_, _++_}
-use lib.Dec.{eqb, ltb, leb}
+use lib.Dec.{eqb, ltb}
 use lib.ListN.{length, getD}
 use native.Mathlib.Decide.{decLt}
 use native.Mathlib.Omega.{arith}
 use borrow.Author.Tests.{eqb-true, lt-ltb, le-ltb, ltb-true, ne-eqb}
 use Rattle.d64.specs.Places.{trackOf, sectorOf, sectorsOn, sectorAt, offTrack18}
-use Rattle.d64.specs.Lists.{numbersFrom, those, every, some, isIn, noneTwice}
+use Rattle.d64.specs.Lists.{numbersFrom, those, some, isIn, noneTwice}
 use Rattle.d64.specs.Links.{linkAt}
 use Rattle.d64.specs.declared.Link.{Link}
 use Rattle.d64.specs.declared.Link.the-variants.{Last, To, Astray}
-use Rattle.d64.specs.Map.{bitAt, bitOf, isFree}
+use Rattle.d64.specs.Map.{bitAt, isFree}
 use Rattle.d64.specs.Free.{bitAgrees, mapAgrees, freeSectors}
 use Rattle.d64.specs.Chains.{Chain, chain, brokenChain, mayHold, chainOnward}
 use Rattle.d64.specs.Entries.{directory, listed, entriesGood, chainBy, chainOf, chainsBehind, chains}

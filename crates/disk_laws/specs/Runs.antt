@@ -1,10 +1,9 @@
--- Sequences of calls over a disk (docs/RULES.md, "Disks"; document 02, No. 9: "after any sequence of these calls, refused ones among them").
+-- A call over a disk, and the disk behind it (docs/RULES.md, "Disks").
 -- Assumes nothing.
 use Prim.Native.Nat.{ℕ}
 use mathlib.Core.Bool.{Bool, true, false}
-use mathlib.Core.List.{List, [], _∷_}
-use Rattle.refusals.specs.Answer.{Answer}
-use Rattle.d64.specs.Calls.{formatted, saved, scratched, After, ontoDisk}
+use mathlib.Core.List.{List}
+use Rattle.d64.specs.Calls.{formatted, saved, scratched, ontoDisk}
 
 -- a call, with the name and the image that it is given
 pub data Call : Type 0 where
@@ -28,7 +27,3 @@ afterCall disk Check = disk
 afterCall disk (Read name) = disk
 afterCall disk (Save name image) = ontoDisk (saved disk name image) disk .disk
 afterCall disk (Scratch name) = ontoDisk (scratched disk name) disk .disk
-
-unfoldable pub afterCalls : List ℕ → List Call → List ℕ
-afterCalls disk [] = disk
-afterCalls disk (c ∷ cs) = afterCalls (afterCall disk c) cs

@@ -1,21 +1,20 @@
 -- A file's entry put together, the directory's growth, and the disk's length kept.
 -- Assumes nothing.
-use Prim.Native.Nat.{ℕ, zero, suc, _+_, _-_, _*_, _/_, _%_, _≤_, _<_}
-use mathlib.Core.Path.{_≡_, refl, sym, ap, _∙_}
-use mathlib.Core.Bool.{Bool, true, false}
+use Prim.Native.Nat.{ℕ, _+_, _-_, _*_, _/_, _%_, _≤_, _<_}
+use mathlib.Core.Path.{_≡_, ap, _∙_}
+use mathlib.Core.Bool.{false}
 use mathlib.Core.List.{List, [], _∷_, _++_, append-assoc}
-use lib.ListN.{length, getD, take, drop, set, replicate, length-append, length-replicate, length-set}
+use lib.ListN.{length, getD, drop, set, replicate, length-append, length-replicate, length-set}
 use lib.Seq.{sets, sets-eq, length-sets}
 use native.Mathlib.Numerals.{add-one}
 use native.Mathlib.Omega.{arith}
 use Rattle.d64.specs.Places.{trackOf, sectorOf}
 use Rattle.d64.specs.Map.{marked}
 use Rattle.d64.specs.Free.{markedAll}
-use Rattle.d64.specs.Calls.{laid, linkBytes, sectorBytes, entryBytes, grown}
+use Rattle.d64.specs.Calls.{sectorBytes, entryBytes, grown}
 use Rattle.chains.specs.ChainHelpers.{Sectors}
 use Rattle.chains.proofs.Marking.{marked-long}
 use Rattle.file_bytes.proofs.Laying.{drop-replicate}
-use Rattle.file_entries.specs.FileHelpers.{Chosen}
 
 -- ---- an entry
 

@@ -1,22 +1,21 @@
 -- How many sectors an image takes, and the lowest free ones.
 -- Assumes nothing.
-use Prim.Native.Nat.{ℕ, zero, suc, _+_, _-_, _*_, _/_, _≤_, _<_, max}
-use mathlib.Core.Path.{_≡_, refl, sym, ap, _∙_}
-use mathlib.Core.Bool.{Bool, true, false, cond}
-use mathlib.Core.List.{List, [], _∷_}
-use lib.Dec.{ltb}
-use lib.ListN.{length, getD, take, replicate}
+use Prim.Native.Nat.{ℕ, zero, suc, _+_, _≤_, _<_}
+use mathlib.Core.Path.{_≡_, sym, ap, _∙_}
+use mathlib.Core.Bool.{Bool, cond}
+use mathlib.Core.List.{List}
+use lib.ListN.{length, take}
 use lib.Seq.{take-take, getD-take, length-take-le}
 use native.Mathlib.Omega.{arith}
 use borrow.Author.Tests.{lt-ltb, le-ltb}
-use Rattle.refusals.specs.Numbers.{Numbered, diskFull}
-use Rattle.refusals.specs.Answer.{Answer, done, refused}
+use Rattle.refusals.specs.Numbers.{diskFull}
+use Rattle.refusals.specs.Answer.{refused}
 use Rattle.d64.specs.Lists.{numbersFrom, those}
 use Rattle.d64.specs.Map.{isFree}
 use Rattle.d64.specs.Free.{freeSectors}
 use Rattle.d64.specs.Calls.{sectorsFor, taken, After, ontoDisk, withFile}
-use Rattle.chains.specs.ChainHelpers.{Sectors, Lists}
-use Rattle.sound.proofs.Looking.{Each, each-none, each-one, each-those, Sector, as-sectors, numbers-long, those-few, listed-start}
+use Rattle.chains.specs.ChainHelpers.{Lists}
+use Rattle.sound.proofs.Looking.{Each, each-none, each-one, each-those, Sector, numbers-long, those-few, listed-start}
 use Rattle.file_entries.specs.FileHelpers.{Chosen}
 use Rattle.saves.specs.SaveHelpers.{savedNew}
 

@@ -4,20 +4,20 @@ use Prim.Native.Nat.{ℕ, zero, suc, _+_, _-_, _*_, _≤_, _<_}
 use mathlib.Core.Path.{_≡_, refl, sym, ap, _∙_}
 use mathlib.Core.Bool.{Bool, true, false, not, cond}
 use mathlib.Core.List.{List, [], _∷_}
-use lib.ListN.{length, getD, take, replicate}
+use lib.ListN.{length, getD, take}
 use lib.Seq.{sets, getD-take}
 use native.Mathlib.Omega.{arith}
-use Rattle.refusals.specs.Numbers.{Numbered, directoryFull}
+use Rattle.refusals.specs.Numbers.{directoryFull}
 use Rattle.refusals.specs.Answer.{Answer, done, refused}
-use Rattle.d64.specs.Lists.{isIn, numbersFrom}
+use Rattle.d64.specs.Lists.{isIn}
 use Rattle.d64.specs.Links.{linkAt}
 use Rattle.d64.specs.declared.Link.{Link}
 use Rattle.d64.specs.declared.Link.the-variants.{Last, To, Astray}
-use Rattle.d64.specs.Chains.{Chain, chain, brokenChain, mayHold, chainOnward}
+use Rattle.d64.specs.Chains.{chain, brokenChain, mayHold, chainOnward}
 use Rattle.d64.specs.Entries.{directory, entriesThat}
 use Rattle.d64.specs.Free.{markedAll}
 use Rattle.d64.specs.Calls.{laid, entryBytes, outside, grown, withEntry, withFile, After, ontoDisk}
-use Rattle.chains.specs.ChainHelpers.{Sectors, Lists}
+use Rattle.chains.specs.ChainHelpers.{Lists}
 use Rattle.sound.proofs.Looking.{chain-sectors, that-entries, that-few, listed-start}
 use Rattle.saves.proofs.Lowest.{none-lowest}
 

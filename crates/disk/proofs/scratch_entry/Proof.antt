@@ -3,7 +3,6 @@
 use mathlib.Core.Path.{sym}
 use native.Mathlib.Omega.{arith}
 use lib.Seq.{length-take-le}
-use lib.ListN.{length-set}
 use Rattle.disk.proofs.Calling.{traced-sectors, entry-scratched, scratch-long}
 use borrow.Author.Needs.{needs}
 use Rattle.disk.proofs.scratch_entry.Statement.{statement}
