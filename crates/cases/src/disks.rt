@@ -15,6 +15,30 @@ pub fn format(payload: &[u8], disk: &mut [u8]) -> bool
     send_changed(changed, &disk[0..size])
 }
 
+pub fn save(payload: &[u8], disk: &mut [u8]) -> bool
+    requires { ⌜ length (now payload) ≤ length (now disk) ⌝ }
+{
+    if payload.len() < 6 {
+        return Answer::malformed().send();
+    }
+    let name_end = 2 + frames::u16_at(payload, 0) as usize;
+    let start = name_end + 4;
+    if start > payload.len() {
+        return Answer::malformed().send();
+    }
+    let from = start + frames::u32_at(payload, name_end) as usize;
+    if from > payload.len() {
+        return Answer::malformed().send();
+    }
+    let size = bytes::copy(&payload[from..], disk);
+    let changed = disk::save(
+        &mut disk[0..size],
+        &payload[2..name_end],
+        &payload[start..from],
+    );
+    send_changed(changed, &disk[0..size])
+}
+
 pub fn read(payload: &[u8], room: &mut [u8]) -> bool {
     if payload.len() < 6 {
         return Answer::malformed().send();

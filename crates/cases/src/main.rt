@@ -44,6 +44,7 @@ fn answer_request(op: u8, payload: &[u8], room: &mut [u8], disk: &mut [u8]) -> b
         0x19 => images::addressed_step(payload, By::Links),
         0x1A => measured::measured_line(payload),
         0x20 => disks::format(payload, disk),
+        0x21 => disks::save(payload, disk),
         0x22 => disks::read(payload, room),
         0x23 => disks::scratch(payload, disk),
         0x24 => disks::check(payload),
