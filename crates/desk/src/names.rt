@@ -7,6 +7,9 @@ pub const OUT: usize = 2;
 
 pub const PART: usize = 3;
 
+// The first of the program's own words.
+pub const WORDS: usize = 4;
+
 // Whether the program was given names at all.
 pub fn given() -> bool {
     os::arg_count() > 3

@@ -135,6 +135,14 @@ fn end(status: u8, written: bool) {
     }
 }
 
+// Ends a program that was refused a result for what this name stands for.
+pub fn refuse_for(name: &[u8], refusal: Refusal) {
+    let code = refusals::refusal_code(refusal);
+    let is_told = write_line(name, b"", code);
+    let is_numbered = write_number(code.number);
+    end(REFUSED, is_told && is_numbered);
+}
+
 // Ends a program that was refused a result; text is what the refusal speaks of.
 pub fn refuse(refusal: Refusal, text: &[u8])
     requires { ⌜ length (now text) ≤ 1048576 ⌝ }
@@ -145,7 +153,25 @@ pub fn refuse(refusal: Refusal, text: &[u8])
     end(REFUSED, is_told && is_numbered);
 }
 
-// Ends a program whose input could not be read.
+// Whether the file that the program is to write is missing; where it is there, or cannot be looked for, standard error says so.
+pub fn is_new() -> bool {
+    let mut name = io::buffer();
+    let n = names::name(names::OUT, &mut name);
+    let fd = os::open_read(&name[..n]);
+    if fd < 0 {
+        if os::errno() == libc::ENOENT {
+            return true;
+        }
+        os::fail(&name[..n]);
+        return false;
+    }
+    libc::close(fd);
+    io::write_all(STDERR_FILENO, &name[..n]);
+    io::write_all(STDERR_FILENO, b": there already; nothing was written\n");
+    false
+}
+
+// Ends a program whose input could not be read, or whose output is there already.
 pub fn fail() {
     end(FAILED, true);
 }

@@ -1,0 +1,122 @@
+// The desk's work on a disk image. ./moldthatch gives this program a command and words behind the three names of crate `desk`: the disk that
+// is read, what is written, and a free name beside that. The disk is read whole and worked on in memory.
+mod saving;
+
+use d64::Changed;
+use d64::DiskCheck;
+use desk::input;
+use desk::names;
+use desk::output;
+use input::Input;
+use lent::Outcome;
+use refusals::Refusal;
+use sentences::put::put_decimal;
+use sentences::put::put_text;
+
+const COMMAND: usize = names::WORDS;
+
+const NAME: usize = names::WORDS + 1;
+
+// Writes the disk as a call left it, or says why that call was refused.
+fn answer_changed(changed: Changed, disk: &[u8]) {
+    match changed {
+        Changed::Done => output::answer(Outcome::Done(disk.len()), disk, b""),
+        Changed::Refused(refusal) => output::refuse(refusal, b""),
+    }
+}
+
+// Makes a fresh disk, where there is none of its name, with files on it.
+fn format() {
+    if !output::is_new() {
+        return output::fail();
+    }
+    let mut disk = [0u8; 174_848];
+    match formats::format(&mut disk) {
+        Changed::Done => saving::save_files(&mut disk),
+        Changed::Refused(refusal) => output::refuse(refusal, b""),
+    }
+}
+
+fn save(disk: &mut [u8]) {
+    match disk::check(disk) {
+        DiskCheck::Holds { files: _, free: _ } => saving::save_files(disk),
+        DiskCheck::Refused(refusal) => output::refuse(refusal, b""),
+    }
+}
+
+fn scratch(disk: &mut [u8]) {
+    let mut text = io::buffer();
+    let n = names::name(NAME, &mut text);
+    // One byte more than a name may have: what is cut off does not make it one.
+    let mut name = [0u8; 17];
+    let length = disk_names::given(&text[..n], &mut name);
+    let changed = disk::scratch(disk, &name[..length]);
+    answer_changed(changed, disk);
+}
+
+fn read(disk: &[u8]) {
+    let mut text = io::buffer();
+    let n = names::name(NAME, &mut text);
+    let mut name = [0u8; 17];
+    let length = disk_names::given(&text[..n], &mut name);
+    // No file is longer: 664 sectors of 254 bytes.
+    let mut file = [0u8; 168_656];
+    let outcome = disk::read(disk, &name[..length], &mut file);
+    output::answer(outcome, &file, b"");
+}
+
+fn show(disk: &[u8]) {
+    // No directory's text is longer: 144 lines of 69 bytes, and the last.
+    let mut text = [0u8; 10_240];
+    let outcome = directory::put_directory(disk, &mut text);
+    output::answer(outcome, &text, b"");
+}
+
+fn answer_check(files: usize, free: usize) {
+    let mut text = [0u8; 64];
+    let first = put_decimal(&mut text, 0, files);
+    let comma = put_text(&mut text, first, b" files, ");
+    let second = put_decimal(&mut text, comma, free);
+    let end = put_text(&mut text, second, b" sectors free\n");
+    output::answer(Outcome::Done(end), &text, b"");
+}
+
+fn check(disk: &[u8]) {
+    match disk::check(disk) {
+        DiskCheck::Holds { files, free } => answer_check(files, free),
+        DiskCheck::Refused(refusal) => output::refuse(refusal, b""),
+    }
+}
+
+fn work(command: &[u8], disk: &mut [u8]) {
+    if check::same(command, b"save") {
+        save(disk);
+    } else if check::same(command, b"scratch") {
+        scratch(disk);
+    } else if check::same(command, b"read") {
+        read(disk);
+    } else if check::same(command, b"dir") {
+        show(disk);
+    } else {
+        check(disk);
+    }
+}
+
+fn read_and_work(command: &[u8]) {
+    let mut disk = [0u8; 174_848];
+    match input::read_given(&mut disk) {
+        Input::All(count) => work(command, &mut disk[0..count]),
+        Input::Longer => output::refuse(Refusal::BadDisk, b""),
+        Input::Failed => output::fail(),
+    }
+}
+
+fn main() {
+    let mut command = io::buffer();
+    let n = names::name(COMMAND, &mut command);
+    if check::same(&command[..n], b"format") {
+        format();
+    } else {
+        read_and_work(&command[..n]);
+    }
+}
