@@ -1,3 +1,4 @@
+pub mod GivenBack
 pub mod Naming
 pub mod Showing
 pub mod Splitting
