@@ -1,0 +1,2 @@
+pub mod RelinkedTable
+pub mod Relinking
