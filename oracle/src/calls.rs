@@ -1,5 +1,6 @@
 //! The calls that a request can stand for, and how each is laid out in a payload.
 
+use crate::counted;
 use crate::fields::Fields;
 use crate::frames::Request;
 use crate::modes::ListOptions;
@@ -25,6 +26,7 @@ pub const SECOND_LISTING_ROOM: u8 = 0x17;
 pub const ADDRESSED_STEP_BY_TERMINATORS: u8 = 0x18;
 pub const ADDRESSED_STEP_BY_LINKS: u8 = 0x19;
 pub const MEASURED_LINE: u8 = 0x1A;
+pub const COUNT_IMAGES: u8 = 0x1B;
 pub const FORMAT_DISK: u8 = 0x20;
 pub const SAVE_FILE: u8 = 0x21;
 pub const READ_FILE: u8 = 0x22;
@@ -36,7 +38,7 @@ pub const LINKED_LISTING_ROOM: u8 = 0x31;
 /// Whether the original, or a model of our own, can answer an op.
 pub fn is_known(op: u8) -> bool {
     matches!(op, CRUNCH..=LISTING_ROOM | LINE_BY_NUMBER)
-        || matches!(op, ADDRESSED_STEP_BY_TERMINATORS..=MEASURED_LINE)
+        || matches!(op, ADDRESSED_STEP_BY_TERMINATORS..=COUNT_IMAGES)
         || is_under_options(op)
         || is_of_disks(op)
 }
@@ -128,6 +130,11 @@ pub enum Call<'a> {
         place: u64,
         text: &'a [u8],
     },
+    /// So many images, each behind its length, and nothing else.
+    CountImages {
+        count: u32,
+        images: &'a [u8],
+    },
     FormatDisk {
         disk: &'a [u8],
     },
@@ -212,6 +219,12 @@ impl<'a> Call<'a> {
                     place: fields.number()?,
                     text: fields.rest(),
                 }
+            }
+            COUNT_IMAGES => {
+                let count = fields.count()?;
+                let images = fields.rest();
+                (counted::list(images)?.len() as u64 == u64::from(count))
+                    .then_some(Call::CountImages { count, images })?
             }
             FORMAT_DISK => Call::FormatDisk {
                 disk: fields.rest(),
@@ -303,6 +316,9 @@ impl<'a> Call<'a> {
                 let fixed = [place(load, dialect), options, at.to_le_bytes().to_vec()];
                 (MEASURED_LINE, fixed.concat(), text)
             }
+            Call::CountImages { count, images } => {
+                (COUNT_IMAGES, count.to_le_bytes().to_vec(), images)
+            }
             Call::FormatDisk { disk } => (FORMAT_DISK, vec![], disk),
             Call::SaveFile { name, image, disk } => {
                 let fixed = [name_field(name), length_field(image.len()), image.to_vec()];
@@ -339,6 +355,7 @@ pub fn fixed_part(op: u8) -> usize {
         LINKED_LISTING => 1 + 1 + 4,
         LINKED_LISTING_ROOM => 1 + 1,
         MEASURED_LINE => 2 + 1 + 1 + 8,
+        COUNT_IMAGES => 4,
         SAVE_FILE => 2 + 4,
         READ_FILE => 4 + 2,
         SCRATCH_FILE => 2,

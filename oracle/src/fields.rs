@@ -24,6 +24,11 @@ impl<'a> Fields<'a> {
         self.take().map(u64::from_le_bytes)
     }
 
+    /// How many images follow.
+    pub fn count(&mut self) -> Option<u32> {
+        self.take().map(u32::from_le_bytes)
+    }
+
     pub fn dialect(&mut self) -> Option<Dialect> {
         match self.take()? {
             [0] => Some(Dialect::Auto),

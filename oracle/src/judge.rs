@@ -5,6 +5,7 @@ use std::thread;
 
 use crate::addressed;
 use crate::calls::{Call, dialect_byte};
+use crate::counted::{self, Totals};
 use crate::disk::{self, CheckedDisk};
 use crate::found::{self, Found};
 use crate::frames::{self, Incoming, Request};
@@ -109,6 +110,7 @@ fn answer_call(call: &Call) -> Vec<u8> {
             place,
             text,
         } => plain(measured::line(load, dialect, place, text).map(measured_line)),
+        Call::CountImages { images, .. } => counted_images(&counted::totals(images)),
         Call::FormatDisk { disk } => changed(disk, disk::format(disk)),
         Call::SaveFile { name, image, disk } => changed(disk, disk::save(disk, name, image)),
         Call::ReadFile { room, name, disk } => [&lent(disk::read(disk, name), room), disk].concat(),
@@ -201,6 +203,15 @@ fn measured_line(found: Option<MeasuredLine>) -> Vec<u8> {
         line.text_line,
     ];
     [vec![1], fields(&numbers)].concat()
+}
+
+/// The totals stand behind 26 too.
+fn counted_images(totals: &Totals) -> Vec<u8> {
+    let first = match totals.too_many {
+        true => Refusal::TooManyImages.to_bytes(),
+        false => vec![DONE],
+    };
+    [first, fields(&totals.numbers())].concat()
 }
 
 fn fields(numbers: &[u64]) -> Vec<u8> {

@@ -14,6 +14,7 @@ mod addressed;
 mod calls;
 mod compare;
 mod corrections;
+mod counted;
 mod disk;
 mod domain;
 mod endings;

@@ -73,6 +73,9 @@ fn of_call(call: &Call) -> String {
             "measured line {place} at {load:04X} under {dialect:?}: {}",
             quoted(text)
         ),
+        Call::CountImages { count, images } => {
+            format!("counts over {count} images: {}", hex(images))
+        }
         Call::FormatDisk { disk } => format!("format a {}", disk_of(disk)),
         Call::SaveFile { name, image, disk } => format!(
             "save {} bytes under {} on a {}",
@@ -119,6 +122,7 @@ fn of_results(op: u8, results: &[u8]) -> String {
             of_line(&[&["address"], &LINE_LABELS[..]].concat(), results)
         }
         calls::MEASURED_LINE => of_line(&MEASURED_LABELS, results),
+        calls::COUNT_IMAGES => of_totals(results),
         calls::FORMAT_DISK | calls::SAVE_FILE | calls::SCRATCH_FILE => Some(disk_of(results)),
         calls::READ_FILE => before_disk(&["length"], results),
         calls::CHECK_DISK => before_disk(&["files", "free sectors"], results),
@@ -195,6 +199,21 @@ fn of_search(results: &[u8]) -> Option<String> {
         "{}, {}",
         named(&["visited"], visited)?,
         of_step(line)?
+    ))
+}
+
+/// The first three of the totals, and where the others are not 0.
+fn of_totals(results: &[u8]) -> Option<String> {
+    let (first, rest) = results.split_at_checked(3 * 8)?;
+    let rest: Vec<u64> = rest.chunks(8).map(number).collect::<Option<_>>()?;
+    let places = rest.iter().enumerate().filter(|(_, value)| **value > 0);
+    let shown: Vec<_> = places
+        .map(|(place, value)| format!("{value} at {}", place + 3))
+        .collect();
+    Some(format!(
+        "{}, {}",
+        named(&["images", "refused", "tokens"], first)?,
+        shown.join(", ")
     ))
 }
 

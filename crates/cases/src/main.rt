@@ -1,5 +1,6 @@
 // The batch driver: answers framed calls of the libraries' public functions, so that any judge can be held against them byte by byte. It reads
 // a frame, calls one function and writes what came back.
+mod counted;
 mod dialects;
 mod disks;
 mod found;
@@ -43,6 +44,7 @@ fn answer_request(op: u8, payload: &[u8], room: &mut [u8], disk: &mut [u8]) -> b
         0x18 => images::addressed_step(payload, By::Terminators),
         0x19 => images::addressed_step(payload, By::Links),
         0x1A => measured::measured_line(payload),
+        0x1B => counted::count_images(payload),
         0x20 => disks::format(payload, disk),
         0x21 => disks::save(payload, disk),
         0x22 => disks::read(payload, room),

@@ -82,7 +82,8 @@ fn room_place(op: u8) -> Option<usize> {
     }
 }
 
-/// Payloads in which a name, an image or an image's length would reach beyond the end.
+/// Payloads in which a name, an image or an image's length would reach beyond the end, or a list
+/// of images does not fill it.
 fn beyond_payload(op: u8) -> Vec<Vec<u8>> {
     let payloads: &[&[u8]] = match op {
         calls::SAVE_FILE => &[
@@ -95,6 +96,15 @@ fn beyond_payload(op: u8) -> Vec<Vec<u8>> {
         ],
         calls::READ_FILE => &[b"\0\0\0\0\x05\0NAME", b"\0\0\0\0\0\x01NAME"],
         calls::SCRATCH_FILE => &[b"\x05\0NAME", b"\x00\x80NAME"],
+        calls::COUNT_IMAGES => &[
+            b"\x01\0\0\0",
+            b"\0\0\0\0\0",
+            b"\x01\0\0\0\x02\0\0\0\x01",
+            b"\x02\0\0\0\x01\0\0\0\x01",
+            b"\x01\0\0\0\x01\0\0\0\x01\x08",
+            b"\xFF\xFF\xFF\xFF\0\0\0\0",
+            b"\x01\0\0\0\xFF\xFF\xFF\xFF\x01",
+        ],
         _ => &[],
     };
     payloads.iter().map(|payload| payload.to_vec()).collect()

@@ -6,6 +6,7 @@
 //! come in an order drawn from the seed, so a short run is a cross-section. For the
 //! calls on disks all that is enumerated is large.
 
+mod archives;
 mod damage;
 mod disk_calls;
 pub mod disk_damage;
@@ -115,6 +116,7 @@ fn listed_first(op: u8, random: &mut Random) -> Vec<Request> {
         calls::DIALECT_BY_NAME => requests::of_words(op, &names::first_dialects()),
         calls::TSB_WORD => requests::of_words(op, &names::first_words()),
         calls::LINE_BY_NUMBER => lines::listed(op),
+        calls::COUNT_IMAGES => archives::listed(),
         calls::ADDRESSED_STEP_BY_TERMINATORS..=calls::MEASURED_LINE => lines::listed(op),
         calls::FORMAT_DISK..=calls::CHECK_DISK => disk_calls::listed(op, random),
         _ if calls::is_of_texts(op) => requests::of_texts(op, &examples::texts(), random),
@@ -126,6 +128,7 @@ fn enumerated(op: u8, random: &mut Random) -> Vec<Request> {
     match op {
         calls::DIALECT_BY_NAME => requests::of_words(op, &names::listed_dialects()),
         calls::TSB_WORD => requests::of_words(op, &names::listed_words(random)),
+        calls::COUNT_IMAGES => archives::enumerated(&images::listed()),
         calls::FORMAT_DISK..=calls::CHECK_DISK => Vec::new(),
         _ if calls::is_of_texts(op) => requests::of_texts(op, &texts::listed(), random),
         _ if calls::is_under_options(op) => {
@@ -140,6 +143,7 @@ fn any(op: u8, random: &mut Random) -> Request {
     match op {
         calls::DIALECT_BY_NAME => requests::of_word(op, &names::any_dialect(random)),
         calls::TSB_WORD => requests::of_word(op, &names::any_word(random)),
+        calls::COUNT_IMAGES => archives::any(random),
         calls::FORMAT_DISK..=calls::CHECK_DISK => disk_calls::any(op, random),
         _ if calls::is_of_texts(op) => {
             let case = texts::any(random);
