@@ -28,15 +28,15 @@ module _ (s : List ℕ) (p : ℕ) where
   unfolding inMemory
   not-within h = rw (le-ltb p (length s) h)
 
-  pub within-is : {n : ℕ} → p < length s → n ≡ lowFirstAt s 0 → ltb (n + p) 65538 ≡ inMemory s p
+  pub within-is : p < length s → ltb (length s) 65539 ≡ inMemory s p
   unfolding inMemory
-  within-is h e = rw (lt-ltb p (length s) h, e)
+  within-is h = rw (lt-ltb p (length s) h)
 
   memory-within : inMemory s p ≡ true → p < length s
   unfolding inMemory
   memory-within e = go (ltb p (length s)) refl e
     where
-      go : (b : Bool) → ltb p (length s) ≡ b → (b && ltb (lowFirstAt s 0 + p) 65538) ≡ true → p < length s
+      go : (b : Bool) → ltb p (length s) ≡ b → (b && ltb (length s) 65539) ≡ true → p < length s
       go true f g = ltb-true p (length s) f
       go false f g = let z : _≡_ {A = ℕ} 0 1 = ap (λ (x : Bool). cond x 1 0) g in absurd (omega arith)
 

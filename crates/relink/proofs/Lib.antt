@@ -1,3 +1,4 @@
 pub mod Following
+pub mod Laid
 pub mod Table
 pub mod Tight

@@ -21,9 +21,10 @@ use Rattle.relink.specs.declared.Passed.the-variants.{End, Kept as KeptL
 use Rattle.relink.specs.declared.Relinked.{Relinked}
 use Rattle.relink.specs.declared.Relinked.the-variants.{Same, Changed, Leaves, Endless, Refused}
 
--- a byte of the image that has an address of 16 bits: its address, the load address plus the offset less 2, is below 65536
+-- the byte at an offset of the image is in memory, which has room for 65,536 bytes behind the load address: they come round from FFFF to 0,
+-- as the routine's addresses do. A longer image would be loaded over its own beginning, so what the routine meets is unknown.
 unfoldable pub inMemory : List ℕ → ℕ → Bool
-inMemory s p = ltb p (length s) && ltb (lowFirstAt s 0 + p) 65538
+inMemory s p = ltb p (length s) && ltb (length s) 65539
 
 -- the first count at which the line at p has a 00, from y on over n counts; `Nowhere` after all 256, which it goes through for ever
 unfoldable pub zeroSought : List ℕ → ℕ → ℕ → ℕ → Zero

@@ -131,15 +131,14 @@ fn zero_behind(image: &[u8], offset: usize) -> Zero
     Zero::Nowhere
 }
 
-// Whether an offset is the image's and has an address of 16 bits.
+// Whether the byte at an offset of the image is in memory, which has room for 65,536 bytes behind the load address.
 fn is_in_memory(image: &[u8], offset: usize) -> bool
-    requires { ⌜ (2 ≤ length (now image)) × (offset ≤ 2097152) ⌝ }
     ensures { λ r. ⌜ r ≡ inMemory (now (image .entry)) offset ⌝ }
 {
     if offset >= image.len() {
         return false;
     }
-    low_first_at(image, 0) as usize + offset < 65538
+    image.len() < 65539
 }
 
 // The number in two bytes at an offset, low byte first.

@@ -1,7 +1,6 @@
 -- `relink::is_in_memory` meets its contract.
 -- Assumes nothing.
 use Rattle.relink.proofs.Following.{not-within, within-is}
-use borrow.Author.Needs.{needs}
 use Rattle.relink.proofs.is_in_memory.Statement.{statement}
 use Rattle.relink.proofs.is_in_memory.Tie as tie
 
@@ -12,5 +11,4 @@ returns-2 : tie.Need-returns-2
 returns-2 c = search within-is
 
 pub is-in-memory-spec : {M : Type 1} → statement M
-is-in-memory-spec =
-    tie.close (tie.spec returns (λ c κs. search needs) (λ c. search needs) (λ c. search needs) returns-2)
+is-in-memory-spec = tie.close (tie.spec returns returns-2)
