@@ -75,6 +75,7 @@ fn read_from(fd: i32, name: &[u8], buf: &mut [u8]) -> Input
     input
 }
 
+// Reads a whole file.
 pub fn read_file(name: &[u8], buf: &mut [u8]) -> Input
     ensures { λ r. ⌜ InputWithin r (now (buf .exit)) ⌝ }
 {

@@ -104,6 +104,11 @@ fn write_line(name: &[u8], text: &[u8], code: Code) -> bool
     io::write_all(STDERR_FILENO, &line[..n])
 }
 
+// Writes the sentence of a refusal that speaks of a file to standard error, behind the file's name.
+pub fn tell(name: &[u8], refusal: Refusal) -> bool {
+    write_line(name, b"", refusals::refusal_code(refusal))
+}
+
 // Writes the sentence of a refusal to standard error. Where that fails, the status tells.
 fn write_sentence(code: Code, text: &[u8]) -> bool
     requires { ⌜ length (now text) ≤ 1048576 ⌝ }
