@@ -81,7 +81,7 @@ unfolding bitsOf
 bits-are zero v = tt
 bits-are (suc w) v = (omega arith, bits-are w v)
 
-are-both : (s t : List ℕ) → AreBits s → AreBits t → AreBits (s ++ t)
+pub are-both : (s t : List ℕ) → AreBits s → AreBits t → AreBits (s ++ t)
 are-both [] t h k = k
 are-both (b ∷ s) t h k = (h .0, are-both s t (h .1) k)
 
@@ -142,3 +142,17 @@ pack-back (b ∷ bs) v n a h g =
 pub packed-back : (fs : List Field) → Padded (fieldBits fs) (packed fs)
 unfolding packed
 packed-back fs = pack-back (fieldBits fs) 0 0 (fields-are fs) (omega arith) (omega arith)
+
+-- how many bytes bits take
+pub pack-length : (bs : List ℕ) (v n : ℕ) → n ≤ 7 → length (packFrom v n bs) ≡ (n + length bs + 7) / 8
+pack-length [] v n h = go (eqb n 0) refl
+  where
+    go : (t : Bool) → eqb n 0 ≡ t → length (packFrom v n []) ≡ (n + 0 + 7) / 8
+    go true e = let z : n ≡ 0 = eqb-true n 0 e in rw (pack-none v n z) (omega arith)
+    go false e = let z : n ≡ 0 → ⊥ = eqb-false n 0 e in rw (pack-last v n z) (omega arith)
+pack-length (b ∷ bs) v n h = go (eqb n 7) refl (pack-length bs)
+  where
+    go : (t : Bool) → eqb n 7 ≡ t → ((w m : ℕ) → m ≤ 7 → length (packFrom w m bs) ≡ (m + length bs + 7) / 8)
+        → length (packFrom v n (b ∷ bs)) ≡ (n + suc (length bs) + 7) / 8
+    go true e f = let z : n ≡ 7 = eqb-true n 7 e in rw (pack-full v n b bs z) (omega (arith, f 0 0 (omega arith)))
+    go false e f = let z : n ≡ 7 → ⊥ = eqb-false n 7 e in rw (pack-more v n b bs z) (omega (arith, f (2 * v + b) (n + 1) (omega arith)))

@@ -1,2 +1,4 @@
 pub mod Counting
+pub mod Putting
 pub mod Sounding
+pub mod Whole

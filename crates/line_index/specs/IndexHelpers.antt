@@ -1,9 +1,9 @@
 -- What the contracts of the passes over an image say. Targets are cut at 65536, as the steps over a body tell them. The report leaves
 -- out the jumps to marked numbers; the index leaves out none, since nothing is marked.
 -- Assumes nothing.
-use Prim.Native.Nat.{ℕ, _+_, _*_, _≤_}
+use Prim.Native.Nat.{ℕ, _+_, _-_, _≤_}
 use mathlib.Core.Path.{_≡_}
-use mathlib.Core.Bool.{true, false, cond}
+use mathlib.Core.Bool.{cond}
 use mathlib.Core.List.{List, [], _∷_, _++_, map}
 use lib.Dec.{eqb, ltb}
 use lib.ListN.{length, getD}
@@ -14,10 +14,9 @@ use Rattle.readers.specs.Lines.{linesFrom}
 use Rattle.readers.specs.Links.{linkStep}
 use Rattle.jumps.specs.Jumps.{jumpsFrom, jumpsOf}
 use Rattle.jumps.specs.JumpHelpers.{low}
-use Rattle.bits.specs.Bits.{fieldBits}
+use Rattle.bits.specs.Bits.{bitsOf}
 use Rattle.line_index.specs.declared.Counted.{Counted}
 use Rattle.line_index.specs.declared.Counted.the-variants.{TooHigh, Jumps}
-use Rattle.line_index.specs.Index.{IndexJump, jumpTo, jumpFields}
 
 -- the lines from p on, and none where there is a fault
 abbrev pub listed : Answer (List Line) → List Line
@@ -55,15 +54,40 @@ pub record CountedIs (marked : List ℕ) (n : ℕ) (ts : List ℕ) (most : ℕ) 
   pub is : r ≡ counted marked n ts
   pub few : AtMost most r
 
--- the bits of the jumps of a line to numbers that are not marked
+-- two numbers, the second of 16 bits
+abbrev pub pairBits : ℕ → ℕ → ℕ → List ℕ
+pairBits width a b = bitsOf width a ++ bitsOf 16 b
+
+-- the bits of lines
+unfoldable pub lineBits : List Line → List ℕ
+unfolding bitsOf
+lineBits [] = []
+lineBits (l ∷ ls) = pairBits 16 (l .number) (l .from - 4) ++ lineBits ls
+
+-- the bits of a jump, unless its target is marked
+unfoldable pub targetBit : List ℕ → ℕ → ℕ → List ℕ
+unfolding bitsOf
+targetBit marked place t = cond (eqb (getD marked t 0) 0) (pairBits 13 place t) []
+
+-- those of a line's jumps
 unfoldable pub targetBits : List ℕ → ℕ → List ℕ → List ℕ
-unfolding fieldBits jumpFields
+unfolding targetBit
 targetBits marked place [] = []
-targetBits marked place (t ∷ ts) =
-    elim (eqb (getD marked t 0) 0) [ true ↦ fieldBits (jumpFields (jumpTo place t ∷ [])) ++ targetBits marked place ts | false ↦ targetBits marked place ts ]
+targetBits marked place (t ∷ ts) = targetBit marked place t ++ targetBits marked place ts
 
 -- those of lines, v being before these
 unfoldable pub jumpBits : List ℕ → List ℕ → ℕ → List Line → List ℕ
 unfolding jumpsFrom targetBits
 jumpBits marked s v [] = []
 jumpBits marked s v (l ∷ ls) = targetBits marked (v + 1) (lowJumps (bodyOf s l)) ++ jumpBits marked s (v + 1) ls
+
+-- those of the whole index
+abbrev pub indexBits : List ℕ → ℕ → List ℕ
+indexBits s n = bitsOf 16 n ++ (lineBits (foundFrom s 2) ++ jumpBits [] s 0 (foundFrom s 2))
+
+-- an image without a fault, and how many lines it has
+pub record Faultless (s : List ℕ) (n : ℕ) : Type 0 where
+  pub sound : Sound s 2
+  pub count : n ≡ length (foundFrom s 2)
+  pub short : 2 ≤ length s
+  pub long : length s ≤ 1048576

@@ -4,18 +4,66 @@ ghost use Prim.Native.Nat.{_+_, _*_, _≤_, min};
 ghost use mathlib.Core.Bool.{cond};
 ghost use lib.Dec.{eqb};
 ghost use lib.ListN.{length, getD};
+ghost use Rattle.lent.specs.Lent.{intoBuffer, left};
+ghost use Rattle.lent.specs.Stores.{Room, Put};
+ghost use Rattle.bits.specs.Bits.{packFrom};
+ghost use Rattle.line_index.specs.Index.{lineIndex};
 ghost use Rattle.bits.specs.PenHelpers.{Ready, drawn};
-ghost use Rattle.line_index.specs.IndexHelpers.{Sound, foundFrom, lowJumps, lowTargets, CountedIs, targetBits, jumpBits};
+ghost use Rattle.line_index.specs.IndexHelpers.{Sound, foundFrom, lowJumps, lowTargets, CountedIs, pairBits, lineBits, targetBit, targetBits, jumpBits, indexBits, Faultless};
 use bits::Pen;
 use jumps::Cursor;
 use jumps::Next;
+use lent::Outcome;
+use readers::Checked;
 use readers::Step;
 use readers::links;
+use refusals::Refusal;
 
 // How many jumps there are, unless a target is above 65535.
 pub enum Counted {
     TooHigh,
     Jumps(usize),
+}
+
+// Stores the index of an image at the start of a buffer, and answers how long it is.
+pub fn write_index(image: &[u8], out: &mut [u8]) -> Outcome
+    ensures { λ r. ⌜ left r (now (out .exit)) ≡ intoBuffer (lineIndex (now (image .entry))) (now (out .entry)) ⌝ }
+{
+    match links::check(image) {
+        Checked::Image { load: _, lines } => index_lines(image, out, lines),
+        Checked::Refused(refusal) => Outcome::Refused(refusal),
+    }
+}
+
+// The same for an image without a fault, of so many lines.
+fn index_lines(image: &[u8], out: &mut [u8], lines: usize) -> Outcome
+    requires { ⌜ Faultless (now image) lines ⌝ }
+    ensures { λ r. ⌜ left r (now (out .exit)) ≡ intoBuffer (lineIndex (now (image .entry))) (now (out .entry)) ⌝ }
+{
+    if lines > 8191 {
+        return Outcome::Refused(Refusal::TooManyLines);
+    }
+    match count_jumps(image, &image[..0]) {
+        Counted::TooHigh => Outcome::Refused(Refusal::TargetTooHigh),
+        Counted::Jumps(jumps) => {
+            let needed = (23 + 32 * lines + 29 * jumps) / 8;
+            if needed > out.len() {
+                return Outcome::Refused(Refusal::NoRoom { needed });
+            }
+            Outcome::Done(put_index(out, image, lines))
+        }
+    }
+}
+
+// Stores the index in a buffer that has the room. No number is marked.
+fn put_index(out: &mut [u8], image: &[u8], lines: usize) -> usize
+    requires { ⌜ Faultless (now image) lines × Room (now out) 0 (packFrom 0 0 (indexBits (now image) lines)) ⌝ }
+    ensures { λ r. ⌜ Put (now (out .entry)) 0 (packFrom 0 0 (indexBits (now (image .entry)) lines)) r (now (out .exit)) ⌝ }
+{
+    let first = bits::put_field(out, bits::new_pen(), 16, lines);
+    let second = put_lines(out, first, image);
+    let third = put_jumps(out, second, image, &image[..0]);
+    bits::finish(out, third)
 }
 
 // The jumps of a body to numbers that are not marked, behind n of them.
@@ -85,6 +133,110 @@ fn count_jumps(image: &[u8], marked: &[u8]) -> Counted
             // An image without a fault is refused nowhere.
             Step::Refused(_) => {
                 return Counted::Jumps(n);
+            }
+        }
+    }
+}
+
+// Two fields, the second of 16 bits.
+fn put_pair(out: &mut [u8], pen: Pen, width: usize, first: usize, second: usize) -> Pen
+    requires { ⌜ (width ≤ 16) × Ready (now out) pen (pairBits width first second) ⌝ }
+    ensures { λ r. ⌜ record { pen = r; out = now (out .exit) } ≡ drawn (now (out .entry)) pen (pairBits width first second) ⌝ }
+{
+    let behind = bits::put_field(out, pen, width, first);
+    bits::put_field(out, behind, 16, second)
+}
+
+// The lines of an image without a fault.
+fn put_lines(out: &mut [u8], pen: Pen, image: &[u8]) -> Pen
+    requires { ⌜ Sound (now image) 2 × Ready (now out) pen (lineBits (foundFrom (now image) 2)) ⌝ }
+    ensures { λ r. ⌜ record { pen = r; out = now (out .exit) } ≡ drawn (now (out .entry)) pen (lineBits (foundFrom (now (image .entry)) 2)) ⌝ }
+{
+    let mut pen = pen;
+    let mut offset: usize = 2;
+    loop {
+        match links::step(image, offset) {
+            Step::Found(line) => {
+                let number = line.number as usize;
+                let from = line.from;
+                offset = line.next;
+                pen = put_pair(out, pen, 16, number, from - 4);
+            }
+            Step::End => {
+                return pen;
+            }
+            // An image without a fault is refused nowhere.
+            Step::Refused(_) => {
+                return pen;
+            }
+        }
+    }
+}
+
+// A jump, unless its target is marked.
+fn put_jump(out: &mut [u8], pen: Pen, place: usize, target: usize, marked: &[u8]) -> Pen
+    requires { ⌜ Ready (now out) pen (targetBit (now marked) place target) ⌝ }
+    ensures { λ r. ⌜ record { pen = r; out = now (out .exit) } ≡ drawn (now (out .entry)) pen (targetBit (now (marked .entry)) place target) ⌝ }
+{
+    if unmarked(marked, target) == 1 {
+        return put_pair(out, pen, 13, place, target);
+    }
+    pen
+}
+
+// A target, cut at 65536.
+fn cut(target: usize) -> usize
+    ensures { λ r. ⌜ r ≡ min target 65536 ⌝ }
+{
+    if target > 65536 { 65536 } else { target }
+}
+
+// The jumps of a body.
+fn put_body(out: &mut [u8], pen: Pen, place: usize, body: &[u8], marked: &[u8]) -> Pen
+    requires { ⌜ Ready (now out) pen (targetBits (now marked) place (lowJumps (now body))) ⌝ }
+    ensures { λ r. ⌜ record { pen = r; out = now (out .exit) } ≡ drawn (now (out .entry)) pen (targetBits (now (marked .entry)) place (lowJumps (now (body .entry)))) ⌝ }
+{
+    let mut pen = pen;
+    let mut cursor = jumps::first();
+    loop {
+        match jumps::next_jump(body, cursor) {
+            Next::Jump {
+                target,
+                cursor: behind,
+            } => {
+                cursor = behind;
+                pen = put_jump(out, pen, place, cut(target), marked);
+            }
+            Next::None => {
+                return pen;
+            }
+        }
+    }
+}
+
+// The jumps of an image without a fault.
+fn put_jumps(out: &mut [u8], pen: Pen, image: &[u8], marked: &[u8]) -> Pen
+    requires { ⌜ Sound (now image) 2 × (2 ≤ length (now image)) × Ready (now out) pen (jumpBits (now marked) (now image) 0 (foundFrom (now image) 2)) ⌝ }
+    ensures { λ r. ⌜ record { pen = r; out = now (out .exit) } ≡ drawn (now (out .entry)) pen (jumpBits (now (marked .entry)) (now (image .entry)) 0 (foundFrom (now (image .entry)) 2)) ⌝ }
+{
+    let mut pen = pen;
+    let mut offset: usize = 2;
+    let mut place: usize = 0;
+    loop {
+        match links::step(image, offset) {
+            Step::Found(line) => {
+                let from = line.from;
+                let to = line.to;
+                place += 1;
+                offset = line.next;
+                pen = put_body(out, pen, place, &image[from..to], marked);
+            }
+            Step::End => {
+                return pen;
+            }
+            // An image without a fault is refused nowhere.
+            Step::Refused(_) => {
+                return pen;
             }
         }
     }
