@@ -6,6 +6,7 @@ mod disks;
 mod found;
 mod frames;
 mod images;
+mod indexes;
 mod listings;
 mod measured;
 mod modes;
@@ -45,6 +46,7 @@ fn answer_request(op: u8, payload: &[u8], room: &mut [u8], disk: &mut [u8]) -> b
         0x19 => images::addressed_step(payload, By::Links),
         0x1A => measured::measured_line(payload),
         0x1B => counted::count_images(payload),
+        0x1C => indexes::index(payload, room),
         0x20 => disks::format(payload, disk),
         0x21 => disks::save(payload, disk),
         0x22 => disks::read(payload, room),
