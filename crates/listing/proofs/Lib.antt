@@ -1,6 +1,7 @@
 pub mod Agreeing
 pub mod Digits
 pub mod Examples
+pub mod Joining
 pub mod Lining
 pub mod Longest
 pub mod Progress

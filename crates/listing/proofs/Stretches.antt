@@ -98,7 +98,7 @@ module _ (rules : Rules) where
 
   -- the same at a place of a body, as a loop over it needs it
   module _ (room : ℕ) (mode : Mode) (body : List ℕ) (i : ℕ) where
-    run-end : length body ≤ i → runFrom rules room mode (drop i body) ≡ noRun mode
+    pub run-end : length body ≤ i → runFrom rules room mode (drop i body) ≡ noRun mode
     run-end h = ap (runFrom rules room mode) (drop-of-length-le body h) ∙ run-none room mode
 
     module _ {t : Taken} (h : i < length body) (e : t ≡ unitAt rules mode (getD body i 0) (drop (i + 1) body)) where
@@ -111,7 +111,7 @@ module _ (rules : Rules) where
       run-full : {k : Bool} → k ≡ leb (length (unitText (t .unit))) room → k ≡ false → runFrom rules room mode (drop i body) ≡ noRun mode
       run-full is f = run-at ∙ rw (sym is ∙ f)
 
-      run-fits : {k : Bool} → k ≡ leb (length (unitText (t .unit))) room → k ≡ true
+      pub run-fits : {k : Bool} → k ≡ leb (length (unitText (t .unit))) room → k ≡ true
           → runFrom rules room mode (drop i body) ≡ unitBefore t (runFrom rules (room - length (unitText (t .unit))) (t .mode) (drop (i + t .used) body))
       run-fits is f = run-at ∙ rw (sym is ∙ f)
 
@@ -231,7 +231,7 @@ module _ (rules : Rules) (body : List ℕ) {buffer : List ℕ} {s b : Spot} {hal
 
 -- ---- from a place on
 
-head-long : (n : ℕ) → length (headListing n) ≡ length (decimal n) + 1
+pub head-long : (n : ℕ) → length (headListing n) ≡ length (decimal n) + 1
 unfolding headListing
 head-long n = length-append (decimal n) (0x20 ∷ [])
 

@@ -8,6 +8,7 @@ use mathlib.Core.List.{List, [], _∷_, _++_}
 use lib.Dec.{leb, ltb}
 use lib.ListN.{length, drop}
 use Rattle.steps.specs.Again.{again}
+use Rattle.readers.specs.NumberedBody.{NumberedBody}
 use Rattle.units.specs.declared.Mode.{Mode}
 use Rattle.units.specs.declared.Mode.the-variants.{Plain}
 use Rattle.units.specs.declared.Rules.{Rules}
@@ -84,3 +85,27 @@ unfolding headListing restListing unitsFrom spelt
 leftOf rules body (Number n) = headListing n ++ restListing rules body
 leftOf rules body (Body at mode) = spelt (unitsFrom rules mode (drop at body)) ++ (0x0A ∷ [])
 leftOf rules body Over = []
+
+-- ---- one stretch after the other
+
+-- from a place on a line is listed in these parts: stretches, each in a room of its own, until nothing is left
+pub data InStretches (rules : Rules) (body : List ℕ) : Place → List (List ℕ) → Type 0 where
+  over : InStretches rules body Over []
+  more : {place : Place} {parts : List (List ℕ)} (room : ℕ) → InStretches rules body (stretchOf rules body room place .place) parts
+      → InStretches rules body place (stretchOf rules body room place .text ∷ parts)
+
+-- lines, one after the other, each in stretches
+pub data LinesInStretches (rules : Rules) : List NumberedBody → List (List ℕ) → Type 0 where
+  no-lines : LinesInStretches rules [] []
+  line-more : {l : NumberedBody} {ls : List NumberedBody} {parts rest : List (List ℕ)} → InStretches rules (l .body) (Number (l .number)) parts
+      → LinesInStretches rules ls rest → LinesInStretches rules (l ∷ ls) (parts ++ rest)
+
+unfoldable pub joinedParts : List (List ℕ) → List ℕ
+joinedParts [] = []
+joinedParts (p ∷ ps) = p ++ joinedParts ps
+
+-- how far a place is from the line's end
+unfoldable pub placeLeft : List ℕ → Place → ℕ
+placeLeft body (Number n) = length body + 2
+placeLeft body (Body at mode) = length body - at + 1
+placeLeft body Over = 0
