@@ -13,7 +13,7 @@ use borrow.Author.Tests.{lt-leb, leb-true, leb-false}
 use Rattle.ascii.specs.Bytes.{between, upper}
 use Rattle.ascii.proofs.Ranges.{between-in}
 use Rattle.words.proofs.Search.{and-left, and-right}
-use Rattle.tables.specs.Texts.{hexDigits, hexByte}
+use Rattle.petscii.specs.ByteTexts.{hexDigits, hexByte}
 use Rattle.disk_names.specs.Names.{digitValue, byteForm, characterByte, nameBehind, nameGiven, isShown, byteShown, nameShown}
 use Rattle.disk_names.specs.declared.Form.{Form}
 use Rattle.disk_names.specs.declared.Form.the-variants.{Byte, Nothing}

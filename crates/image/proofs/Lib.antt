@@ -1,6 +1,7 @@
+pub mod Bounding
 pub mod Laying
 pub mod Lining
-pub mod Placing
 pub mod Measuring
-pub mod Writing
+pub mod Placing
 pub mod Whole
+pub mod Writing

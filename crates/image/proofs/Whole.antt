@@ -2,6 +2,7 @@
 -- Assumes nothing.
 use Prim.Native.Nat.{ℕ, _≤_, _<_}
 use mathlib.Core.Path.{_≡_, refl, sym, ap, _∙_, subst}
+use mathlib.Core.Bool.{Bool, true, false}
 use mathlib.Core.List.{List}
 use native.Mathlib.Omega.{arith}
 use lib.ListN.{length}
@@ -21,24 +22,18 @@ use Rattle.lines.specs.declared.split.LineRule.the-variants.{AfterCr}
 use Rattle.lines.specs.Domain.{checkedText, textCheckAnswer}
 use Rattle.lines.specs.TextLines.{textLines}
 use Rattle.guess.specs.Guess.{wordSets}
-use Rattle.body.specs.Lexicon.{lexicon}
+use Rattle.body.specs.Lexicon.{Lexicon, lexicon}
 use Rattle.readers.specs.NumberedBody.{NumberedBody}
 use Rattle.layout.specs.Layout.{imageOf}
 use Rattle.layout.specs.Reads.{linesAt}
 use Rattle.image.specs.Crunched.{crunchLines, textLexicon, crunchedLines, crunched}
 use Rattle.image.specs.Measured.{nonblankLines, withTextLines, entryFrom, measuredLines, lineMeasured, lineAnswer}
-use Rattle.image.specs.PassesHelpers.{textImage, textPlaced, PassedAs, MeasuredAs}
+use Rattle.image.specs.PassesHelpers.{textImage, textPlaced, PassedAs, MeasuredAs, FitsIf}
 use Rattle.image.specs.declared.LineMeasured.the-variants.{Refused as Line·Refused}
 use Rattle.image.specs.declared.measure.Pass.{Pass}
 use Rattle.image.specs.declared.Options.{Options}
-use Rattle.image.specs.declared.measure.Measurement.{Measurement}
 
 -- ---- what is measured
-
-room-then : (a : Answer ℕ) (b : Answer (List ℕ)) → a ≡ roomFor b → andThen a (λ _. b) ≡ b
-room-then (done n) b q = refl
-room-then (refused n) (done l) q = let z : _≡_ {A = ℕ} 0 1 = cc in absurd (omega arith)
-room-then (refused n) (refused m) q = let s : n ≡ m = cc in ap refused s
 
 mapped-twice : {A B C : Type 0} (f : B → C) (g : A → B) (a : Answer A) → mapDone (λ x. f (g x)) a ≡ mapDone f (mapDone g a)
 mapped-twice f g (done x) = refl
@@ -62,46 +57,53 @@ module _ (o : Options) (place : ℕ) (text : List ℕ) where
       mapped-twice (entryFrom place 1) (λ ls. withTextLines (linesAt (o .load) 2 ls) (nonblankLines text)) a
       ∙ ap (λ (x : Answer (List NumberedBody)). mapDone (entryFrom place 1) (mapDone (λ ls. withTextLines (linesAt (o .load) 2 ls) (nonblankLines text)) x)) e
 
-  module _ {c : TextCheck} {sets : Sets} where
-    pub measured-fine : {p : Pass} → PassedAs (lexicon sets) (o .load) place text p → sets ≡ wordSets (o .dialect) text → c ≡ Fine → textCheckAnswer c ≡ checkedText text
-        → MeasuredAs o place text (record { sets = sets; room = p .room; line = p .line })
-    unfolding textImage textPlaced
-    measured-fine {p} r s t e =
-        let lines : crunchLines (lexicon sets) 1 (o .load) (textLines AfterCr text) ≡ crunchedLines o text =
-        ap (λ (x : Sets). crunchLines (lexicon x) 1 (o .load) (textLines AfterCr text)) s ∙ lines-by t e in
-        record {
-          sized = r .sized ∙ ap roomFor (image-by lines);
-          placed = r .placed ∙ placed-by lines;
-          gives = room-then (outcomeAnswer (p .room)) (textImage (lexicon sets) (o .load) text) (r .sized) ∙ image-by lines;
-        }
+  module _ {c : TextCheck} where
+    lines-fine : {sets : Sets} → sets ≡ wordSets (o .dialect) text → c ≡ Fine → textCheckAnswer c ≡ checkedText text
+        → crunchLines (lexicon sets) 1 (o .load) (textLines AfterCr text) ≡ crunchedLines o text
+    lines-fine s t e = ap (λ (x : Sets). crunchLines (lexicon x) 1 (o .load) (textLines AfterCr text)) s ∙ lines-by t e
 
-    pub measured-outside : {x : Refusal} → c ≡ Check·Refused x → textCheckAnswer c ≡ checkedText text → MeasuredAs o place text (record { sets = sets; room = Refused x; line = Line·Refused x })
-    measured-outside t e = record { sized = ap roomFor (image-by (lines-by t e)); placed = placed-by (lines-by t e); gives = image-by (lines-by t e) }
+    pub measured-fine : {sets : Sets} {p : Pass} → PassedAs (lexicon sets) (o .load) place text p → sets ≡ wordSets (o .dialect) text → c ≡ Fine → textCheckAnswer c ≡ checkedText text
+        → MeasuredAs o place text p
+    unfolding textImage textPlaced
+    measured-fine r s t e = record { sized = r .sized ∙ ap roomFor (image-by (lines-fine s t e)); placed = r .placed ∙ placed-by (lines-fine s t e) }
+
+    pub measured-outside : {x : Refusal} → c ≡ Check·Refused x → textCheckAnswer c ≡ checkedText text → MeasuredAs o place text (record { room = Refused x; line = Line·Refused x })
+    measured-outside t e = record { sized = ap roomFor (image-by (lines-by t e)); placed = placed-by (lines-by t e) }
+
+module _ {o : Options} {place : ℕ} {text : List ℕ} {p : Pass} where
+  pub whole-room : MeasuredAs o place text p → outcomeAnswer (p .room) ≡ roomFor (crunched o text)
+  whole-room k = k .sized
+
+  pub whole-line : MeasuredAs o place text p → lineAnswer (p .line) ≡ lineMeasured o place text
+  whole-line k = k .placed
 
 -- ---- what is stored
 
-module _ {o : Options} {place : ℕ} {text : List ℕ} {m : Measurement} where
-  pub whole-room : MeasuredAs o place text m → outcomeAnswer (m .room) ≡ roomFor (crunched o text)
-  whole-room k = k .sized
+module _ (o : Options) (text buffer : List ℕ) {c : TextCheck} where
+  pub whole-fine : {sets : Sets} (r : Outcome) {after : List ℕ} → left r after ≡ intoBuffer (textImage (lexicon sets) (o .load) text) buffer
+      → sets ≡ wordSets (o .dialect) text → c ≡ Fine → textCheckAnswer c ≡ checkedText text → left r after ≡ intoBuffer (crunched o text) buffer
+  unfolding textImage
+  whole-fine r q s t e = q ∙ ap (λ (a : Answer (List ℕ)). intoBuffer a buffer) (image-by o 0 text (lines-fine o 0 text s t e))
 
-  pub whole-line : MeasuredAs o place text m → lineAnswer (m .line) ≡ lineMeasured o place text
-  whole-line k = k .placed
+  pub whole-outside : {x : Refusal} → c ≡ Check·Refused x → textCheckAnswer c ≡ checkedText text → left (Refused x) buffer ≡ intoBuffer (crunched o text) buffer
+  whole-outside t e = into-refused buffer (crunched o text) (ap roomFor (image-by o 0 text (lines-by o 0 text t e)))
 
-  module _ {n : ℕ} (told : m .room ≡ Done n) (k : MeasuredAs o place text m) where
-    needs-room : done n ≡ roomFor (crunched o text)
-    needs-room = told-outcome told (k .sized)
+module _ (words : Lexicon) (load : ℕ) (text buffer : List ℕ) where
+  -- the bound settles it
+  pub fits-room : {r : Bool} → r ≡ true → FitsIf r (length buffer) (textImage words load text) → HasRoom buffer (textImage words load text)
+  fits-room t f = go (textImage words load text) (rw t at f)
+    where
+      go : (a : Answer (List ℕ)) → FitsIf true (length buffer) a → HasRoom buffer a
+      go (done bytes) h = record { room = omega (arith, h) }
+      go (refused n) h = absurd h
 
-    image-is : textImage (lexicon (m .sets)) (o .load) text ≡ crunched o text
-    image-is = ap (λ (r : Outcome). andThen (outcomeAnswer r) (λ _. textImage (lexicon (m .sets)) (o .load) text)) (sym told) ∙ k .gives
+  -- or the length that was measured
+  module _ {place : ℕ} {p : Pass} where
+    pub room-short : {n : ℕ} → p .room ≡ Done n → PassedAs words load place text p → length buffer < n → left (Refused (NoRoom n)) buffer ≡ intoBuffer (textImage words load text) buffer
+    room-short told k h = into-none buffer (textImage words load text) (told-outcome told (k .sized)) h
 
-    pub whole-short : (buffer : List ℕ) → length buffer < n → left (Refused (NoRoom n)) buffer ≡ intoBuffer (crunched o text) buffer
-    whole-short buffer h = into-none buffer (crunched o text) needs-room h
+    pub room-enough : {n : ℕ} → p .room ≡ Done n → PassedAs words load place text p → n ≤ length buffer → HasRoom buffer (textImage words load text)
+    room-enough told k h = has-room buffer (textImage words load text) (told-outcome told (k .sized)) h
 
-    pub whole-fits : (buffer : List ℕ) → n ≤ length buffer → HasRoom buffer (textImage (lexicon (m .sets)) (o .load) text)
-    whole-fits buffer h = subst (HasRoom buffer) (sym image-is) (has-room buffer (crunched o text) needs-room h)
-
-    pub whole-stored : (buffer : List ℕ) {after : List ℕ} {l : ℕ} → left (Done l) after ≡ intoBuffer (textImage (lexicon (m .sets)) (o .load) text) buffer → left (Done l) after ≡ intoBuffer (crunched o text) buffer
-    whole-stored buffer e = e ∙ ap (λ (a : Answer (List ℕ)). intoBuffer a buffer) image-is
-
-  pub whole-refused : {x : Refusal} (buffer : List ℕ) → m .room ≡ Refused x → MeasuredAs o place text m → left (Refused x) buffer ≡ intoBuffer (crunched o text) buffer
-  whole-refused buffer told k = into-refused buffer (crunched o text) (told-outcome told (k .sized))
+    pub room-refused : {x : Refusal} → p .room ≡ Refused x → PassedAs words load place text p → left (Refused x) buffer ≡ intoBuffer (textImage words load text) buffer
+    room-refused told k = into-refused buffer (textImage words load text) (told-outcome told (k .sized))

@@ -2,6 +2,7 @@
 -- Assumes nothing.
 use Prim.Native.Nat.{ℕ, _+_, _-_, _/_, _%_, _≤_}
 use mathlib.Core.Path.{_≡_}
+use mathlib.Core.Bool.{Bool, true, false}
 use mathlib.Core.List.{List, [], _∷_}
 use mathlib.Core.Option.{Option}
 use lib.ListN.{length, set}
@@ -9,16 +10,15 @@ use Rattle.refusals.specs.Answer.{Answer, done, refused, numbered, mapDone, and
 use Rattle.lent.specs.Lent.{roomFor, outcomeAnswer}
 use Rattle.lines.specs.declared.split.LineRule.the-variants.{AfterCr}
 use Rattle.lines.specs.TextLines.{textLines}
-use Rattle.body.specs.Lexicon.{Lexicon, lexicon}
+use Rattle.body.specs.Lexicon.{Lexicon}
 use Rattle.readers.specs.NumberedBody.{NumberedBody}
 use Rattle.readers.specs.declared.Line.{Line}
-use Rattle.layout.specs.Layout.{linkOf, imageOf}
+use Rattle.layout.specs.Layout.{linkOf, endAddress, imageOf}
 use Rattle.layout.specs.Reads.{linesAt}
 use Rattle.image.specs.Crunched.{textLine, lastLink, crunchLines, crunched}
 use Rattle.image.specs.Measured.{nonblankLines, withTextLines, entryFrom, lineMeasured, lineAnswer}
 use Rattle.image.specs.declared.MeasuredLine.{MeasuredLine}
 use Rattle.image.specs.declared.Options.{Options}
-use Rattle.image.specs.declared.measure.Measurement.{Measurement}
 use Rattle.image.specs.declared.measure.Pass.{Pass}
 use Rattle.image.specs.declared.measure.Sized.{Sized}
 use Rattle.image.specs.declared.measure.Sized.the-variants.{Blank, Numbered, Refused}
@@ -37,11 +37,10 @@ pub record PassedAs (words : Lexicon) (load place : ℕ) (text : List ℕ) (p : 
   pub sized : outcomeAnswer (p .room) ≡ roomFor (textImage words load text)
   pub placed : lineAnswer (p .line) ≡ textPlaced words load place text
 
--- a text that was checked and measured: the room for its image, the line at a place, and, where it has an image, words that give it
-pub record MeasuredAs (o : Options) (place : ℕ) (text : List ℕ) (m : Measurement) : Type 0 where
-  pub sized : outcomeAnswer (m .room) ≡ roomFor (crunched o text)
-  pub placed : lineAnswer (m .line) ≡ lineMeasured o place text
-  pub gives : andThen (outcomeAnswer (m .room)) (λ _. textImage (lexicon (m .sets)) (o .load) text) ≡ crunched o text
+-- a text that was checked and measured: the room for its image, and the line at a place
+pub record MeasuredAs (o : Options) (place : ℕ) (text : List ℕ) (p : Pass) : Type 0 where
+  pub sized : outcomeAnswer (p .room) ≡ roomFor (crunched o text)
+  pub placed : lineAnswer (p .line) ≡ lineMeasured o place text
 
 -- the address behind the k-th text line
 unfoldable pub addressBehind : Lexicon → ℕ → ℕ → List ℕ → Answer ℕ
@@ -93,3 +92,16 @@ pub record Framed (address number size : ℕ) (buffer : List ℕ) (n : ℕ) (aft
   pub stored :
       after
       ≡ set (set (set (set (set buffer 0 ((address + 5 + size) % 256)) 1 ((address + 5 + size) / 256 % 256)) 2 (number % 256)) 3 (number / 256 % 256)) (size + 4) 0
+
+-- an image that fits in so much room, where that is said of it
+abbrev pub FitsIf : Bool → ℕ → Answer (List ℕ) → Type 0
+FitsIf false room a = Unit {0}
+FitsIf true room (done bytes) = length bytes ≤ room
+FitsIf true room (refused n) = ⊥
+
+-- up to this address, or to one above FFFF, the lines reach that a text line gives, the first at an address; where it is not above, the text
+-- line is not refused, whatever its place
+pub record Bounded (words : Lexicon) (address : ℕ) (line : List ℕ) (r : ℕ) : Type 0 where
+  pub low : address ≤ r
+  pub gives : r ≤ 0xFFFF → (k : ℕ) → textLine words k line ≡ done (given (textLine words k line))
+  pub below : r ≤ 0xFFFF → endAddress address (given (textLine words 0 line)) ≤ r

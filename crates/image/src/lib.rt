@@ -1,15 +1,22 @@
 // A text, crunched to an image.
 use dialect::Dialect;
+use guess::resolve;
 use lent::Outcome;
+use lines::domain;
+use lines::domain::TextCheck;
 use readers::Line;
 use refusals::Refusal;
+use tables::sets::Sets;
 use tables::spellings;
 ghost use mathlib.Core.Path.{_≡_};
 ghost use Rattle.lent.specs.Lent.{intoBuffer, roomFor, outcomeAnswer, left};
 ghost use Rattle.tables.specs.WordsHelpers.{SpellsWords};
+ghost use Rattle.body.specs.Lexicon.{lexicon};
 ghost use Rattle.image.specs.Crunched.{crunched};
+ghost use Rattle.image.specs.PassesHelpers.{textImage};
 ghost use Rattle.image.specs.Measured.{lineMeasured, lineAnswer};
 
+mod bound;
 mod measure;
 mod write;
 
@@ -75,7 +82,7 @@ pub fn measured_line(text: &[u8], options: Options, place: usize) -> LineMeasure
     line
 }
 
-// The image is measured first: a buffer that is too small is left as it is.
+// The text is checked, and its words are found, once.
 fn crunch_with(
     out: &mut [u8],
     text: &[u8],
@@ -86,15 +93,39 @@ fn crunch_with(
     requires { ⌜ SpellsWords (now bytes) (now index) ⌝ }
     ensures { λ r. ⌜ left r (now (out .exit)) ≡ intoBuffer (crunched options (now (text .entry))) (now (out .entry)) ⌝ }
 {
-    let m = measure::measured(text, options, 0, bytes, index);
-    let room = m.room;
+    match domain::check_text(text) {
+        TextCheck::Fine => {
+            let dialect = options.dialect;
+            let sets = resolve::word_sets(text, dialect, bytes, index);
+            into_buffer(out, text, options.load, bytes, index, sets)
+        }
+        TextCheck::Refused(refusal) => Outcome::Refused(refusal),
+    }
+}
+
+// Where the bound does not settle it, the image is measured first: a buffer that is too small is left as it is.
+fn into_buffer(
+    out: &mut [u8],
+    text: &[u8],
+    load: u16,
+    bytes: &[u8],
+    index: &[u16],
+    sets: Sets,
+) -> Outcome
+    requires { ⌜ SpellsWords (now bytes) (now index) ⌝ }
+    ensures { λ r. ⌜ left r (now (out .exit)) ≡ intoBuffer (textImage (lexicon sets) load (now (text .entry))) (now (out .entry)) ⌝ }
+{
+    if bound::fits(text, load, out.len(), bytes, index, sets) {
+        return Outcome::Done(write::write(out, text, load, bytes, index, sets));
+    }
+    let pass = measure::measure(text, load, 0, bytes, index, sets);
+    let room = pass.room;
     match room {
         Outcome::Done(needed) => {
             if needed > out.len() {
                 return Outcome::Refused(Refusal::NoRoom { needed });
             }
-            let sets = m.sets;
-            Outcome::Done(write::write(out, text, options.load, bytes, index, sets))
+            Outcome::Done(write::write(out, text, load, bytes, index, sets))
         }
         Outcome::Refused(refusal) => Outcome::Refused(refusal),
     }

@@ -20,15 +20,7 @@ ghost use Rattle.body.specs.Lexicon.{lexicon};
 ghost use Rattle.image.specs.Crunched.{textLine};
 ghost use Rattle.image.specs.PassesHelpers.{PassedAs, MeasuredAs, SizedAs, Span, lineBetween};
 
-// The words that are live in a text, the room that its image needs, and the line at a place of that image. Of a text that is outside the
-// domain no word is looked for.
-pub struct Measurement {
-    pub sets: Sets,
-    pub room: Outcome,
-    pub line: LineMeasured,
-}
-
-// What one pass over the text lines answers.
+// What measuring a text answers: the room that its image needs, and the line at a place of that image.
 pub struct Pass {
     pub room: Outcome,
     pub line: LineMeasured,
@@ -42,13 +34,7 @@ pub enum Sized {
 }
 
 // Checks a text and measures it.
-pub fn measured(
-    text: &[u8],
-    options: Options,
-    place: usize,
-    bytes: &[u8],
-    index: &[u16],
-) -> Measurement
+pub fn measured(text: &[u8], options: Options, place: usize, bytes: &[u8], index: &[u16]) -> Pass
     requires { ⌜ SpellsWords (now bytes) (now index) ⌝ }
     ensures { λ r. ⌜ MeasuredAs options place (now (text .entry)) r ⌝ }
 {
@@ -56,24 +42,25 @@ pub fn measured(
         TextCheck::Fine => {
             let dialect = options.dialect;
             let sets = resolve::word_sets(text, dialect, bytes, index);
-            let pass = measure(text, options.load, place, bytes, index, sets);
-            let room = pass.room;
-            let line = pass.line;
-            Measurement { sets, room, line }
+            measure(text, options.load, place, bytes, index, sets)
         }
         TextCheck::Refused(refusal) => {
-            let sets = Sets {
-                tsb: false,
-                demoted: [false; 123],
-            };
             let room = Outcome::Refused(refusal);
             let line = LineMeasured::Refused(refusal);
-            Measurement { sets, room, line }
+            Pass { room, line }
         }
     }
 }
 
-fn measure(text: &[u8], load: u16, place: usize, bytes: &[u8], index: &[u16], sets: Sets) -> Pass
+// Measures a text that is in the domain, its words known.
+pub fn measure(
+    text: &[u8],
+    load: u16,
+    place: usize,
+    bytes: &[u8],
+    index: &[u16],
+    sets: Sets,
+) -> Pass
     requires { ⌜ SpellsWords (now bytes) (now index) ⌝ }
     ensures { λ r. ⌜ PassedAs (lexicon sets) load place (now (text .entry)) r ⌝ }
 {

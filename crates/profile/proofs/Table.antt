@@ -5,7 +5,8 @@ use Rattle.ascii.specs.Bytes.{between, upper}
 use Rattle.ascii.specs.Search.{last}
 use Rattle.ascii.specs.Trim.{trim}
 use Rattle.words.specs.Find.{nameIn, meaning}
-use Rattle.tables.specs.Escapes.{escapeNames, cbmLetters, ctrlDigits}
+use Rattle.tables.specs.Escapes.{escapeNames}
+use Rattle.keyboard.specs.KeyCodes.{cbmLetters, ctrlDigits}
 use Rattle.tables.specs.Rom.{v2Words, operators}
 use Rattle.tables.specs.Tsb.{tsbWords}
 use Rattle.escapes.specs.Numbers.{digitOf, numberAfter, numberOf, hexOf, unsigned, countOf}

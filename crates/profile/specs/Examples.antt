@@ -7,8 +7,8 @@ use mathlib.Core.List.{List, [], _∷_, _++_}
 use lib.ListN.{length, replicate}
 use Rattle.refusals.specs.Answer.{Answer, done, refused, mapDone}
 use Rattle.refusals.specs.Numbers.{addressOverflow}
-use Rattle.tables.specs.Spelling.{bytesOf}
-use Rattle.tables.specs.declared.dialect.Dialect.the-variants.{Auto}
+use Rattle.words.specs.Spelling.{bytesOf}
+use Rattle.dialect.specs.declared.Dialect.the-variants.{Auto}
 use Rattle.readers.specs.NumberedBody.{NumberedBody}
 use Rattle.profile.specs.Profile.{profiledLines}
 

@@ -6,8 +6,8 @@ use mathlib.Core.List.{List, [], _∷_, _++_, map}
 use mathlib.Core.Option.{none}
 use lib.ListN.{length}
 use Rattle.refusals.specs.Answer.{done}
-use Rattle.tables.specs.Spelling.{bytesOf}
-use Rattle.tables.specs.declared.dialect.Dialect.the-variants.{Auto}
+use Rattle.words.specs.Spelling.{bytesOf}
+use Rattle.dialect.specs.declared.Dialect.the-variants.{Auto}
 use Rattle.readers.specs.Image.{addressAt, end}
 use Rattle.readers.specs.Lines.{linesOf}
 use Rattle.readers.specs.Links.{linkStep}

@@ -1,0 +1,114 @@
+-- The bound of an image's length: what a text line adds to it, and the loop over a text.
+-- Assumes nothing.
+use Prim.Native.Nat.{ℕ, suc, _+_, _-_, _≤_, _<_, min}
+use mathlib.Core.Path.{_≡_, refl, sym, ap, _∙_}
+use mathlib.Core.Bool.{true, false}
+use mathlib.Core.List.{List, [], _∷_}
+use native.Mathlib.Omega.{arith}
+use lib.ListN.{length, take, drop}
+use mir.Syntax.{w16}
+use mir.Val.{Fits}
+use Rattle.refusals.specs.Answer.{Answer, done, refused, mapDone}
+use Rattle.lines.specs.declared.number.Numbering.{Numbering}
+use Rattle.lines.specs.declared.number.Numbering.the-variants.{Blank, Missing, OutOfRange, Numbered}
+use Rattle.lines.specs.NumberHelpers.{numbering}
+use Rattle.lines.specs.declared.split.TextLine.{TextLine}
+use Rattle.lines.specs.declared.split.LineRule.the-variants.{AfterCr}
+use Rattle.lines.specs.SplitHelpers.{lineFrom}
+use Rattle.lines.specs.TextLines.{textLines}
+use Rattle.lines.proofs.Splitting.{line-behind}
+use Rattle.body.specs.Body.{crunchedBody}
+use Rattle.body.specs.Lexicon.{Lexicon}
+use Rattle.readers.specs.NumberedBody.{NumberedBody}
+use Rattle.layout.specs.Layout.{linkOf, endAddress, imageOf}
+use Rattle.layout.proofs.Laying.{image-length, end-above}
+use Rattle.image.specs.Crunched.{textLine, crunchLines}
+use Rattle.image.specs.PassesHelpers.{textImage, given, LineSized, SizedAs, FitsIf, Bounded}
+use Rattle.image.proofs.Lining.{Taken, link-fits, given-is, text-blank, sized-blank, sized-line}
+use Rattle.image.proofs.Measuring.{Reached, reached-start, reached-turn, reached-end, lineAt, lineBehind}
+
+-- ---- a text line
+
+given-done : {a : Answer (List NumberedBody)} {ls : List NumberedBody} → a ≡ done ls → a ≡ done (given a)
+given-done e = e ∙ ap done (sym (ap given e))
+
+-- no bound
+pub bounded-not : (words : Lexicon) (line : List ℕ) {address : ℕ} → address ≤ 0xFFFF → Bounded words address line 0x10000
+bounded-not words line h = record { low = omega arith; gives = λ q k. absurd (omega arith); below = λ q. absurd (omega arith) }
+
+module _ (words : Lexicon) (line : List ℕ) {m : Numbering} {address : ℕ} where
+  pub bounded-blank : m ≡ Blank → m ≡ numbering line → Bounded words address line address
+  unfolding SizedAs endAddress
+  bounded-blank t e =
+      let blank : (k : ℕ) → textLine words k line ≡ done [] = λ k. sized-blank words k address line t e in
+      record { low = omega arith; gives = λ h k. given-done (blank k); below = λ h. omega (arith, ap (λ (a : Answer (List NumberedBody)). endAddress address (given a)) (blank 0)) }
+
+  module _ {number from to n : ℕ} (b : min (length (crunchedBody words (take (to - from) (drop from line)))) 65536 ≤ n) (t : m ≡ Numbered number from to) (e : m ≡ numbering line) where
+    sized : address + 5 + n ≤ 0xFFFF → (k : ℕ)
+        → LineSized address (textLine words k line) number (address + 5 + min (length (crunchedBody words (take (to - from) (drop from line)))) 65536)
+    unfolding SizedAs
+    sized h k = sized-line words k address line refl t e (omega (arith, b))
+
+    pub bounded-line : Bounded words address line (address + 5 + n)
+    unfolding endAddress
+    bounded-line =
+        record {
+          low = omega arith;
+          gives = λ h k. given-done (sized h k .gives);
+          below = λ h. omega (arith, ap (λ (a : Answer (List NumberedBody)). endAddress address (given a)) (sized h 0 .gives), sized h 0 .behind-is, b);
+        }
+
+-- ---- the loop
+
+end-mono : (a b : ℕ) (ls : List NumberedBody) → a ≤ b → endAddress a ls ≤ endAddress b ls
+unfolding endAddress
+end-mono a b [] h = h
+end-mono a b (l ∷ ls) h = end-mono (linkOf a (l .body)) (linkOf b (l .body)) ls (omega arith)
+
+-- the lines before a text line reach up to an address that is at most this one
+pub record BoundTo (words : Lexicon) (load : ℕ) (text : List ℕ) (at bound : ℕ) : Type 0 where
+  pub k : ℕ
+  pub address : ℕ
+  pub reached : Reached words load text at k address
+  pub below : address ≤ bound
+  pub high : bound ≤ 0xFFFF
+
+pub bound-start : (words : Lexicon) (load : ℕ) (text : List ℕ) → Fits w16 load → BoundTo words load text 0 load
+bound-start words load text f =
+    record { k = 0; address = load; reached = reached-start words load text (omega (arith, f .fits)); below = omega arith; high = omega (arith, f .fits) }
+
+module _ {words : Lexicon} {load : ℕ} {text : List ℕ} {at bound : ℕ} (g : BoundTo words load text at bound) where
+  pub bound-low : load ≤ bound
+  bound-low = omega (arith, g .reached .stands, end-above load (g .reached .before), g .below)
+
+  module _ {r : TextLine} (is : r ≡ lineFrom AfterCr text at) (h : at < length text) {next : ℕ} (b : Bounded words bound (lineBehind text r) next) (q : next ≤ 0xFFFF) where
+    abbrev new : List NumberedBody
+    new = given (textLine words 0 (lineBehind text r))
+
+    not-above : endAddress (g .address) new ≤ next
+    not-above = omega (arith, end-mono (g .address) bound new (g .below), b .below q)
+
+    gives-new : textLine words (suc (g .k)) (lineAt text at r) ≡ done new
+    gives-new =
+        let k = suc (g .k) in
+        sym (line-behind (textLine words k) (text-blank words k) AfterCr text at is)
+        ∙ b .gives q k
+        ∙ ap done (sym (given-is words (lineBehind text r) k (b .gives q k)))
+
+    taken-here : Taken words (suc (g .k)) (g .address) (lineAt text at r) (endAddress (g .address) new)
+    taken-here =
+        let low : endAddress (g .address) new ≤ 0xFFFF = omega (arith, not-above, q) in
+        record { new = new; line-is = gives-new; link-is = link-fits (g .address) new low; next-is = refl; high = low }
+
+    pub bound-turn : BoundTo words load text (r .next) next
+    bound-turn = record { k = g .k + 1; address = endAddress (g .address) new; reached = reached-turn (g .reached) h is taken-here; below = not-above; high = q }
+
+  pub bound-end : {room : ℕ} → length text ≤ at → bound - load + 4 ≤ room → FitsIf true room (textImage words load text)
+  unfolding textImage
+  bound-end {room} h f = go (crunchLines words 1 load (textLines AfterCr text)) (reached-end (g .reached) h)
+    where
+      go : (a : Answer (List NumberedBody)) → done (g .reached .before) ≡ a → FitsIf true room (mapDone (imageOf load) a)
+      go (done ls) e =
+          let same : g .reached .before ≡ ls = cc in
+          omega (arith, ap (λ (x : List NumberedBody). length (imageOf load x)) same, image-length load (g .reached .before), g .reached .stands, g .below, end-above load (g .reached .before))
+      go (refused n) e = let z : _≡_ {A = ℕ} 0 1 = cc in absurd (omega arith)
