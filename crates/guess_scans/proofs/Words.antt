@@ -19,6 +19,7 @@ use Rattle.words.specs.declared.Match.the-variants.{Word, Nothing}
 use Rattle.words.proofs.Order.{found}
 use Rattle.words.proofs.Search.{and-left, and-right}
 use Rattle.words.proofs.Sameness.{T-true}
+use Rattle.tables.specs.Spelling.{bytesOf}
 use Rattle.tables.specs.Tsb.{tsbWords}
 use Rattle.lines.proofs.Parts.{taken, left}
 
@@ -135,3 +136,19 @@ module _ (t : List ℕ) (index used token : ℕ) where
   pub first-of-its-length : wordIn tsbWords t ≡ Word index used token → firstThat (λ i w. eqb (length w) used && begins w t) tsbWords 0 ≡ Word index used token
   unfolding wordIn
   first-of-its-length e = of-length tsbWords 0 e
+
+-- a text whose first byte is another
+pub other-first : (x : ℕ) (w t : List ℕ) {b : ℕ} → upper x ≡ x → (b ≡ x → ⊥) → b ≡ upper (getD t 0 0) → 0 < length t → false ≡ begins (x ∷ w) t
+unfolding begins
+other-first x w [] u n e h = refl
+other-first x w (y ∷ t) u n e h =
+    let apart : eqb (upper x) (upper y) ≡ false = ne-eqb _ _ (λ q. n (e ∙ sym q ∙ u)) in
+    sym (ap (λ (b : Bool). elim b as (λ z. Bool) [ true ↦ begins w t | false ↦ false ]) apart)
+
+pub no-rem : (t : List ℕ) {b : ℕ} → (b ≡ 0x52 → ⊥) → b ≡ upper (getD t 0 0) → 0 < length t → false ≡ begins (bytesOf "REM") t
+unfolding upper between
+no-rem t n e h = other-first 0x52 (bytesOf "EM") t refl n e h
+
+pub no-data : (t : List ℕ) {b : ℕ} → (b ≡ 0x44 → ⊥) → b ≡ upper (getD t 0 0) → 0 < length t → false ≡ begins (bytesOf "DATA") t
+unfolding upper between
+no-data t n e h = other-first 0x44 (bytesOf "ATA") t refl n e h

@@ -3,7 +3,11 @@ use ascii::search;
 use ascii::search::Kind;
 use words::Match;
 ghost use mathlib.Core.Path.{_≡_};
+ghost use Prim.Native.Nat.{_<_};
+ghost use lib.ListN.{length};
+ghost use Rattle.words.specs.Compare.{begins};
 ghost use Rattle.words.specs.Find.{wordIn};
+ghost use Rattle.tables.specs.Spelling.{bytesOf};
 ghost use Rattle.tables.specs.Tsb.{tsbWords};
 ghost use Rattle.tables.specs.WordsHelpers.{SpellsWords};
 ghost use Rattle.guess_scans.specs.Ahead.{closing as closingOf, assigns as assignsOf};
@@ -66,4 +70,26 @@ pub fn assigns(text: &[u8], blank: Kind) -> bool
         return search::starts_with(&behind[more..], 0x3D);
     }
     search::starts_with(rest, 0x3D)
+}
+
+// Whether a text begins with REM. Its first byte is asked for first: most places have another.
+pub fn begins_rem(text: &[u8]) -> bool
+    requires { ⌜ 0 < length (now text) ⌝ }
+    ensures { λ r. ⌜ r ≡ begins (bytesOf "REM") (now (text .entry)) ⌝ }
+{
+    if ascii::upper(text[0]) != b'R' {
+        return false;
+    }
+    words::begins(b"REM", text)
+}
+
+// The same of DATA.
+pub fn begins_data(text: &[u8]) -> bool
+    requires { ⌜ 0 < length (now text) ⌝ }
+    ensures { λ r. ⌜ r ≡ begins (bytesOf "DATA") (now (text .entry)) ⌝ }
+{
+    if ascii::upper(text[0]) != b'D' {
+        return false;
+    }
+    words::begins(b"DATA", text)
 }

@@ -115,10 +115,10 @@ fn statement_step(place: Place, text: &[u8], bytes: &[u8], index: &[u16]) -> Evi
     if b == 0x22 {
         return on(1, Place::Quoted);
     }
-    if words::begins(b"REM", text) {
+    if ahead::begins_rem(text) {
         return EvidenceStep::Remark;
     }
-    if words::begins(b"DATA", text) {
+    if ahead::begins_data(text) {
         return on(4, Place::Data);
     }
     word_step(place, text, bytes, index)

@@ -89,10 +89,10 @@ fn plain_pass(line: &[u8], i: usize, last: usize, bytes: &[u8], index: &[u16]) -
         return on(1, Place::Quoted);
     }
     let text = &line[i..];
-    if words::begins(b"REM", text) {
+    if ahead::begins_rem(text) {
         return Pass::Remark;
     }
-    if words::begins(b"DATA", text) {
+    if ahead::begins_data(text) {
         return on(4, Place::Data);
     }
     word_pass(line, i, last, bytes, index)

@@ -30,10 +30,8 @@ statement-step-spec =
     returns
     (λ c κs. search needs)
     returns-2
-    (λ c. search needs)
     (λ c κs. search needs)
     returns-3
-    (λ c. search needs)
     (λ c κs. search needs)
     (λ c κs. search needs)
     returns-4

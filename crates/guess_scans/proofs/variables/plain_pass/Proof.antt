@@ -1,6 +1,7 @@
 -- `guess_scans::variables::plain_pass` meets its contract: a law for each answer.
 -- Assumes nothing.
 use Rattle.guess_scans.proofs.Passes.{pass-quote, pass-remark, pass-data, pass-on}
+use Rattle.guess_scans.proofs.Behind.{rest-some}
 use Rattle.steps.proofs.The.{the}
 use borrow.Author.Needs.{needs}
 use Rattle.guess_scans.proofs.variables.plain_pass.Statement.{statement}
@@ -8,6 +9,12 @@ use Rattle.guess_scans.proofs.variables.plain_pass.Tie as tie
 
 returns : tie.Need-returns
 returns c = search pass-quote
+
+begins-rem-requires : tie.Need-begins-rem-requires
+begins-rem-requires c κs = search rest-some
+
+begins-data-requires : tie.Need-begins-data-requires
+begins-data-requires c κs = search rest-some
 
 returns-2 : tie.Need-returns-2
 returns-2 c = search (pass-remark, the tie.Else1 (search) .if1 .left)
@@ -28,11 +35,9 @@ plain-pass-spec =
     (λ c. search needs)
     (λ c. search needs)
     (λ c. search needs)
-    (λ c. search needs)
-    (λ c κs. search needs)
+    begins-rem-requires
     returns-2
-    (λ c. search needs)
-    (λ c κs. search needs)
+    begins-data-requires
     (λ c κs. search needs)
     returns-3
     (λ c κs. search needs)
