@@ -60,10 +60,10 @@ pub fn bound_body(text: &[u8], bytes: &[u8], index: &[u16], sets: Sets) -> usize
     if behind_brace(text) > 0 {
         return measure_body(text, bytes, index, sets);
     }
-    if text.len() > 65536 {
-        return 65536;
+    if text.len() <= 65536 {
+        return text.len();
     }
-    text.len()
+    65536
 }
 
 // The place behind the last }, 0 where there is none.

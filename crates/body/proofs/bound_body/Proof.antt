@@ -10,10 +10,10 @@ returns : tie.Need-returns
 returns c = search bound-measured
 
 returns-2 : tie.Need-returns-2
-returns-2 c = search bound-most
+returns-2 c = bound-text _ _ (the tie.Else1 (search) .if1 .left) (the tie.After-behind-brace (search) .behind-brace .ensures) (c .if2 .taken)
 
 returns-3 : tie.Need-returns-3
-returns-3 c = bound-text _ _ (the tie.Else1 (search) .if1 .left) (the tie.After-behind-brace (search) .behind-brace .ensures) (c .if2 .left)
+returns-3 c = search bound-most
 
 pub bound-body-spec : {M : Type 1} → statement M
 bound-body-spec = tie.close (tie.spec (λ c κs. search needs) (λ c κs. search needs) returns returns-2 returns-3)
