@@ -11,7 +11,7 @@ use Rattle.refusals.specs.Answer.{numbered}
 use Rattle.refusals.specs.declared.Refusal.the-variants.{BadDisk}
 use Rattle.words.specs.Spelling.{bytesOf}
 use Rattle.ascii.proofs.Searching.{here}
-use Rattle.sentences.specs.Decimal.{inDecimal}
+use Rattle.decimals.specs.Decimal.{decimal}
 use Rattle.sentences.specs.Clipped.{Clipped}
 use Rattle.sentences.proofs.Clipping.{Owes, owes-all, owes-less, owes-none, clip-as, clip-both}
 use Rattle.d64.specs.Entries.{listed, nameAt, chainOf}
@@ -29,20 +29,20 @@ use Rattle.directory.specs.Listing.{fileLine, fileLines, freeLine, direc
 -- ---- a line
 
 module _ (d : List ℕ) (p : ℕ) {log after : List ℕ} {t : Traced} (k : Traces (chainOf 683 d p) log 0 t after) where
-  pub line-put : {buffer o1 o2 o3 o4 n : List ℕ} {at m1 m2 m3 m4 : ℕ} → Clipped buffer at (inDecimal (t .to)) m1 o1 → Clipped o1 m1 (0x20 ∷ []) m2 o2
+  pub line-put : {buffer o1 o2 o3 o4 n : List ℕ} {at m1 m2 m3 m4 : ℕ} → Clipped buffer at (decimal (t .to)) m1 o1 → Clipped o1 m1 (0x20 ∷ []) m2 o2
       → n ≡ nameAt d p → Clipped o2 m2 (nameShown n) m3 o3 → Clipped o3 m3 (0x0A ∷ []) m4 o4 → Clipped buffer at (fileLine d p) m4 o4
   unfolding fileLine
   line-put {n = n} a b e c f =
       let g : t .to ≡ length (chainOf 683 d p .sectors) = omega (arith, k .to) in
-      clip-as (ap (λ (x : ℕ). inDecimal x ++ (0x20 ∷ (nameShown n ++ (0x0A ∷ [])))) g ∙ ap (λ (x : List ℕ). inDecimal (length (chainOf 683 d p .sectors)) ++ (0x20 ∷ (nameShown x ++ (0x0A ∷ [])))) e)
-      (clip-both (inDecimal (t .to)) (0x20 ∷ (nameShown n ++ (0x0A ∷ []))) a (clip-both (0x20 ∷ []) (nameShown n ++ (0x0A ∷ [])) b (clip-both (nameShown n) (0x0A ∷ []) c f)))
+      clip-as (ap (λ (x : ℕ). decimal x ++ (0x20 ∷ (nameShown n ++ (0x0A ∷ [])))) g ∙ ap (λ (x : List ℕ). decimal (length (chainOf 683 d p .sectors)) ++ (0x20 ∷ (nameShown x ++ (0x0A ∷ [])))) e)
+      (clip-both (decimal (t .to)) (0x20 ∷ (nameShown n ++ (0x0A ∷ []))) a (clip-both (0x20 ∷ []) (nameShown n ++ (0x0A ∷ [])) b (clip-both (nameShown n) (0x0A ∷ []) c f)))
 
 module _ (d : List ℕ) {list after : List ℕ} {n : ℕ} (k : Lists (freeSectors d) list n after) where
-  pub free-put : {buffer o1 o2 : List ℕ} {at m1 m2 : ℕ} → Clipped buffer at (inDecimal n) m1 o1 → Clipped o1 m1 (bytesOf " sectors free" ++ (0x0A ∷ [])) m2 o2
+  pub free-put : {buffer o1 o2 : List ℕ} {at m1 m2 : ℕ} → Clipped buffer at (decimal n) m1 o1 → Clipped o1 m1 (bytesOf " sectors free" ++ (0x0A ∷ [])) m2 o2
       → Clipped buffer at (freeLine d) m2 o2
   unfolding freeLine
   free-put a b =
-      clip-as (ap (λ (x : ℕ). inDecimal x ++ (bytesOf " sectors free" ++ (0x0A ∷ []))) (k .counts)) (clip-both (inDecimal n) (bytesOf " sectors free" ++ (0x0A ∷ [])) a b)
+      clip-as (ap (λ (x : ℕ). decimal x ++ (bytesOf " sectors free" ++ (0x0A ∷ []))) (k .counts)) (clip-both (decimal n) (bytesOf " sectors free" ++ (0x0A ∷ [])) a b)
 
 -- ---- the loop over the files
 

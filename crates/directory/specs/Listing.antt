@@ -11,7 +11,7 @@ use Rattle.refusals.specs.Answer.{numbered}
 use Rattle.lent.specs.declared.Outcome.{Outcome}
 use Rattle.lent.specs.declared.Outcome.the-variants.{Done, Refused}
 use Rattle.words.specs.Spelling.{bytesOf}
-use Rattle.sentences.specs.Decimal.{inDecimal}
+use Rattle.decimals.specs.Decimal.{decimal}
 use Rattle.sentences.specs.Clipped.{Clipped}
 use Rattle.d64.specs.Entries.{listed, nameAt, chainOf}
 use Rattle.d64.specs.Free.{freeSectors}
@@ -20,8 +20,8 @@ use Rattle.disk_names.specs.Names.{nameShown}
 
 -- the line of the entry p
 unfoldable pub fileLine : List ℕ → ℕ → List ℕ
-unfolding inDecimal nameAt nameShown
-fileLine disk p = inDecimal (length (chainOf 683 disk p .sectors)) ++ (0x20 ∷ (nameShown (nameAt disk p) ++ (0x0A ∷ [])))
+unfolding decimal nameAt nameShown
+fileLine disk p = decimal (length (chainOf 683 disk p .sectors)) ++ (0x20 ∷ (nameShown (nameAt disk p) ++ (0x0A ∷ [])))
 
 unfoldable pub fileLines : List ℕ → List ℕ → List ℕ
 unfolding fileLine
@@ -29,8 +29,8 @@ fileLines disk [] = []
 fileLines disk (p ∷ ps) = fileLine disk p ++ fileLines disk ps
 
 unfoldable pub freeLine : List ℕ → List ℕ
-unfolding inDecimal freeSectors
-freeLine disk = inDecimal (length (freeSectors disk)) ++ (bytesOf " sectors free" ++ (0x0A ∷ []))
+unfolding decimal freeSectors
+freeLine disk = decimal (length (freeSectors disk)) ++ (bytesOf " sectors free" ++ (0x0A ∷ []))
 
 abbrev pub directoryText : List ℕ → List ℕ
 directoryText disk = fileLines disk (listed disk) ++ freeLine disk
