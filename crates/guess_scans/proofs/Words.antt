@@ -19,7 +19,7 @@ use Rattle.words.specs.declared.Match.the-variants.{Word, Nothing}
 use Rattle.words.proofs.Order.{found}
 use Rattle.words.proofs.Search.{and-left, and-right}
 use Rattle.words.proofs.Sameness.{T-true}
-use Rattle.tables.specs.Spelling.{bytesOf}
+use Rattle.words.specs.Spelling.{bytesOf}
 use Rattle.tables.specs.Tsb.{tsbWords}
 use Rattle.lines.proofs.Parts.{taken, left}
 

@@ -7,7 +7,7 @@ ghost use Prim.Native.Nat.{_<_};
 ghost use lib.ListN.{length};
 ghost use Rattle.words.specs.Compare.{begins};
 ghost use Rattle.words.specs.Find.{wordIn};
-ghost use Rattle.tables.specs.Spelling.{bytesOf};
+ghost use Rattle.words.specs.Spelling.{bytesOf};
 ghost use Rattle.tables.specs.Tsb.{tsbWords};
 ghost use Rattle.tables.specs.WordsHelpers.{SpellsWords};
 ghost use Rattle.guess_scans.specs.Ahead.{closing as closingOf, assigns as assignsOf};
