@@ -19,7 +19,7 @@ use Rattle.words.specs.declared.Match.the-variants.{Word, Nothing}
 use Rattle.tables.specs.Rom.{operators}
 use Rattle.tables.specs.declared.sets.Sets.{Sets}
 use Rattle.body.specs.Lexicon.{lexicon}
-use Rattle.body.specs.ShortHelpers.{isShort, plainByte, shortByte, modeBehind, isLong, longStep}
+use Rattle.body.specs.ShortHelpers.{isShort, plainByte, shortByte, shortMode, isLong, longStep}
 use Rattle.body.specs.Steps.{first, one, token, otherStep, plainStep, lettered, stringByte, stringStep, dataStep, dataQuoteStep, crunchStep}
 use Rattle.body.specs.declared.moves.Mode.{Mode}
 use Rattle.body.specs.declared.moves.Mode.the-variants.{Plain, String, Remark, Data, DataQuote}
@@ -36,8 +36,8 @@ module _ {m x : Mode} (b : ℕ) (e : m ≡ x) where
   pub byte-in : {r : ℕ} → r ≡ shortByte x b → r ≡ shortByte m b
   byte-in q = q ∙ ap (λ (y : Mode). shortByte y b) (sym e)
 
-  pub behind-in : {r : Mode} → r ≡ modeBehind x b → r ≡ modeBehind m b
-  behind-in q = q ∙ ap (λ (y : Mode). modeBehind y b) (sym e)
+  pub behind-in : {r : Mode} → r ≡ shortMode x b → r ≡ shortMode m b
+  behind-in q = q ∙ ap (λ (y : Mode). shortMode y b) (sym e)
 
   pub known-in : isShort m b ≡ true → isShort x b ≡ true
   known-in q = ap (λ (y : Mode). isShort y b) (sym e) ∙ q
@@ -51,8 +51,8 @@ module _ {b : ℕ} where
   unfolding isShort
   short-letter e n = rw (isShort, ne-eqb _ _ n, e)
 
-pub behind-data : (b : ℕ) {r q : Mode} → r ≡ cond (eqb b 0x22) DataQuote q → q ≡ cond (eqb b 0x3A) Plain Data → r ≡ modeBehind Data b
-unfolding modeBehind
+pub behind-data : (b : ℕ) {r q : Mode} → r ≡ cond (eqb b 0x22) DataQuote q → q ≡ cond (eqb b 0x3A) Plain Data → r ≡ shortMode Data b
+unfolding shortMode
 behind-data b e f = e ∙ ap (cond (eqb b 0x22) DataQuote) f
 
 -- ---- a short byte in plain mode
@@ -171,8 +171,8 @@ no-operator b e a = go (wordIn operators (b ∷ [])) (none b (own-capital b (pla
 -- ---- the law
 
 pub short-step : (s : Sets) (m : Mode) (t : List ℕ) → 0 < length t → isShort m (first t) ≡ true
-    → one (shortByte m (first t)) (modeBehind m (first t)) ≡ crunchStep (lexicon s) m t
-unfolding crunchStep shortByte modeBehind isShort stringStep stringByte dataStep dataQuoteStep lettered upper between
+    → one (shortByte m (first t)) (shortMode m (first t)) ≡ crunchStep (lexicon s) m t
+unfolding crunchStep shortByte shortMode isShort stringStep stringByte dataStep dataQuoteStep lettered upper between
 short-step s m [] h e = absurd (omega arith)
 short-step s Plain (b ∷ u) h e = let k = plain-known b e in plain-alone s b u (k .0) (k .1)
 short-step s String (b ∷ u) h e = rw (stringStep, not-true (eqb b 0x7B) e) (go (eqb b 0x22) refl)

@@ -17,7 +17,7 @@ use Rattle.lent.proofs.Storing.{put-long, put-as, room-as, room-first, room-sec
 use Rattle.body.specs.Body.{prefixOf, written, crunchedFrom, crunchedBody}
 use Rattle.tables.specs.declared.sets.Sets.{Sets}
 use Rattle.body.specs.Lexicon.{Lexicon, lexicon}
-use Rattle.body.specs.ShortHelpers.{isShort, shortByte, modeBehind, isLong, longStep}
+use Rattle.body.specs.ShortHelpers.{isShort, shortByte, shortMode, isLong, longStep}
 use Rattle.body.specs.Steps.{first, one, crunchStep}
 use Rattle.body.specs.declared.moves.Mode.{Mode}
 use Rattle.body.specs.declared.moves.Mode.the-variants.{Plain}
@@ -70,9 +70,9 @@ module _ (s : List ℕ) {at : ℕ} (h : at < length s) where
     asked : x ≡ isShort m (first (rest s at))
     asked = e ∙ ap (isShort m) (sym byte-here)
 
-    short-here : (w : Sets) → x ≡ true → one (shortByte m (getD s at 0)) (modeBehind m (getD s at 0)) ≡ crunchStep (lexicon w) m (rest s at)
+    short-here : (w : Sets) → x ≡ true → one (shortByte m (getD s at 0)) (shortMode m (getD s at 0)) ≡ crunchStep (lexicon w) m (rest s at)
     short-here w t =
-        ap (λ (b : ℕ). one (shortByte m b) (modeBehind m b)) (sym byte-here)
+        ap (λ (b : ℕ). one (shortByte m b) (shortMode m b)) (sym byte-here)
         ∙ short-step w m (rest s at) (rest-some s h) (sym asked ∙ t)
 
     pub long-byte : x ≡ false → isLong (first (rest s at)) ≡ true
@@ -132,7 +132,7 @@ module _ (w : Sets) {s first : List ℕ} {m : Mode} {out : List ℕ} {n at : ℕ
   unfolding written
   short-room = omega (arith, owed-room k (short-here s h m e w t) h (document-proper w) .room)
 
-  pub short-turn : {b : ℕ} {behind : Mode} → b ≡ shortByte m (getD s at 0) → behind ≡ modeBehind m (getD s at 0)
+  pub short-turn : {b : ℕ} {behind : Mode} → b ≡ shortByte m (getD s at 0) → behind ≡ shortMode m (getD s at 0)
       → Owed (lexicon w) s first behind (set out n b) (n + 1) (at + 1)
   unfolding written
   short-turn p q =
@@ -175,14 +175,14 @@ module _ {l : Lexicon} {s : List ℕ} {m : Mode} {n at : ℕ} (k : Measured l s 
 -- a short byte
 module _ (w : Sets) {s : List ℕ} {m : Mode} {n at : ℕ} (k : Measured (lexicon w) s m n at) (h : at < length s) {x : Bool} (t : x ≡ true)
     (e : x ≡ isShort m (getD s at 0)) where
-  one-longer : n + 1 ≡ min (n + length (written (one (shortByte m (getD s at 0)) (modeBehind m (getD s at 0))))) 65536
+  one-longer : n + 1 ≡ min (n + length (written (one (shortByte m (getD s at 0)) (shortMode m (getD s at 0))))) 65536
   unfolding written
   one-longer = omega (arith, k .low)
 
   pub short-full : n + 1 ≡ 65536 → n + 1 ≡ min (length (crunchedBody (lexicon w) s)) 65536
   short-full f = measured-full k one-longer (short-here s h m e w t) h (document-proper w) f
 
-  pub short-measured : {behind : Mode} → behind ≡ modeBehind m (getD s at 0) → (n + 1 ≡ 65536 → ⊥) → Measured (lexicon w) s behind (n + 1) (at + 1)
+  pub short-measured : {behind : Mode} → behind ≡ shortMode m (getD s at 0) → (n + 1 ≡ 65536 → ⊥) → Measured (lexicon w) s behind (n + 1) (at + 1)
   short-measured q f = rw q (measured-turn k one-longer (short-here s h m e w t) h (document-proper w) f)
 
 -- a length with what a step writes behind it

@@ -39,12 +39,12 @@ shortByte Data b = upper b
 shortByte DataQuote b = upper b
 
 -- the mode behind it
-unfoldable pub modeBehind : Mode → ℕ → Mode
-modeBehind Plain b = cond (eqb b 0x22) String Plain
-modeBehind String b = cond (eqb b 0x22) Plain String
-modeBehind Remark b = Remark
-modeBehind Data b = cond (eqb b 0x22) DataQuote (cond (eqb b 0x3A) Plain Data)
-modeBehind DataQuote b = cond (eqb b 0x22) Data DataQuote
+unfoldable pub shortMode : Mode → ℕ → Mode
+shortMode Plain b = cond (eqb b 0x22) String Plain
+shortMode String b = cond (eqb b 0x22) Plain String
+shortMode Remark b = Remark
+shortMode Data b = cond (eqb b 0x22) DataQuote (cond (eqb b 0x3A) Plain Data)
+shortMode DataQuote b = cond (eqb b 0x22) Data DataQuote
 
 -- ---- the other bytes: in plain mode a letter or the first byte of pi, in a string {
 

@@ -3,7 +3,7 @@ use crate::moves::Mode;
 ghost use mathlib.Core.Path.{_≡_};
 ghost use mathlib.Core.Bool.{true, cond};
 ghost use lib.Dec.{eqb};
-ghost use Rattle.body.specs.ShortHelpers.{isShort, plainByte, shortByte, modeBehind};
+ghost use Rattle.body.specs.ShortHelpers.{isShort, plainByte, shortByte, shortMode};
 ghost use Rattle.body.specs.Steps.{lettered as letteredOf};
 
 // Whether a byte is one: in plain mode all but letters and the first byte of pi, in a string all but {.
@@ -72,7 +72,7 @@ fn lettered(b: u8) -> u8
 
 // The mode behind it.
 pub fn mode_behind(mode: Mode, b: u8) -> Mode
-    ensures { λ r. ⌜ r ≡ modeBehind mode b ⌝ }
+    ensures { λ r. ⌜ r ≡ shortMode mode b ⌝ }
 {
     match mode {
         Mode::Plain => at_byte(b, 0x22, Mode::String, Mode::Plain),

@@ -23,7 +23,7 @@ use Rattle.entries.specs.EntryHelpers.{Entries, firstEntry}
 use Rattle.sound.specs.SoundHelpers.{Looks}
 use Rattle.sound.specs.declared.Seen.{Seen}
 use Rattle.sound.proofs.Looking.{known-entries}
-use Rattle.disk.specs.LocateHelpers.{admitted, soughtAnswer, Known, Seeks, located, Locates}
+use Rattle.disk.specs.LocateHelpers.{admitted, seekAnswer, Known, Seeks, located, Locates}
 use Rattle.disk.specs.declared.Sought.{Sought}
 use Rattle.disk.specs.declared.Sought.the-variants.{On, Refused as RefusedSought}
 use Rattle.disk.specs.declared.Located.the-variants.{At, Refused}
@@ -130,11 +130,11 @@ module _ {d name : List ℕ} {m : Sought} {a b : List ℕ} (s : Seeks d name m a
 
   pub sought-on : {A : Type 0} {k f i : ℕ} (x : Answer A) → m ≡ On k f i → x ≡ onSound d name x
   sought-on x e =
-      sym (admitted-first d name x ∙ ap (λ (y : Answer Unit). andThen y (λ u. x)) (sym (s .answers) ∙ ap soughtAnswer e))
+      sym (admitted-first d name x ∙ ap (λ (y : Answer Unit). andThen y (λ u. x)) (sym (s .answers) ∙ ap seekAnswer e))
 
   pub sought-not : {A : Type 0} {r : Refusal} (x : Answer A) → m ≡ RefusedSought r → refused (numbered r) ≡ onSound d name x
   sought-not x e =
-      sym (admitted-first d name x ∙ ap (λ (y : Answer Unit). andThen y (λ u. x)) (sym (s .answers) ∙ ap soughtAnswer e))
+      sym (admitted-first d name x ∙ ap (λ (y : Answer Unit). andThen y (λ u. x)) (sym (s .answers) ∙ ap seekAnswer e))
 
   pub locate-refused : {r : Refusal} → m ≡ RefusedSought r → Locates d name (Refused r)
   unfolding located

@@ -19,9 +19,9 @@ use Rattle.disk.specs.declared.Sought.the-variants.{On, Refused as Refus
 unfoldable pub admitted : List ℕ → List ℕ → Answer Unit
 admitted disk name = onSound disk name (done tt)
 
-abbrev pub soughtAnswer : Sought → Answer Unit
-soughtAnswer (On sectors files at) = done tt
-soughtAnswer (RefusedSought r) = refused (numbered r)
+abbrev pub seekAnswer : Sought → Answer Unit
+seekAnswer (On sectors files at) = done tt
+seekAnswer (RefusedSought r) = refused (numbered r)
 
 -- the directory's sectors and the listed entries at the start of two lists, and the place of the first entry with the name
 pub record Known (disk name : List ℕ) (sectors files at : ℕ) (sectorList fileList : List ℕ) : Type 0 where
@@ -39,7 +39,7 @@ Knows disk name sectorList fileList (On sectors files at) = Known disk name sect
 Knows disk name sectorList fileList (RefusedSought r) = Unit
 
 pub record Seeks (disk name : List ℕ) (r : Sought) (sectorList fileList : List ℕ) : Type 0 where
-  pub answers : soughtAnswer r ≡ admitted disk name
+  pub answers : seekAnswer r ≡ admitted disk name
   pub knows : Knows disk name sectorList fileList r
 
 -- ---- locate

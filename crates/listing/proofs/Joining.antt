@@ -24,7 +24,7 @@ use Rattle.listing.specs.Body.{bodyListing, lineListing}
 use Rattle.listing.specs.LineHelpers.{headListing, restListing}
 use Rattle.listing.specs.Listing.{linesListing, listingBy}
 use Rattle.listing.specs.Modes.{rulesUnder, listingUnder}
-use Rattle.listing.specs.Stretch.{Run, noRun, runFrom, Stretched, ended, bodyStretch, numberBefore, stretchOf, stretchAnswer, leftOf, InStretches, over, more, LinesInStretches, no-lines, line-more, joinedParts, placeLeft}
+use Rattle.listing.specs.Stretch.{Run, noRun, runFrom, Stretched, ended, bodyStretch, numberBefore, stretchOf, stretchAnswer, leftToList, InStretches, over, more, LinesInStretches, no-lines, line-more, joinedParts, placeLeft}
 use Rattle.listing.specs.declared.ListOptions.{ListOptions}
 use Rattle.listing.specs.declared.stretch.Place.{Place}
 use Rattle.listing.specs.declared.stretch.Place.the-variants.{Number, Body, Over}
@@ -51,9 +51,9 @@ module _ (rules : Rules) (body : List ℕ) where
   ended-joined : (k : Bool) (room at : ℕ) (mode : Mode) (r : Run) → (k ≡ true → length body ≤ at + r .taken)
       → r .text ++ textAt (r .mode) (at + r .taken) ≡ textAt mode at
       → (cond {A = Stretched} k (record { text = r .text ++ (0x0A ∷ []); place = Over }) (record { text = r .text; place = Body (at + r .taken) (r .mode) })) .text
-      ++ leftOf rules body ((cond {A = Stretched} k (record { text = r .text ++ (0x0A ∷ []); place = Over }) (record { text = r .text; place = Body (at + r .taken) (r .mode) })) .place)
+      ++ leftToList rules body ((cond {A = Stretched} k (record { text = r .text ++ (0x0A ∷ []); place = Over }) (record { text = r .text; place = Body (at + r .taken) (r .mode) })) .place)
       ≡ textAt mode at ++ (0x0A ∷ [])
-  unfolding leftOf spelt
+  unfolding leftToList spelt
   ended-joined true room at mode r h e =
       let none : textAt (r .mode) (at + r .taken) ≡ [] = ap (λ (s : List ℕ). spelt (unitsFrom rules (r .mode) s)) (drop-of-length-le body (h refl)) ∙ ap spelt (units-none rules (r .mode)) in
       let all : r .text ≡ textAt mode at = sym (append-nil (r .text)) ∙ ap (λ (s : List ℕ). r .text ++ s) (sym none) ∙ e in
@@ -61,7 +61,7 @@ module _ (rules : Rules) (body : List ℕ) where
   ended-joined false room at mode r h e =
       sym (append-assoc (r .text) (textAt (r .mode) (at + r .taken)) (0x0A ∷ [])) ∙ ap (λ (s : List ℕ). s ++ (0x0A ∷ [])) e
 
-  body-joined : (room at : ℕ) (mode : Mode) → bodyStretch rules body room at mode .text ++ leftOf rules body (bodyStretch rules body room at mode .place) ≡ textAt mode at ++ (0x0A ∷ [])
+  body-joined : (room at : ℕ) (mode : Mode) → bodyStretch rules body room at mode .text ++ leftToList rules body (bodyStretch rules body room at mode .place) ≡ textAt mode at ++ (0x0A ∷ [])
   unfolding bodyStretch
   body-joined room at mode =
       let r : Run = runFrom rules room mode (drop at body) in
@@ -69,23 +69,23 @@ module _ (rules : Rules) (body : List ℕ) where
       (λ e. leb-true (length body) (at + r .taken) (and-first (leb (length body) (at + r .taken)) (ltb (length (r .text)) room) e))
       (rw (← drop-drop (runFrom rules room mode (drop at body) .taken) at body) (run-joined rules mode (drop at body) room))
 
-  number-joined : (k : Bool) (n : ℕ) (s : Stretched) → s .text ++ leftOf rules body (s .place) ≡ restListing rules body
-      → (cond {A = Stretched} k (numberBefore n s) (record { text = []; place = Number n })) .text ++ leftOf rules body ((cond {A = Stretched} k (numberBefore n s) (record { text = []; place = Number n })) .place)
-      ≡ leftOf rules body (Number n)
-  unfolding leftOf
-  number-joined true n s e = append-assoc (headListing n) (s .text) (leftOf rules body (s .place)) ∙ ap (λ (t : List ℕ). headListing n ++ t) e
+  number-joined : (k : Bool) (n : ℕ) (s : Stretched) → s .text ++ leftToList rules body (s .place) ≡ restListing rules body
+      → (cond {A = Stretched} k (numberBefore n s) (record { text = []; place = Number n })) .text ++ leftToList rules body ((cond {A = Stretched} k (numberBefore n s) (record { text = []; place = Number n })) .place)
+      ≡ leftToList rules body (Number n)
+  unfolding leftToList
+  number-joined true n s e = append-assoc (headListing n) (s .text) (leftToList rules body (s .place)) ∙ ap (λ (t : List ℕ). headListing n ++ t) e
   number-joined false n s e = refl
 
   -- in any room
-  pub stretch-joined : (room : ℕ) (place : Place) → stretchOf rules body room place .text ++ leftOf rules body (stretchOf rules body room place .place) ≡ leftOf rules body place
-  unfolding stretchOf leftOf restListing bodyListing
+  pub stretch-joined : (room : ℕ) (place : Place) → stretchOf rules body room place .text ++ leftToList rules body (stretchOf rules body room place .place) ≡ leftToList rules body place
+  unfolding stretchOf leftToList restListing bodyListing
   stretch-joined room (Number n) =
       number-joined (leb (length (headListing n)) room) n (bodyStretch rules body (room - length (headListing n)) 0 Plain) (body-joined (room - length (headListing n)) 0 Plain)
   stretch-joined room (Body at mode) = body-joined room at mode
   stretch-joined room Over = refl
 
-  pub stretches-joined : {place : Place} {parts : List (List ℕ)} → InStretches rules body place parts → joinedParts parts ≡ leftOf rules body place
-  unfolding joinedParts leftOf
+  pub stretches-joined : {place : Place} {parts : List (List ℕ)} → InStretches rules body place parts → joinedParts parts ≡ leftToList rules body place
+  unfolding joinedParts leftToList
   stretches-joined over = refl
   stretches-joined {place} (more room rest) =
       ap (λ (t : List ℕ). stretchOf rules body room place .text ++ t) (stretches-joined rest) ∙ stretch-joined room place
@@ -98,7 +98,7 @@ joined-append [] qs = refl
 joined-append (p ∷ ps) qs = ap (λ (t : List ℕ). p ++ t) (joined-append ps qs) ∙ sym (append-assoc p (joinedParts ps) (joinedParts qs))
 
 pub line-joined : (rules : Rules) (n : ℕ) (body : List ℕ) {parts : List (List ℕ)} → InStretches rules body (Number n) parts → joinedParts parts ≡ lineListing rules n body
-unfolding leftOf
+unfolding leftToList
 line-joined rules n body s = stretches-joined rules body s ∙ sym (line-parts rules n body)
 
 lines-joined : (rules : Rules) {ls : List NumberedBody} {parts : List (List ℕ)} → LinesInStretches rules ls parts → joinedParts parts ≡ linesListing rules ls

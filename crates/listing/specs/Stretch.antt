@@ -80,11 +80,11 @@ abbrev pub stretchAnswer : Stretched → Stretch
 stretchAnswer s = record { length = length (s .text); place = s .place }
 
 -- what is left to list of a line from a place on
-unfoldable pub leftOf : Rules → List ℕ → Place → List ℕ
+unfoldable pub leftToList : Rules → List ℕ → Place → List ℕ
 unfolding headListing restListing unitsFrom spelt
-leftOf rules body (Number n) = headListing n ++ restListing rules body
-leftOf rules body (Body at mode) = spelt (unitsFrom rules mode (drop at body)) ++ (0x0A ∷ [])
-leftOf rules body Over = []
+leftToList rules body (Number n) = headListing n ++ restListing rules body
+leftToList rules body (Body at mode) = spelt (unitsFrom rules mode (drop at body)) ++ (0x0A ∷ [])
+leftToList rules body Over = []
 
 -- ---- one stretch after the other
 

@@ -1,25 +1,25 @@
 -- `body::short::mode_behind` meets its contract.
 -- Assumes nothing.
-use Rattle.body.specs.ShortHelpers.{modeBehind}
+use Rattle.body.specs.ShortHelpers.{shortMode}
 use Rattle.body.proofs.ShortSteps.{behind-in, behind-data}
 use borrow.Author.Needs.{needs}
 use Rattle.body.proofs.short.mode_behind.Statement.{statement}
 use Rattle.body.proofs.short.mode_behind.Tie as tie
 
 returns : tie.Need-returns
-unfolding modeBehind
+unfolding shortMode
 returns c = search behind-in
 
 returns-2 : tie.Need-returns-2
-unfolding modeBehind
+unfolding shortMode
 returns-2 c = search behind-in
 
 returns-3 : tie.Need-returns-3
-unfolding modeBehind
+unfolding shortMode
 returns-3 c = search behind-in
 
 returns-5 : tie.Need-returns-5
-unfolding modeBehind
+unfolding shortMode
 returns-5 c = search behind-in
 
 returns-4 : tie.Need-returns-4
