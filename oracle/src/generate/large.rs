@@ -36,6 +36,8 @@ pub fn case(op: u8, number: usize) -> Option<Request> {
         _ if calls::is_of_texts(op) => Some(of_text(op, &text(op, number)?)),
         calls::FORMAT_DISK..=calls::CHECK_DISK => disk_calls::case(op, number),
         calls::DIALECT_BY_NAME | calls::TSB_WORD => Some(requests::of_word(op, &word(op, number)?)),
+        // The long lists of images are among the listed ones.
+        calls::COUNT_IMAGES => None,
         _ => Some(of_image(op, number, &image(op, number)?)),
     }
 }
