@@ -1,7 +1,7 @@
 pub mod Conditions
 pub mod Damage
+pub mod Kept
 pub mod Laying
-pub mod Middle
 pub mod ReadBack
 pub mod Standing
 pub mod Writing

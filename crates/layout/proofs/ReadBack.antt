@@ -34,10 +34,10 @@ record Meets (load least a p : ℕ) : Type 0 where
   above : least ≤ a
 
 -- the bytes from an offset on are those of lines, the first at an address, and the end
-abbrev Lined : List ℕ → ℕ → ℕ → List NumberedBody → Type 0
+abbrev pub Lined : List ℕ → ℕ → ℕ → List NumberedBody → Type 0
 Lined s p a ls = Holds s p (linesBytes a ls ++ 0 ∷ 0 ∷ [])
 
-first-stands : {s : List ℕ} {p : ℕ} (a : ℕ) (l : NumberedBody) (ls : List NumberedBody) → Lined s p a (l ∷ ls)
+pub first-stands : {s : List ℕ} {p : ℕ} (a : ℕ) (l : NumberedBody) (ls : List NumberedBody) → Lined s p a (l ∷ ls)
     → Stands s p (linkOf a (l .body)) l (linesBytes (linkOf a (l .body)) ls ++ 0 ∷ 0 ∷ [])
 unfolding linesBytes
 first-stands a l ls h =
@@ -87,18 +87,18 @@ both : {A : Type 0} (P Q : A → Type 0) (xs : List A) → Each P xs → Each Q 
 both P Q [] p q = tt
 both P Q (x ∷ xs) p q = ((p .0, q .0), both P Q xs (p .1) (q .1))
 
-load-is : {load : ℕ} {ls : List NumberedBody} → Laid load ls → lowFirstAt (imageOf load ls) 0 ≡ load
+pub load-is : {load : ℕ} {ls : List NumberedBody} → Laid load ls → lowFirstAt (imageOf load ls) 0 ≡ load
 unfolding imageOf
 load-is {load} {ls} laid = omega (arith, end-above load ls, laid .fits)
 
 module _ {load : ℕ} {ls : List NumberedBody} (laid : Laid load ls) where
-  image-long : length (imageOf load ls) ≤ 1048576
+  pub image-long : length (imageOf load ls) ≤ 1048576
   image-long = omega (arith, image-length load ls, laid .fits)
 
   load-there : lowFirstAt (imageOf load ls) 0 ≡ load
   load-there = load-is laid
 
-  lines-there : Lined (imageOf load ls) 2 load ls
+  pub lines-there : Lined (imageOf load ls) 2 load ls
   unfolding imageOf
   lines-there = record { there = refl }
 

@@ -54,7 +54,7 @@ pub record Stands (s : List ℕ) (p link : ℕ) (l : NumberedBody) (rest : List 
   pub holds : Holds s p (linkedBytes link (l .number) (l .body) ++ rest)
 
 module _ {s : List ℕ} {p link : ℕ} {l : NumberedBody} {rest : List ℕ} (k : Stands s p link l rest) where
-  byte : (n : ℕ) → getD s (p + n) 0 ≡ getD (linkedBytes link (l .number) (l .body) ++ rest) n 0
+  pub byte : (n : ℕ) → getD s (p + n) 0 ≡ getD (linkedBytes link (l .number) (l .body) ++ rest) n 0
   byte n = holds-at (k .holds) n
 
   pub stands-next : Holds s (p + 5 + length (l .body)) rest
@@ -62,29 +62,29 @@ module _ {s : List ℕ} {p link : ℕ} {l : NumberedBody} {rest : List ℕ} (k :
       let e : p + 5 + length (l .body) ≡ p + length (linkedBytes link (l .number) (l .body)) = omega (arith, line-length link (l .number) (l .body)) in
       rw e (holds-on (linkedBytes link (l .number) (l .body)) (k .holds))
 
-  body-there : drop (p + 4) s ≡ l .body ++ 0 ∷ rest
+  pub body-there : drop (p + 4) s ≡ l .body ++ 0 ∷ rest
   unfolding linkedBytes
   body-there = sym (drop-drop 4 p s) ∙ ap (drop 4) (k .holds .there) ∙ append-assoc (l .body) (0 ∷ []) rest
 
-  long-as : length s ≡ p + 5 + length (l .body) + length rest
+  pub long-as : length s ≡ p + 5 + length (l .body) + length rest
   long-as = omega (arith, length-drop (p + 4) s, ap length body-there, length-append (l .body) (0 ∷ rest))
 
   high-byte : getD s (p + 1) 0 ≡ link / 256 % 256
   unfolding linkedBytes
   high-byte = byte 1
 
-  link-there : link ≤ 0xFFFF → lowFirstAt s p ≡ link
+  pub link-there : link ≤ 0xFFFF → lowFirstAt s p ≡ link
   unfolding linkedBytes
   link-there fits = let low : getD s p 0 ≡ link % 256 = rw (let e : p ≡ p + 0 = omega arith in e) (byte 0) in omega (arith, high-byte)
 
-  number-there : l .number ≤ 65535 → lowFirstAt s (p + 2) ≡ l .number
+  pub number-there : l .number ≤ 65535 → lowFirstAt s (p + 2) ≡ l .number
   unfolding linkedBytes
   number-there fits =
       let low : getD s (p + 2) 0 ≡ l .number % 256 = byte 2 in
       let high : getD s (p + 2 + 1) 0 ≡ l .number / 256 % 256 = rw (let e : p + 2 + 1 ≡ p + 3 = omega arith in e) (byte 3) in
       omega arith
 
-  zero-there : getD s (p + 4 + length (l .body)) 0 ≡ 0
+  pub zero-there : getD s (p + 4 + length (l .body)) 0 ≡ 0
   zero-there =
       sym (getD-drop (p + 4) s (length (l .body)) 0)
       ∙ ap (λ (b : List ℕ). getD b (length (l .body)) 0) body-there

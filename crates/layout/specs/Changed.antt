@@ -1,28 +1,56 @@
--- Bytes of a line's number and body, changed in place. Several lines are changed one after the other.
+-- Bytes of an image changed in place (document 02, No. 14): of the numbers and bodies of any set of lines, or of their links. A set is a
+-- test of places; the first line's place is 0.
 -- Assumes nothing.
-use Prim.Native.Nat.{ℕ, _+_, _≤_, _<_}
+use Prim.Native.Nat.{ℕ, suc, _+_, _-_, _<_}
 use mathlib.Core.Path.{_≡_}
-use mathlib.Core.List.{List, _∷_, _++_}
-use lib.ListN.{length, getD, take, drop}
+use mathlib.Core.Bool.{Bool, true, false, _&&_, _||_}
+use mathlib.Core.List.{List, [], _∷_, map}
+use lib.Dec.{leb, ltb}
+use lib.ListN.{length, getD}
+use Rattle.readers.specs.declared.Line.{Line}
 use Rattle.readers.specs.Image.{lowFirstAt}
+use Rattle.readers.specs.Bodies.{bodyOf}
 use Rattle.readers.specs.NumberedBody.{NumberedBody}
-use Rattle.layout.specs.Layout.{linesBytes, imageOf}
+use Rattle.layout.specs.Each.{Each}
+use Rattle.layout.specs.Layout.{imageOf}
+use Rattle.layout.specs.Reads.{linesAt}
 
--- s is t but for its bytes from one offset up to another, which may be any bytes
-pub record ChangedWithin (from to : ℕ) (t s : List ℕ) : Type 0 where
+-- s is t but at some offsets, where any bytes may stand
+pub record ChangedAt (changes : ℕ → Bool) (t s : List ℕ) : Type 0 where
   pub long : length s ≡ length t
-  pub before : (i : ℕ) → i < from → getD s i 0 ≡ getD t i 0
-  pub behind : (i : ℕ) → to ≤ i → getD s i 0 ≡ getD t i 0
-  pub bytes : (i : ℕ) → from ≤ i → i < to → getD s i 0 < 256
+  pub others : (i : ℕ) → changes i ≡ false → getD s i 0 ≡ getD t i 0
+  pub bytes : (i : ℕ) → changes i ≡ true → getD s i 0 < 256
 
--- the offset of what stands behind these lines
-abbrev pub offsetBehind : ℕ → List NumberedBody → ℕ
-offsetBehind load before = 2 + length (linesBytes load before)
+-- whether an offset is one of a line's number or body: the number stands in the two bytes before the body
+abbrev pub numberOrBody : Line → ℕ → Bool
+numberOrBody l i = leb (l .from) (i + 2) && ltb i (l .to)
 
--- s is the image of lines, but for bytes of one line's number and body
-pub record ChangedLine (load : ℕ) (before : List NumberedBody) (l : NumberedBody) (after : List NumberedBody) (s : List ℕ) : Type 0 where
-  pub changed : ChangedWithin (offsetBehind load before + 2) (offsetBehind load before + 4 + length (l .body)) (imageOf load (before ++ l ∷ after)) s
+-- whether it is one of a line's link, the two bytes before the number
+abbrev pub linkByte : Line → ℕ → Bool
+linkByte l i = leb (l .from) (i + 4) && ltb (i + 2) (l .from)
 
--- the number and the body that stand at an offset, in place of a line
-abbrev pub lineNow : List ℕ → ℕ → NumberedBody → NumberedBody
-lineNow s p l = record { number = lowFirstAt s (p + 2); body = take (length (l .body)) (drop (p + 4) s) }
+-- whether it is one of such a part of some line in the set
+unfoldable pub inSome : (Line → ℕ → Bool) → (ℕ → Bool) → List Line → ℕ → Bool
+inSome part set [] i = false
+inSome part set (l ∷ ls) i = (set 0 && part l i) || inSome part (λ k. set (suc k)) ls i
+
+-- s is the image of lines, but for bytes of the numbers and bodies of the lines in a set
+pub record ChangedLines (set : ℕ → Bool) (load : ℕ) (ls : List NumberedBody) (s : List ℕ) : Type 0 where
+  pub changed : ChangedAt (inSome numberOrBody set (linesAt load 2 ls)) (imageOf load ls) s
+
+-- s is the image of lines, but for bytes of the links of the lines in a set, "keeping each high byte above 0"
+pub record ChangedLinks (set : ℕ → Bool) (load : ℕ) (ls : List NumberedBody) (s : List ℕ) : Type 0 where
+  pub changed : ChangedAt (inSome linkByte set (linesAt load 2 ls)) (imageOf load ls) s
+  pub high : Each (λ l. 0 < getD s (l .from - 3) 0) (linesAt load 2 ls)
+
+-- the number and the body that stand now in a line's place
+abbrev pub lineNow : List ℕ → Line → NumberedBody
+lineNow s l = record { number = lowFirstAt s (l .from - 2); body = bodyOf s l }
+
+-- the lines as the bytes of s say them now
+abbrev pub linesNow : ℕ → List NumberedBody → List ℕ → List NumberedBody
+linesNow load ls s = map (lineNow s) (linesAt load 2 ls)
+
+-- "every line outside the set" is as before
+abbrev pub KeptOutside : (ℕ → Bool) → List NumberedBody → List NumberedBody → Type 0
+KeptOutside set ls now = (k : ℕ) (none : NumberedBody) → set k ≡ false → getD now k none ≡ getD ls k none

@@ -1,9 +1,10 @@
 -- The third demand, of texts: "An image crunched at 0x0100 or above, read by its links, gives back its address and every nonblank line's
--- number and crunched body, zeros included"; "if bytes of one line's number and body are changed in place, every other line reads as
--- before"; and by terminators where no body holds a zero. The lines of a text are laid out for any lexicon, so no dialect is looked at.
+-- number and crunched body, zeros included", and by terminators where no body holds a zero; and what is read of a damaged image (document
+-- 02, No. 14). The lines of a text are laid out for any lexicon, so no dialect is looked at.
 -- Assumes nothing.
 use Prim.Native.Nat.{ℕ, suc, _+_, _≤_}
 use mathlib.Core.Path.{_≡_, refl, sym, ap, _∙_, subst}
+use mathlib.Core.Bool.{Bool}
 use mathlib.Core.List.{List, [], _∷_, _++_}
 use native.Mathlib.Omega.{arith}
 use lib.ListN.{length, take, drop}
@@ -19,23 +20,23 @@ use Rattle.lines.proofs.Numbers.{number-fits}
 use Rattle.body.specs.Body.{crunchedBody}
 use Rattle.body.specs.Lexicon.{Lexicon}
 use Rattle.readers.specs.NumberedBody.{NumberedBody}
-use Rattle.readers.specs.Lines.{Overview, overview}
+use Rattle.readers.specs.Lines.{Reader, Overview, overview}
 use Rattle.readers.specs.Bodies.{bodiesOf}
 use Rattle.readers.specs.Links.{linkStep}
 use Rattle.readers.specs.Terminators.{terminatorStep}
 use Rattle.readers.specs.declared.Checked.the-variants.{Image}
 use Rattle.layout.specs.Each.{Each}
 use Rattle.layout.specs.Layout.{endAddress, imageOf, Laid}
-use Rattle.layout.specs.Reads.{NoZeros, leastLoad, linesFound}
-use Rattle.layout.specs.Changed.{ChangedLine}
+use Rattle.layout.specs.Reads.{ReadAs, NoZeros, leastLoad, linesFound}
+use Rattle.layout.specs.Changed.{ChangedLines, ChangedLinks, linesNow}
 use Rattle.layout.proofs.Laying.{end-append}
 use Rattle.layout.proofs.ReadBack.{read-back-by-links, read-back-by-terminators, all-or-none, all-found}
-use Rattle.layout.proofs.Damage.{changed-places, damage-by-links, damage-by-terminators}
+use Rattle.layout.proofs.Damage.{changed-outside, changed-places, damage-by-links, damage-by-terminators, links-changed, same-image, same-program}
 use Rattle.image.specs.Crunched.{linesRead, textLine, crunchLines, textLexicon, crunchedLines, crunched}
 use Rattle.image.specs.PassesHelpers.{addressBehind}
 use Rattle.image.specs.declared.Options.{Options}
 use Rattle.image.proofs.Lining.{Taken, taken, cons-taken, cons-refused}
-use Rattle.read_back.specs.ReadsBack.{ReadsBack, linesNow, ReadsDamaged}
+use Rattle.read_back.specs.ReadsBack.{ReadsBack, ReadsDamaged}
 use Rattle.read_back.specs.ReadingBack.{LentRead, readingBack, leftRead}
 use Rattle.read_back.specs.declared.ReadBack.{ReadBack}
 use Rattle.read_back.specs.declared.ReadBack.the-variants.{Made}
@@ -118,15 +119,36 @@ module _ (o : Options) (text : List ℕ) {ls : List NumberedBody} (low : o .load
   pub demand-three : 0x0100 ≤ o .load → ReadsBack linkStep o text ls
   demand-three h = read-back (omega arith)
 
--- ---- with bytes of one line's number and body changed
+-- ---- damaged (document 02, No. 14)
 
-module _ (o : Options) (text : List ℕ) {before : List NumberedBody} {l : NumberedBody} {after : List NumberedBody} {s : List ℕ}
-    (low : o .load ≤ 0xFFFF) (up : leastLoad ≤ o .load) (e : crunchedLines o text ≡ done (before ++ l ∷ after)) (k : ChangedLine (o .load) before l after s) where
-  pub damage : ReadsDamaged linkStep (o .load) before l after s
-  damage = record { reads = damage-by-links k up (crunched-laid o text low e); places = changed-places k }
+module _ (o : Options) (text : List ℕ) {ls : List NumberedBody} (low : o .load ≤ 0xFFFF) (e : crunchedLines o text ≡ done ls) {set : ℕ → Bool} {s : List ℕ} where
+  -- with bytes of numbers and bodies changed in any set of lines
+  module _ (up : leastLoad ≤ o .load) (c : ChangedLines set (o .load) ls s) where
+    damaged : {step : Reader} → ReadAs step (o .load) (linesNow (o .load) ls s) s → ReadsDamaged step set (o .load) ls s
+    damaged reads = record { reads = reads; outside = changed-outside (crunched-laid o text low e) c; places = changed-places (crunched-laid o text low e) c }
 
-  pub damage-terminators : NoZeros (linesNow (o .load) before l after s) → ReadsDamaged terminatorStep (o .load) before l after s
-  damage-terminators none = record { reads = damage-by-terminators k up (crunched-laid o text low e) none; places = changed-places k }
+    pub damage : ReadsDamaged linkStep set (o .load) ls s
+    damage = damaged (damage-by-links (crunched-laid o text low e) c up)
+
+    pub damage-terminators : NoZeros (linesNow (o .load) ls s) → ReadsDamaged terminatorStep set (o .load) ls s
+    damage-terminators none = damaged (damage-by-terminators (crunched-laid o text low e) c up none)
+
+  -- with links changed in any set of lines, where no body holds a zero
+  pub damaged-links : NoZeros ls → ChangedLinks set (o .load) ls s → bodiesOf terminatorStep s ≡ done ls
+  damaged-links none c = links-changed (crunched-laid o text low e) none c
+
+-- ---- same bytes, same program
+
+-- two texts have the same image exactly when their load addresses and their lines are the same
+module _ (o o′ : Options) (text text′ : List ℕ) {ls ls′ : List NumberedBody} (low : o .load ≤ 0xFFFF) (low′ : o′ .load ≤ 0xFFFF)
+    (e : crunchedLines o text ≡ done ls) (e′ : crunchedLines o′ text′ ≡ done ls′) where
+  pub same-lines-same-bytes : o .load ≡ o′ .load → ls ≡ ls′ → crunched o text ≡ crunched o′ text′
+  same-lines-same-bytes h f = crunched-image o text low e ∙ ap done (same-image h f) ∙ sym (crunched-image o′ text′ low′ e′)
+
+  pub same-bytes-same-program : leastLoad ≤ o .load → leastLoad ≤ o′ .load → crunched o text ≡ crunched o′ text′ → (o .load ≡ o′ .load) × (ls ≡ ls′)
+  same-bytes-same-program up up′ f =
+      let same : done (imageOf (o .load) ls) ≡ done (imageOf (o′ .load) ls′) = sym (crunched-image o text low e) ∙ f ∙ crunched-image o′ text′ low′ e′ in
+      same-program (crunched-laid o text low e) (crunched-laid o′ text′ low′ e′) up up′ (let image : imageOf (o .load) ls ≡ imageOf (o′ .load) ls′ = cc in image)
 
 -- ---- as a call
 

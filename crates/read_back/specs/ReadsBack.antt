@@ -3,13 +3,14 @@
 -- Assumes nothing.
 use Prim.Native.Nat.{ℕ}
 use mathlib.Core.Path.{_≡_}
-use mathlib.Core.List.{List, _∷_, _++_, map}
+use mathlib.Core.Bool.{Bool}
+use mathlib.Core.List.{List, map}
 use Rattle.refusals.specs.Answer.{done}
 use Rattle.readers.specs.NumberedBody.{NumberedBody}
 use Rattle.readers.specs.Lines.{Reader}
 use Rattle.layout.specs.Layout.{imageOf}
 use Rattle.layout.specs.Reads.{ReadAs, linesAt, placeOf}
-use Rattle.layout.specs.Changed.{offsetBehind, lineNow}
+use Rattle.layout.specs.Changed.{linesNow, KeptOutside}
 use Rattle.image.specs.Crunched.{crunched}
 use Rattle.image.specs.declared.Options.{Options}
 
@@ -18,11 +19,8 @@ pub record ReadsBack (step : Reader) (o : Options) (text : List ℕ) (ls : List 
   pub image : crunched o text ≡ done (imageOf (o .load) ls)
   pub reads : ReadAs step (o .load) ls (imageOf (o .load) ls)
 
--- a line between others, as the bytes of s say it now
-abbrev pub linesNow : ℕ → List NumberedBody → NumberedBody → List NumberedBody → List ℕ → List NumberedBody
-linesNow load before l after s = before ++ lineNow s (offsetBehind load before) l ∷ after
-
--- s is read as the lines with one changed: every other line as before, and each line, the changed one too, where it stood and with its link
-pub record ReadsDamaged (step : Reader) (load : ℕ) (before : List NumberedBody) (l : NumberedBody) (after : List NumberedBody) (s : List ℕ) : Type 0 where
-  pub reads : ReadAs step load (linesNow load before l after s) s
-  pub places : map placeOf (linesAt load 2 (linesNow load before l after s)) ≡ map placeOf (linesAt load 2 (before ++ l ∷ after))
+-- s is read as the lines with those in the set as they are now: every other line as before, and each line where it stood and with its link
+pub record ReadsDamaged (step : Reader) (set : ℕ → Bool) (load : ℕ) (ls : List NumberedBody) (s : List ℕ) : Type 0 where
+  pub reads : ReadAs step load (linesNow load ls s) s
+  pub outside : KeptOutside set ls (linesNow load ls s)
+  pub places : map placeOf (linesAt load 2 (linesNow load ls s)) ≡ map placeOf (linesAt load 2 ls)
