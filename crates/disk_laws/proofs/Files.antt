@@ -48,7 +48,7 @@ chain-same dir (suc k) d d′ n h = go (mayHold dir n) (linkAt d (256 * n)) refl
 -- ---- bytes
 
 -- so many bytes from a place on, by each of them
-part-same : (d d′ : List ℕ) → length d′ ≡ length d → (from k : ℕ) → ((i : ℕ) → i < k → getD d′ (from + i) 0 ≡ getD d (from + i) 0) → take k (drop from d′) ≡ take k (drop from d)
+pub part-same : (d d′ : List ℕ) → length d′ ≡ length d → (from k : ℕ) → ((i : ℕ) → i < k → getD d′ (from + i) 0 ≡ getD d (from + i) 0) → take k (drop from d′) ≡ take k (drop from d)
 part-same d d′ l from k h =
     ext-getD 0 (take k (drop from d′)) (take k (drop from d))
     (omega (arith, length-take k (drop from d′), length-take k (drop from d), length-drop from d′, length-drop from d))

@@ -126,3 +126,37 @@ pub link-back : (n : ℕ) → n < 683 → linkTo (trackOf n) (sectorOf n) ≡ To
 link-back n h =
     let p : Placed n = place n h in
     sym (link-on (trackOf n) (sectorOf n) (p .low) (p .high) refl (p .on) refl) ∙ ap To (p .back)
+
+-- ---- and back: the sector s of track t stands on that track, there
+
+pub record Stands (t s : ℕ) : Type 0 where
+  pub track : trackOf (sectorAt t s) ≡ t
+  pub sector : sectorOf (sectorAt t s) ≡ s
+  pub below : sectorAt t s < 683
+
+module _ (t s : ℕ) (low : 1 ≤ t) (high : t ≤ 35) (on : s < sectorsOn t) where
+  pub stands : Stands t s
+  stands = go (decLt t 18) (decLt t 25) (decLt t 31) where
+    go : Dec (t < 18) → Dec (t < 25) → Dec (t < 31) → Stands t s
+    go (yes a) b c =
+        let o : 21 ≡ sectorsOn t = on-1 t a in
+        let f : 21 * (t - 1) ≡ sectorsBefore t = before-1 t a in
+        let h : sectorAt t s < 357 = omega arith in
+        record { track = omega (arith, track-1 (sectorAt t s) h); sector = omega (arith, sector-1 (sectorAt t s) h); below = omega arith }
+    go (no a) (yes b) c =
+        let o : 19 ≡ sectorsOn t = on-2 t (omega arith) b in
+        let f : 357 + 19 * (t - 18) ≡ sectorsBefore t = before-2 t (omega arith) b in
+        let g : 357 ≤ sectorAt t s = omega arith in
+        let h : sectorAt t s < 490 = omega arith in
+        record { track = omega (arith, track-2 (sectorAt t s) g h); sector = omega (arith, sector-2 (sectorAt t s) g h); below = omega arith }
+    go (no a) (no b) (yes c) =
+        let o : 18 ≡ sectorsOn t = on-3 t (omega arith) c in
+        let f : 490 + 18 * (t - 25) ≡ sectorsBefore t = before-3 t (omega arith) c in
+        let g : 490 ≤ sectorAt t s = omega arith in
+        let h : sectorAt t s < 598 = omega arith in
+        record { track = omega (arith, track-3 (sectorAt t s) g h); sector = omega (arith, sector-3 (sectorAt t s) g h); below = omega arith }
+    go (no a) (no b) (no c) =
+        let o : 17 ≡ sectorsOn t = on-4 t (omega arith) in
+        let f : 598 + 17 * (t - 31) ≡ sectorsBefore t = before-4 t (omega arith) in
+        let g : 598 ≤ sectorAt t s = omega arith in
+        record { track = omega (arith, track-4 (sectorAt t s) g); sector = omega (arith, sector-4 (sectorAt t s) g); below = omega arith }

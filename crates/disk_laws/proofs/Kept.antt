@@ -54,7 +54,7 @@ in-take (suc k) (m ∷ l) n e = go (eqb n m) (in-take k l n) e where
   go true f g = refl
   go false f g = f g
 
-in-at : (l : List ℕ) (i : ℕ) → i < length l → isIn l (getD l i 0) ≡ true
+pub in-at : (l : List ℕ) (i : ℕ) → i < length l → isIn l (getD l i 0) ≡ true
 unfolding some
 in-at [] i h = absurd (omega arith)
 in-at (n ∷ l) zero h = rw (eq-eqb n n refl)
@@ -99,14 +99,14 @@ run-each f from (suc k) h =
     each-one (h from (omega arith) (omega arith)) (run-each f (from + 1) k (λ e a b. h e (omega arith) (omega arith)))
 
 -- a sector of the directory
-dir-sector : (d : List ℕ) (i : ℕ) → i < length (directory d .sectors) → (358 ≤ getD (directory d .sectors) i 0) × (getD (directory d .sectors) i 0 ≤ 375)
+pub dir-sector : (d : List ℕ) (i : ℕ) → i < length (directory d .sectors) → (358 ≤ getD (directory d .sectors) i 0) × (getD (directory d .sectors) i 0 ≤ 375)
 unfolding directory
 dir-sector d i h =
     let n : ℕ = getD (directory d .sectors) i 0 in
     let e : (leb 358 n && leb n 375) ≡ true = chain-held true 18 d 358 n (in-at (directory d .sectors) i h) in
     (leb-true 358 n (and-left (leb 358 n) (leb n 375) e), leb-true n 375 (and-right (leb 358 n) (leb n 375) e))
 
-entries-on : (which : Bool) (d : List ℕ) → Each (OnTrack18 30) (entriesThat which d (directory d .sectors))
+pub entries-on : (which : Bool) (d : List ℕ) → Each (OnTrack18 30) (entriesThat which d (directory d .sectors))
 unfolding entriesThat
 entries-on which d =
     each-those (isThat which d) (entriesOf (directory d .sectors)) (run-each (entryAt (directory d .sectors)) 0 (8 * length (directory d .sectors)) at) where
@@ -115,7 +115,7 @@ entries-on which d =
           let s : (358 ≤ getD (directory d .sectors) (e / 8) 0) × (getD (directory d .sectors) (e / 8) 0 ≤ 375) = dir-sector d (e / 8) (omega arith) in
           record { from = omega arith; to = omega arith }
 
-outside-on : (sectors : List ℕ) → Each (λ n. (358 ≤ n) × (n ≤ 375)) (outside sectors)
+pub outside-on : (sectors : List ℕ) → Each (λ n. (358 ≤ n) × (n ≤ 375)) (outside sectors)
 unfolding numbersFrom
 outside-on sectors = each-those (λ n. not (isIn sectors n)) (numbersFrom 358 18) (plain 358 18 (omega arith) (omega arith)) where
   plain : (from k : ℕ) → 358 ≤ from → from + k ≤ 376 → Each (λ n. (358 ≤ n) × (n ≤ 375)) (numbersFrom from k)
@@ -149,10 +149,10 @@ module _ (j : ℕ) (off : Off 91392 96256 j) where
       ∙ sets-18 x (256 * k) (sectorBytes 0 0xFF []) (record { from = omega arith; to = omega arith })
       ∙ h
 
-entry-long : (name sectors : List ℕ) → length name ≤ 16 → length (entryBytes name sectors) ≡ 30
+pub entry-long : (name sectors : List ℕ) → length name ≤ 16 → length (entryBytes name sectors) ≡ 30
 entry-long name sectors h = simp length-append (omega (arith, length-replicate {A = ℕ} (16 - length name) 0xA0))
 
-name-short : (name : List ℕ) → isFileName name ≡ true → length name ≤ 16
+pub name-short : (name : List ℕ) → isFileName name ≡ true → length name ≤ 16
 name-short name m =
     leb-true (length name) 16
     (and-right (leb 1 (length name)) (leb (length name) 16) (and-left (leb 1 (length name) && leb (length name) 16) (not (isIn name 0xA0)) m))

@@ -2,10 +2,14 @@ pub mod Counting
 pub mod Elsewhere
 pub mod Files
 pub mod Fresh
+pub mod Fuel
 pub mod Geometry
 pub mod Kept
 pub mod Laid
+pub mod Mapped
 pub mod Marks
+pub mod Parts
 pub mod Room
 pub mod Saved
 pub mod Totals
+pub mod Without

@@ -79,7 +79,7 @@ bit-with b (suc k) (suc j) free =
 -- ---- the bits of the map
 
 -- two tests that hold together
-same-test : (p q : Bool) → (p ≡ true → q ≡ true) → (q ≡ true → p ≡ true) → p ≡ q
+pub same-test : (p q : Bool) → (p ≡ true → q ≡ true) → (q ≡ true → p ≡ true) → p ≡ q
 same-test true q f g = sym (f refl)
 same-test false true f g = g refl
 same-test false false f g = refl
