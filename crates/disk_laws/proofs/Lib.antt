@@ -11,5 +11,6 @@ pub mod Marks
 pub mod Parts
 pub mod Room
 pub mod Saved
+pub mod Scratched
 pub mod Totals
 pub mod Without

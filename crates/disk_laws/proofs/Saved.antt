@@ -89,11 +89,11 @@ taken-held d image m e =
 
 -- ---- what a save that is done has tested
 
-past : (q : Bool) (n : Numbered) (a : Answer (List ℕ)) (x : List ℕ) → cond q (refused n) a ≡ done x → (q ≡ false) × (a ≡ done x)
+pub past : (q : Bool) (n : Numbered) (a : Answer (List ℕ)) (x : List ℕ) → cond q (refused n) a ≡ done x → (q ≡ false) × (a ≡ done x)
 past false n a x e = (refl, e)
 past true n a x e = absurd (let z : _≡_ {A = ℕ} 0 1 = cc in omega arith)
 
-passes : (q : Bool) (n : Numbered) (a : Answer (List ℕ)) (x : List ℕ) → cond q a (refused n) ≡ done x → (q ≡ true) × (a ≡ done x)
+pub passes : (q : Bool) (n : Numbered) (a : Answer (List ℕ)) (x : List ℕ) → cond q a (refused n) ≡ done x → (q ≡ true) × (a ≡ done x)
 passes true n a x e = (refl, e)
 passes false n a x e = absurd (let z : _≡_ {A = ℕ} 0 1 = cc in omega arith)
 
