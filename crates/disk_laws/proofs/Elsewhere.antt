@@ -68,7 +68,7 @@ pub record Within (n j : ℕ) : Type 0 where
   pub from : 256 * n ≤ j
   pub to : j < 256 * n + 256
 
-sector-long : (t s : ℕ) (bytes : List ℕ) → length bytes ≤ 254 → length (sectorBytes t s bytes) ≡ 256
+pub sector-long : (t s : ℕ) (bytes : List ℕ) → length bytes ≤ 254 → length (sectorBytes t s bytes) ≡ 256
 sector-long t s bytes h = omega (arith, length-append bytes (replicate (254 - length bytes) 0), length-replicate {A = ℕ} (254 - length bytes) 0)
 
 pub link-long : (ns bytes left : List ℕ) → length bytes ≤ 254 → length (linkBytes ns bytes left) ≡ 256

@@ -33,7 +33,7 @@ sets-at l i (v ∷ vs) (suc k) h g =
     let e : i + suc k ≡ suc i + k = omega arith in
     rw e (sets-at (set l i v) (suc i) vs k (omega (arith, length-set l i v)) (omega arith))
 
-none-those : (test : ℕ → Bool) (f : ℕ → ℕ) (from k : ℕ) → ((e : ℕ) → from ≤ e → e < from + k → test (f e) ≡ false) → those test (map f (numbersFrom from k)) ≡ []
+pub none-those : (test : ℕ → Bool) (f : ℕ → ℕ) (from k : ℕ) → ((e : ℕ) → from ≤ e → e < from + k → test (f e) ≡ false) → those test (map f (numbersFrom from k)) ≡ []
 unfolding those numbersFrom
 none-those test f from zero h = refl
 none-those test f from (suc k) h =

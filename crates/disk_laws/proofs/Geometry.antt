@@ -38,7 +38,7 @@ module _ (n : ℕ) where
   unfolding trackOf
   track-1 h = zone-1 n 357 490 598 _ _ _ _ h
 
-  track-2 : 357 ≤ n → n < 490 → 18 + (n - 357) / 19 ≡ trackOf n
+  pub track-2 : 357 ≤ n → n < 490 → 18 + (n - 357) / 19 ≡ trackOf n
   unfolding trackOf
   track-2 g h = zone-2 n 357 490 598 _ _ _ _ g h
 

@@ -198,7 +198,7 @@ module _ (d : List ℕ) (n j : ℕ) (u : isIn (files d .sectors) n ≡ true) (w 
   off-18 = sector-off n j w (and-right (ltb n 683) (offTrack18 n) held)
 
   -- it is not free, so that no save takes it
-  not-taken : sound d ≡ true → (image : List ℕ) → isIn (taken d image) n ≡ false
+  pub not-taken : sound d ≡ true → (image : List ℕ) → isIn (taken d image) n ≡ false
   not-taken s image =
       let f : isFree d n ≡ false = free-is d s n below ∙ go (offTrack18 n) (isIn (files d .sectors) n) u in
       fails (isIn (taken d image) n) (isFree d n) (taken-free d image n) f where

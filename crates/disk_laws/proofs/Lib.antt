@@ -1,5 +1,7 @@
+pub mod Added
 pub mod Counting
 pub mod Elsewhere
+pub mod Entered
 pub mod Files
 pub mod Fresh
 pub mod Fuel

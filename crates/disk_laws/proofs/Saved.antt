@@ -76,11 +76,11 @@ take-once (suc k) (n ∷ l) e =
     let f : (isIn l n ≡ false) × (noneTwice l ≡ true) = split-once (isIn l n) (noneTwice l) e in
     once (fails-in (isIn (take k l) n) (isIn l n) (in-take k l n) (f .0)) (take-once k l (f .1))
 
-taken-once : (d image : List ℕ) → noneTwice (taken d image) ≡ true
+pub taken-once : (d image : List ℕ) → noneTwice (taken d image) ≡ true
 unfolding freeSectors
 taken-once d image = take-once (sectorsFor image) (freeSectors d) (those-once (isFree d) (numbersFrom 0 683) (run-once 0 683))
 
-taken-held : (d image : List ℕ) (m : ℕ) → isIn (taken d image) m ≡ true → mayHold false m ≡ true
+pub taken-held : (d image : List ℕ) (m : ℕ) → isIn (taken d image) m ≡ true → mayHold false m ≡ true
 unfolding isFree
 taken-held d image m e =
     both (lt-ltb m 683 (taken-below d image m e)) (and-left (offTrack18 m) (eqb (bitAt d (trackOf m) (sectorOf m)) 1) (taken-free d image m e)) where
@@ -100,6 +100,7 @@ passes false n a x e = absurd (let z : _≡_ {A = ℕ} 0 1 = cc in omega arith)
 pub record Tested (d name image made : List ℕ) : Type 0 where
   pub is-sound : sound d ≡ true
   pub is-name : isFileName name ≡ true
+  pub new : some (isNamed d name) (listed d) ≡ false
   pub room : sectorsFor image ≤ length (freeSectors d)
   pub file : withFile d name image (taken d image) ≡ done made
 
@@ -115,11 +116,11 @@ was-tested d name image made e =
     let g : (ltb (length (freeSectors d)) (sectorsFor image) ≡ false) × (withFile d name image (taken d image) ≡ done made) =
     past (ltb (length (freeSectors d)) (sectorsFor image)) diskFull (withFile d name image (taken d image)) made (f .1)
     in
-    record { is-sound = a .0; is-name = b .0; room = ltb-false (length (freeSectors d)) (sectorsFor image) (g .0); file = g .1 }
+    record { is-sound = a .0; is-name = b .0; new = c .0; room = ltb-false (length (freeSectors d)) (sectorsFor image) (g .0); file = g .1 }
 
 -- ---- the disk keeps its length
 
-laid-long : (d ns image : List ℕ) → length (laid d ns image) ≡ length d
+pub laid-long : (d ns image : List ℕ) → length (laid d ns image) ≡ length d
 unfolding laid
 laid-long d [] image = refl
 laid-long d (n ∷ ns) image = laid-long (sets d (256 * n) (linkBytes ns (take 254 image) image)) ns (drop 254 image) ∙ length-sets d (256 * n) (linkBytes ns (take 254 image) image)
@@ -171,7 +172,7 @@ module _ (d name image made : List ℕ) (e : saved d name image ≡ done made) w
     lies-bytes made n ns image made-long (λ m i. ltb-true m 683 (and-left (ltb m 683) (offTrack18 m) (h m i))) (omega arith) (omega arith) y,
   )
 
-  taken-long : length (taken d image) ≡ sectorsFor image
+  pub taken-long : length (taken d image) ≡ sectorsFor image
   taken-long = length-take-le (sectorsFor image) (freeSectors d) (t .room)
 
   read-back : (chain false 683 made (getD (taken d image) 0 0) ≡ record { sectors = taken d image; ends = true }) × (chainBytes made (taken d image) ≡ image)

@@ -33,7 +33,7 @@ use Rattle.disk_laws.proofs.Mapped.{agrees-again}
 use Rattle.disk_laws.proofs.Parts.{Parts, parts, parts-sound, link-same, directory-same, entry-same, map-same, FromRun, that-from, EntryPlace, entry-place, entries-apart}
 
 -- a place apart from another
-off-one : (p j : ℕ) → (j ≡ p → ⊥) → Off p (p + 1) j
+pub off-one : (p j : ℕ) → (j ≡ p → ⊥) → Off p (p + 1) j
 off-one p j z = go (decLt j p) where
   go : Dec (j < p) → Off p (p + 1) j
   go (yes h) = before h

@@ -30,7 +30,7 @@ or-false : (a b : Bool) → (a || b) ≡ false → (a ≡ false) × (b ≡ false
 or-false true b e = never (sym e)
 or-false false b e = (refl, e)
 
-neither : (a b : Bool) → a ≡ false → b ≡ false → (a || b) ≡ false
+pub neither : (a b : Bool) → a ≡ false → b ≡ false → (a || b) ≡ false
 neither a b e f = rw (e, f) refl
 
 split : (a b : Bool) → (not a && b) ≡ true → (a ≡ false) × (b ≡ true)
