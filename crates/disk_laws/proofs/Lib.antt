@@ -6,6 +6,8 @@ pub mod Files
 pub mod Fresh
 pub mod Fuel
 pub mod Geometry
+pub mod Grown
+pub mod Invariant
 pub mod Kept
 pub mod Laid
 pub mod Mapped

@@ -2,7 +2,7 @@
 -- Assumes nothing.
 use Prim.Native.Nat.{ℕ}
 use mathlib.Core.Bool.{Bool, true, false}
-use mathlib.Core.List.{List}
+use mathlib.Core.List.{List, [], _∷_}
 use Rattle.d64.specs.Calls.{formatted, saved, scratched, ontoDisk}
 
 -- a call, with the name and the image that it is given
@@ -27,3 +27,8 @@ afterCall disk Check = disk
 afterCall disk (Read name) = disk
 afterCall disk (Save name image) = ontoDisk (saved disk name image) disk .disk
 afterCall disk (Scratch name) = ontoDisk (scratched disk name) disk .disk
+
+-- the disk behind a list of calls
+unfoldable pub afterCalls : List ℕ → List Call → List ℕ
+afterCalls disk [] = disk
+afterCalls disk (c ∷ cs) = afterCalls (afterCall disk c) cs
