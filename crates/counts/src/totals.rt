@@ -11,6 +11,9 @@ ghost use mathlib.Core.Path.{_≡_};
 ghost use Prim.Native.Nat.{_+_, _*_, _≤_};
 ghost use lib.ListN.{length};
 
+// No input has so many totals.
+const MOST_TOTALS: u64 = 1_000_000;
+
 // Writes totals to standard output, at once: a pipe keeps them whole.
 pub fn write(totals: &[u64; 206]) -> bool {
     let mut bytes = [0u8; 1648];
@@ -60,10 +63,10 @@ fn join_file(name: &[u8], totals: &mut [u64]) -> Run {
     run
 }
 
-// Joins the totals up to the end of an input. A proved loop has to end, and nothing says that the input does: there are at most 1,000 images,
-// and of totals without one no archive has so many.
+// Joins the totals up to the end of an input, which has some: where a part could not be counted, its file is empty. A proved loop has to end,
+// and nothing says that the input does: there are at most 1,000 images, and of totals without one no archive has so many.
 fn join_all(fd: i32, name: &[u8], totals: &mut [u64]) -> Run {
-    let mut left: u64 = 1_000_000;
+    let mut left: u64 = MOST_TOTALS;
     while left > 0 {
         let mut bytes = [0u8; 1648];
         match input::read_part(fd, &mut bytes) {
@@ -77,7 +80,7 @@ fn join_all(fd: i32, name: &[u8], totals: &mut [u64]) -> Run {
                 }
             },
             Part::Cut(n) => {
-                if n == 0 {
+                if n == 0 && left < MOST_TOTALS {
                     return Run::Fine;
                 }
                 return no_totals(name);
@@ -115,7 +118,7 @@ fn join(name: &[u8], bytes: &[u8], totals: &mut [u64]) -> Run
 
 fn no_totals(name: &[u8]) -> Run {
     io::write_all(STDERR_FILENO, name);
-    io::write_all(STDERR_FILENO, b": no totals\n");
+    io::write_all(STDERR_FILENO, b": no totals, or totals cut short\n");
     Run::Failed
 }
 
