@@ -1,6 +1,7 @@
 //! The cases that document 01 names, held against the judge; those of document 02
 //! have files of their own.
 
+mod counts;
 mod disk;
 mod lines;
 mod modes;
