@@ -13,6 +13,7 @@ pub mod Laid
 pub mod Mapped
 pub mod Marks
 pub mod Parts
+pub mod ReadBack
 pub mod Room
 pub mod Saved
 pub mod Scratched

@@ -160,7 +160,7 @@ module _ (d name image made : List ℕ) (e : saved d name image ≡ done made) w
       sym (ap (λ (a : Answer (List ℕ)). getD (ontoDisk a (laid d (taken d image) image) .disk) j 0) (t .file))
       ∙ file-18 d name image (t .is-name) j (sector-off n j w (and-right (ltb n 683) (offTrack18 n) (taken-held d image n i))) (laid d (taken d image) image) refl
 
-  all-lie : LieAll made (taken d image) image
+  pub all-lie : LieAll made (taken d image) image
   all-lie = laid-lies d (taken d image) image made size (taken-below d image) (taken-once d image) made-byte
 
   -- of the sectors that were taken
