@@ -56,7 +56,7 @@ part-as d l from h g =
       at : (i : ℕ) → i < length l → getD (take (length l) (drop from d)) i 0 ≡ getD l i 0
       at i k = getD-take (length l) (drop from d) i 0 k ∙ getD-drop from d i 0 ∙ g i k
 
-in-own : (d l : List ℕ) (q m : ℕ) → isIn l q ≡ true → isIn (chainOf 683 d q .sectors) m ≡ true → isIn (allSectors d l) m ≡ true
+pub in-own : (d l : List ℕ) (q m : ℕ) → isIn l q ≡ true → isIn (chainOf 683 d q .sectors) m ≡ true → isIn (allSectors d l) m ≡ true
 unfolding allSectors some
 in-own d [] q m e h = never e
 in-own d (p ∷ l) q m e h = in-append (chainOf 683 d p .sectors) (allSectors d l) m ∙ go (eqb q p) refl e (λ i. in-own d l q m i h) where

@@ -47,7 +47,7 @@ module _ (d : List ℕ) (p : ℕ) (x : Parts d) (listed-p : isIn (listed d) p �
   abbrev own : List ℕ
   own = chainOf 683 d p .sectors
 
-  abbrev made : List ℕ
+  abbrev pub made : List ℕ
   made = markedAll (set d p 0) (chainOf 683 d p .sectors) true
 
   abbrev dir : List ℕ
@@ -86,13 +86,13 @@ module _ (d : List ℕ) (p : ℕ) (x : Parts d) (listed-p : isIn (listed d) p �
   still q a z i h = byte (q + i) (behind (omega (arith, a .is, a .low))) (entry-bytes p q i place a z h)
 
   -- the listed entries: one fewer
-  abbrev left : List ℕ
+  abbrev pub left : List ℕ
   left = entriesThat true made (directory d .sectors)
 
-  left-is : listed made ≡ left
+  pub left-is : listed made ≡ left
   left-is = ap (λ (c : Chain). entriesThat true made (c .sectors)) dir-same
 
-  fewer : Without p (listed d) left
+  pub fewer : Without p (listed d) left
   unfolding entriesThat
   fewer =
       let e : ℕ = run .at in
@@ -139,7 +139,7 @@ module _ (d : List ℕ) (p : ℕ) (x : Parts d) (listed-p : isIn (listed d) p �
         (byte (256 * m) (behind (omega arith)) (λ e. omega (arith, place .is, place .high, place .eight)))
         (byte (256 * m + 1) (behind (omega arith)) (λ e. omega (arith, place .is, place .high, place .eight)))
 
-  same : AllSame d made left
+  pub same : AllSame d made left
   same q i = entry-same d made q long (λ j h. still q (left-from q i) (left-not q i) j h) (λ m k. off-link m (by-held d 683 (linkAt d (q + 1)) m k))
 
   apart-two : Apart (chainOf 683 d p .sectors) (allSectors d left)

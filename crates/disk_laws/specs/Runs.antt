@@ -1,8 +1,9 @@
 -- A call over a disk, and the disk behind it (docs/RULES.md, "Disks").
 -- Assumes nothing.
 use Prim.Native.Nat.{ℕ}
-use mathlib.Core.Bool.{Bool, true, false}
+use mathlib.Core.Bool.{Bool, true, false, not, _&&_}
 use mathlib.Core.List.{List, [], _∷_}
+use Rattle.d64.specs.Entries.{sameName}
 use Rattle.d64.specs.Calls.{formatted, saved, scratched, ontoDisk}
 
 -- a call, with the name and the image that it is given
@@ -32,3 +33,16 @@ afterCall disk (Scratch name) = ontoDisk (scratched disk name) disk .disk
 unfoldable pub afterCalls : List ℕ → List Call → List ℕ
 afterCalls disk [] = disk
 afterCalls disk (c ∷ cs) = afterCalls (afterCall disk c) cs
+
+-- a call that neither formats nor scratches the file of a name
+abbrev pub spares : List ℕ → Call → Bool
+spares name Format = false
+spares name Check = true
+spares name (Read other) = true
+spares name (Save other image) = true
+spares name (Scratch other) = not (sameName other name)
+
+-- each call of a list does
+unfoldable pub allSpare : List ℕ → List Call → Bool
+allSpare name [] = true
+allSpare name (c ∷ cs) = spares name c && allSpare name cs
