@@ -7,31 +7,29 @@ use mathlib.Core.List.{List, [], _∷_, _++_}
 use lib.Dec.{eqb, leb, ltb}
 use lib.ListN.{length, getD, take, drop, replicate, length-append, length-replicate, length-take, length-drop, List·getD-append}
 use lib.Seq.{ext-getD, getD-take, getD-drop}
-use native.Mathlib.Decide.{decLt}
 use native.Mathlib.Omega.{arith}
 use borrow.Author.Tests.{eqb-true, eq-eqb, not-true, ltb-true}
-use Rattle.refusals.specs.Answer.{Answer, done, refused}
+use Rattle.refusals.specs.Answer.{Answer, done}
 use Rattle.d64.specs.Places.{trackOf, sectorOf, offTrack18}
 use Rattle.d64.specs.Lists.{some, isIn, noneTwice}
 use Rattle.d64.specs.Links.{linkTo, linkAt}
 use Rattle.d64.specs.declared.Link.{Link}
 use Rattle.d64.specs.declared.Link.the-variants.{To}
 use Rattle.d64.specs.Map.{bitAt}
-use Rattle.d64.specs.Free.{mapAgrees, markedAll}
-use Rattle.d64.specs.Chains.{Chain, mayHold}
-use Rattle.d64.specs.Entries.{directory, listed, nameAt, beforeA0, isNamed, entriesGood, chainBy, chainOf}
-use Rattle.d64.specs.Check.{files, sound}
-use Rattle.d64.specs.Calls.{isFileName, sectorsFor, taken, laid, entryBytes, saved, ontoDisk}
+use Rattle.d64.specs.Free.{markedAll}
+use Rattle.d64.specs.Chains.{Chain}
+use Rattle.d64.specs.Entries.{directory, listed, nameAt, beforeA0, isNamed, chainBy, chainOf}
+use Rattle.d64.specs.Calls.{isFileName, taken, laid, entryBytes, saved, ontoDisk}
 use Rattle.disk_laws.specs.Runs.{Save}
-use Rattle.disk_laws.proofs.Counting.{and-left, and-right, or-right, in-append}
+use Rattle.disk_laws.proofs.Counting.{and-right, or-right, in-append}
 use Rattle.disk_laws.proofs.Geometry.{link-back}
-use Rattle.disk_laws.proofs.Elsewhere.{Within, before, behind, marked-all-off, laid-off}
+use Rattle.disk_laws.proofs.Elsewhere.{Within, laid-off}
 use Rattle.disk_laws.proofs.Kept.{never, in-at, name-short, taken-below, not-taken, kept-by-calls}
 use Rattle.disk_laws.proofs.Saved.{Tested, was-tested, taken-once, taken-held, taken-long, laid-long, saved-chain}
-use Rattle.disk_laws.proofs.Fuel.{allSectors, AllEnd}
-use Rattle.disk_laws.proofs.Without.{Without, Apart, in-all, end-all, apart-all, Good, good-more, Same, AllSame, some-same, good-same, sectors-same, ends-same}
+use Rattle.disk_laws.proofs.Fuel.{allSectors}
+use Rattle.disk_laws.proofs.Without.{Without, Apart, in-all, end-all, apart-all, good-more, AllSame, some-same, good-same, sectors-same, ends-same}
 use Rattle.disk_laws.proofs.Mapped.{agrees-again}
-use Rattle.disk_laws.proofs.Parts.{Parts, parts, all-held, files-all, link-same, entry-same, map-same}
+use Rattle.disk_laws.proofs.Parts.{Parts, parts, files-all, link-same, entry-same, map-same}
 
 -- ---- the name in an entry
 

@@ -1,18 +1,18 @@
 -- A save whose entry goes into one that is not listed: one entry more, and all else of the directory as it was.
 -- Assumes nothing.
-use Prim.Native.Nat.{ℕ, zero, suc, _+_, _-_, _*_, _/_, _%_, _≤_, _<_}
+use Prim.Native.Nat.{ℕ, zero, suc, _+_, _*_, _/_, _%_, _≤_, _<_}
 use mathlib.Core.Path.{_≡_, refl, sym, ap, subst, _∙_}
-use mathlib.Core.Bool.{Bool, true, false, not, cond, _&&_, _||_}
-use mathlib.Core.List.{List, [], _∷_}
+use mathlib.Core.Bool.{true, false, not}
+use mathlib.Core.List.{List}
 use lib.Dec.{eqb}
 use lib.ListN.{length, getD}
 use lib.Seq.{sets, length-sets}
 use native.Mathlib.Decide.{decLt}
 use native.Mathlib.Omega.{arith}
-use borrow.Author.Tests.{eq-eqb, not-true}
-use Rattle.d64.specs.Lists.{some, isIn, noneTwice}
+use borrow.Author.Tests.{not-true}
+use Rattle.d64.specs.Lists.{isIn, noneTwice}
 use Rattle.d64.specs.Links.{linkAt}
-use Rattle.d64.specs.Map.{bitOf, bitAt}
+use Rattle.d64.specs.Map.{bitOf}
 use Rattle.d64.specs.Free.{markedAll}
 use Rattle.d64.specs.Chains.{Chain}
 use Rattle.d64.specs.Entries.{directory, entryAt, entriesOf, isListed, isThat, entriesThat, listed}

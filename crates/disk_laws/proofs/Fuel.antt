@@ -1,20 +1,16 @@
 -- The chains of all listed files, without the count of sectors that bounds them: each file's chain, one after the other.
 -- Assumes nothing.
-use Prim.Native.Nat.{ℕ, zero, suc, _+_, _-_, _*_, _≤_, _<_}
+use Prim.Native.Nat.{ℕ, zero, suc, _+_, _-_, _*_, _≤_}
 use mathlib.Core.Path.{_≡_, refl, sym, ap, _∙_}
-use mathlib.Core.Bool.{Bool, true, false, cond, _||_}
+use mathlib.Core.Bool.{Bool, true, false, cond}
 use mathlib.Core.List.{List, [], _∷_, _++_}
-use lib.Dec.{eqb}
 use lib.ListN.{length, length-append}
 use native.Mathlib.Omega.{arith}
-use borrow.Author.Tests.{eq-eqb}
-use Rattle.d64.specs.Lists.{some, isIn}
 use Rattle.d64.specs.Links.{linkAt}
 use Rattle.d64.specs.declared.Link.{Link}
 use Rattle.d64.specs.declared.Link.the-variants.{Last, To, Astray}
 use Rattle.d64.specs.Chains.{Chain, chain, brokenChain, mayHold, chainOnward}
 use Rattle.d64.specs.Entries.{chainBy, chainOf, chainsBehind, chains}
-use Rattle.disk_laws.proofs.Counting.{or-right}
 use Rattle.disk_laws.proofs.Kept.{never}
 
 -- a chain that ends is the same wherever it is let have its sectors

@@ -4,12 +4,12 @@ use Prim.Native.Nat.{ℕ, zero, suc, _+_, _-_, _*_, _/_, _%_, _≤_, _<_}
 use mathlib.Core.Path.{_≡_, refl, sym, ap, subst, _∙_}
 use mathlib.Core.Bool.{Bool, true, false, not, cond, _&&_, _||_}
 use mathlib.Core.List.{List, [], _∷_, _++_, map}
-use lib.Dec.{eqb, leb, ltb}
-use lib.ListN.{length, getD, replicate, length-append, List·getD-append, getD-replicate}
-use lib.Seq.{sets, length-sets, getD-append-add}
+use lib.Dec.{eqb, leb}
+use lib.ListN.{length, getD, length-append, List·getD-append, getD-replicate}
+use lib.Seq.{sets, length-sets}
 use native.Mathlib.Decide.{decLt}
 use native.Mathlib.Omega.{arith}
-use borrow.Author.Tests.{eqb-true, eqb-false, eq-eqb, ne-eqb, not-true, le-leb, leb-true}
+use borrow.Author.Tests.{eqb-true, eq-eqb, ne-eqb, le-leb, leb-true}
 use Rattle.d64.specs.Places.{trackOf, sectorOf}
 use Rattle.d64.specs.Lists.{numbersFrom, those, some, isIn, noneTwice}
 use Rattle.d64.specs.Links.{linkTo, linkAt}
@@ -17,20 +17,20 @@ use Rattle.d64.specs.declared.Link.{Link}
 use Rattle.d64.specs.declared.Link.the-variants.{Last, To, Astray}
 use Rattle.d64.specs.Map.{bitOf, bitAt, marked}
 use Rattle.d64.specs.Chains.{Chain, chain, brokenChain, mayHold, chainOnward}
-use Rattle.d64.specs.Entries.{directory, entryAt, entriesOf, isListed, isThat, entriesThat, listed}
-use Rattle.d64.specs.Calls.{isFileName, taken, entryBytes, sectorBytes, outside, grown}
+use Rattle.d64.specs.Entries.{directory, entryAt, isListed, isThat, entriesThat, listed}
+use Rattle.d64.specs.Calls.{isFileName, taken, entryBytes, sectorBytes, grown}
 use Rattle.chains.proofs.Marking.{marked-long}
 use Rattle.sound.proofs.Looking.{numbers-long}
 use Rattle.saves.proofs.Placing.{directory-some}
-use Rattle.disk_laws.proofs.Counting.{and-left, and-right, or-right, count, count-not, stand-all, in-append}
+use Rattle.disk_laws.proofs.Counting.{and-left, and-right, or-right, count-not, stand-all}
 use Rattle.disk_laws.proofs.Geometry.{link-back, track-2}
 use Rattle.disk_laws.proofs.Marks.{bit-marked}
 use Rattle.disk_laws.proofs.Totals.{chain-held}
 use Rattle.disk_laws.proofs.Elsewhere.{Off, before, behind, narrow, sets-off, marked-off, sector-long}
 use Rattle.disk_laws.proofs.Fresh.{sets-at, none-those}
-use Rattle.disk_laws.proofs.Kept.{never, in-at, in-those, entry-long, name-short, dir-sector}
-use Rattle.disk_laws.proofs.Without.{Without, put-in, Apart, lists-apart}
-use Rattle.disk_laws.proofs.Parts.{Parts, link-same, FromRun, that-from, EntryPlace, entry-place}
+use Rattle.disk_laws.proofs.Kept.{never, in-at, entry-long, name-short, dir-sector}
+use Rattle.disk_laws.proofs.Without.{Without, put-in, lists-apart}
+use Rattle.disk_laws.proofs.Parts.{Parts, link-same, FromRun, that-from}
 use Rattle.disk_laws.proofs.Added.{Added}
 use Rattle.disk_laws.proofs.Entered.{written, written-long, written-18}
 

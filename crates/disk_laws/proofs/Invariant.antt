@@ -2,7 +2,7 @@
 -- make 683, no sector is in two chains, and the check holds."
 -- Assumes nothing.
 use Prim.Native.Nat.{ℕ, _+_, _-_, _*_, _≤_}
-use mathlib.Core.Path.{_≡_, refl, sym, ap, subst, _∙_}
+use mathlib.Core.Path.{_≡_, refl, ap, subst, _∙_}
 use mathlib.Core.Bool.{Bool, true, false, not, cond, _||_}
 use mathlib.Core.List.{List, [], _∷_}
 use lib.Dec.{eqb}
@@ -12,7 +12,7 @@ use native.Mathlib.Omega.{arith}
 use borrow.Author.Tests.{eq-eqb, not-true}
 use Rattle.refusals.specs.Numbers.{badDisk}
 use Rattle.refusals.specs.Answer.{Answer, done, refused}
-use Rattle.d64.specs.Lists.{numbersFrom, those, some, isIn, noneTwice}
+use Rattle.d64.specs.Lists.{numbersFrom, some, isIn, noneTwice}
 use Rattle.d64.specs.Entries.{directory, entriesThat}
 use Rattle.d64.specs.Free.{freeSectors}
 use Rattle.d64.specs.Check.{files, sound}
@@ -23,7 +23,7 @@ use Rattle.disk_laws.proofs.Totals.{all-accounted-for, in-one-chain}
 use Rattle.disk_laws.proofs.Fresh.{fresh-sound}
 use Rattle.disk_laws.proofs.Kept.{in-those, outside-on}
 use Rattle.disk_laws.proofs.Saved.{Tested, was-tested}
-use Rattle.disk_laws.proofs.Parts.{Parts, parts, parts-sound}
+use Rattle.disk_laws.proofs.Parts.{parts, parts-sound}
 use Rattle.disk_laws.proofs.Scratched.{scratched-sound}
 use Rattle.disk_laws.proofs.Added.{Added, added-parts}
 use Rattle.disk_laws.proofs.Entered.{written, entered}

@@ -1,25 +1,25 @@
 -- The check by its parts, over each file's own chain; and what of a disk they hang on.
 -- Assumes nothing.
-use Prim.Native.Nat.{ℕ, zero, suc, _+_, _-_, _*_, _/_, _%_, _≤_, _<_}
-use mathlib.Core.Path.{_≡_, refl, sym, ap, subst, _∙_}
-use mathlib.Core.Bool.{Bool, true, false, not, cond, _&&_, _||_}
-use mathlib.Core.List.{List, [], _∷_, _++_, map}
+use Prim.Native.Nat.{ℕ, zero, suc, _+_, _*_, _/_, _%_, _≤_, _<_}
+use mathlib.Core.Path.{_≡_, refl, sym, ap, _∙_}
+use mathlib.Core.Bool.{Bool, true, false, not, _&&_, _||_}
+use mathlib.Core.List.{List, [], _∷_, map}
 use lib.Dec.{eqb, leb, ltb}
-use lib.ListN.{length, getD, take, drop}
+use lib.ListN.{length, getD}
 use native.Mathlib.Omega.{arith}
 use borrow.Author.Tests.{eqb-true, eq-eqb, ltb-true, leb-true}
 use Rattle.d64.specs.Places.{offTrack18}
-use Rattle.d64.specs.Lists.{numbersFrom, those, some, isIn, noneTwice}
+use Rattle.d64.specs.Lists.{numbersFrom, some, isIn, noneTwice}
 use Rattle.d64.specs.Links.{linkTo, linkAt}
 use Rattle.d64.specs.declared.Link.{Link}
 use Rattle.d64.specs.declared.Link.the-variants.{Last, To, Astray}
 use Rattle.d64.specs.Map.{bitAt}
 use Rattle.d64.specs.Free.{mapAgrees, markedAll}
 use Rattle.d64.specs.Chains.{Chain, chain, mayHold}
-use Rattle.d64.specs.Entries.{directory, entryAt, entriesOf, isThat, entriesThat, listed, nameAt, beforeA0, entriesGood, chainBy, chainOf, chains}
+use Rattle.d64.specs.Entries.{directory, entryAt, entriesOf, isThat, entriesThat, listed, nameAt, beforeA0, entriesGood, chainBy, chainOf}
 use Rattle.d64.specs.Check.{files, sound}
 use Rattle.sound.proofs.Looking.{numbers-long}
-use Rattle.disk_laws.proofs.Counting.{and-left, and-right, or-right, count, count-not, stand-all, in-append}
+use Rattle.disk_laws.proofs.Counting.{and-left, and-right, count-not, stand-all, in-append}
 use Rattle.disk_laws.proofs.Totals.{Holds, holds, all-hold, chain-held, by-held}
 use Rattle.disk_laws.proofs.Kept.{never, in-at, in-those-list, dir-sector}
 use Rattle.disk_laws.proofs.Files.{chain-same, part-same}

@@ -1,8 +1,8 @@
 -- "A saved file reads back exactly its bytes, after any further calls that neither scratch it nor format."
 -- Assumes nothing.
-use Prim.Native.Nat.{ℕ, zero, suc, _+_, _-_, _*_, _≤_, _<_}
+use Prim.Native.Nat.{ℕ, zero, suc, _+_, _*_, _<_}
 use mathlib.Core.Path.{_≡_, refl, sym, ap, subst, _∙_}
-use mathlib.Core.Bool.{Bool, true, false, not, cond, _&&_, _||_}
+use mathlib.Core.Bool.{Bool, true, false, cond, _||_}
 use mathlib.Core.List.{List, [], _∷_}
 use lib.Dec.{eqb, ltb}
 use lib.ListN.{length, getD, drop, set}
@@ -19,12 +19,12 @@ use Rattle.disk_laws.proofs.Counting.{and-left, and-right, or-right}
 use Rattle.disk_laws.proofs.Kept.{never, in-those, in-those-list, kept-by-calls}
 use Rattle.disk_laws.proofs.Saved.{Tested, was-tested, passes, taken-long, all-lie, saved-bytes}
 use Rattle.disk_laws.proofs.Without.{Without, here, there, Same, AllSame, some-same}
-use Rattle.disk_laws.proofs.Added.{Added, in-own, same, chain-new, name-new}
+use Rattle.disk_laws.proofs.Added.{in-own, same, chain-new, name-new}
 use Rattle.disk_laws.proofs.Invariant.{AddedAt, save-adds, saved-sound, sound-kept}
 use Rattle.disk_laws.proofs.Parts.{Parts, parts, files-all}
 use Rattle.disk_laws.proofs.Scratched.{left, left-is, fewer, same as same-left}
 use Rattle.d64.specs.Free.{markedAll}
-use Rattle.disk_laws.proofs.Laid.{Lies, LieAll, lies-bytes}
+use Rattle.disk_laws.proofs.Laid.{LieAll, lies-bytes}
 use Rattle.disk_laws.proofs.Elsewhere.{Within}
 use Rattle.disk_laws.proofs.Totals.{by-held}
 use Rattle.d64.specs.Places.{offTrack18}

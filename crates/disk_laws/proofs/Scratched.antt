@@ -1,26 +1,25 @@
 -- A scratch keeps the check.
 -- Assumes nothing.
-use Prim.Native.Nat.{ℕ, zero, suc, _+_, _-_, _*_, _/_, _%_, _≤_, _<_}
+use Prim.Native.Nat.{ℕ, zero, suc, _+_, _*_, _≤_, _<_}
 use mathlib.Core.Path.{_≡_, refl, sym, ap, subst, _∙_}
-use mathlib.Core.Bool.{Bool, true, false, not, cond, _&&_, _||_}
+use mathlib.Core.Bool.{Bool, true, false, not, cond, _||_}
 use mathlib.Core.List.{List, [], _∷_}
 use lib.Dec.{eqb, ltb}
 use lib.ListN.{length, getD, set, length-set}
-use lib.Seq.{getD-set-same, getD-set-other}
+use lib.Seq.{getD-set-same}
 use native.Mathlib.Decide.{decLt}
 use native.Mathlib.Omega.{arith}
-use borrow.Author.Tests.{eqb-true, eqb-false, eq-eqb, ltb-true}
+use borrow.Author.Tests.{eq-eqb, ltb-true}
 use Rattle.refusals.specs.Numbers.{badDisk, badName}
 use Rattle.refusals.specs.Answer.{Answer, done, refused}
 use Rattle.d64.specs.Places.{offTrack18}
-use Rattle.d64.specs.Lists.{numbersFrom, those, some, isIn, noneTwice}
+use Rattle.d64.specs.Lists.{some, isIn, noneTwice}
 use Rattle.d64.specs.Links.{linkAt}
-use Rattle.d64.specs.Map.{bitAt}
 use Rattle.d64.specs.Free.{mapAgrees, markedAll}
 use Rattle.d64.specs.Chains.{Chain, mayHold}
-use Rattle.d64.specs.Entries.{directory, entryAt, entriesOf, isListed, isThat, entriesThat, listed, isNamed, entriesGood, chainOf}
+use Rattle.d64.specs.Entries.{directory, entryAt, entriesOf, isThat, entriesThat, listed, isNamed, entriesGood, chainOf}
 use Rattle.d64.specs.Check.{sound}
-use Rattle.d64.specs.Calls.{isFileName, onSound, ofFile, entriesNamed, scratched}
+use Rattle.d64.specs.Calls.{isFileName, ofFile, entriesNamed, scratched}
 use Rattle.chains.proofs.Marking.{marked-all-long}
 use Rattle.disk_laws.proofs.Counting.{and-left, and-right}
 use Rattle.disk_laws.proofs.Totals.{by-held}
@@ -28,7 +27,7 @@ use Rattle.disk_laws.proofs.Elsewhere.{Off, before, behind, set-off, ma
 use Rattle.disk_laws.proofs.Kept.{never, in-those, in-those-list}
 use Rattle.disk_laws.proofs.Saved.{passes}
 use Rattle.disk_laws.proofs.Fuel.{allSectors, AllEnd}
-use Rattle.disk_laws.proofs.Without.{Without, Apart, in-all, all-end, all-apart, good-less, Same, AllSame, good-same, sectors-same, ends-same, put-in}
+use Rattle.disk_laws.proofs.Without.{Without, Apart, in-all, all-end, all-apart, good-less, AllSame, good-same, sectors-same, ends-same, put-in}
 use Rattle.disk_laws.proofs.Mapped.{agrees-again}
 use Rattle.disk_laws.proofs.Parts.{Parts, parts, parts-sound, link-same, directory-same, entry-same, map-same, FromRun, that-from, EntryPlace, entry-place, entries-apart}
 
