@@ -5,3 +5,4 @@
 pub mod input;
 pub mod names;
 pub mod output;
+pub mod result;

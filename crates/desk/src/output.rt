@@ -1,5 +1,6 @@
 // What is written. Every write's answer is looked at, and standard error names what failed.
 use crate::names;
+use crate::result;
 use lent::Outcome;
 use libc::STDERR_FILENO;
 use libc::STDOUT_FILENO;
@@ -18,83 +19,6 @@ const DONE: u8 = b'0';
 const REFUSED: u8 = b'1';
 
 const FAILED: u8 = b'3';
-
-fn write_to(fd: i32, name: &[u8], bytes: &[u8]) -> bool {
-    let done = io::write_all(fd, bytes);
-    if !done {
-        os::fail(name);
-    }
-    done
-}
-
-// Some systems tell only here, or where the file is closed, that what was written had no room.
-fn is_kept(fd: i32, name: &[u8]) -> bool {
-    let done = libc::fsync(fd) >= 0;
-    if !done {
-        os::fail(name);
-    }
-    done
-}
-
-fn is_closed(fd: i32, name: &[u8]) -> bool {
-    let done = libc::close(fd) >= 0;
-    if !done {
-        os::fail(name);
-    }
-    done
-}
-
-fn is_renamed(part: &[u8], name: &[u8]) -> bool {
-    let done = os::rename(part, name) >= 0;
-    if !done {
-        os::fail(name);
-    }
-    done
-}
-
-// Writes what has no whole, as a device.
-fn write_in_place(name: &[u8], bytes: &[u8]) -> bool {
-    let fd = os::open_overwrite(name);
-    if fd < 0 {
-        os::fail(name);
-        return false;
-    }
-    write_to(fd, name, bytes) && is_closed(fd, name)
-}
-
-// Writes a file whole, or not at all: what was there before stays as it was where anything fails.
-fn write_beside(part: &[u8], name: &[u8], bytes: &[u8]) -> bool {
-    let fd = os::create(part);
-    if fd < 0 {
-        os::fail(name);
-        return false;
-    }
-    let done = write_to(fd, name, bytes)
-        && is_kept(fd, name)
-        && is_closed(fd, name)
-        && is_renamed(part, name);
-    if !done {
-        if os::unlink(part) < 0 {
-            os::fail(part);
-        }
-    }
-    done
-}
-
-// Writes a result to the file that the program was given, or to standard output.
-fn write_result(bytes: &[u8]) -> bool {
-    if !names::is_file(names::OUT) {
-        return write_to(STDOUT_FILENO, b"standard output", bytes);
-    }
-    let mut name = io::buffer();
-    let n = names::name(names::OUT, &mut name);
-    let mut part = io::buffer();
-    let m = names::name(names::PART, &mut part);
-    if m == 0 {
-        return write_in_place(&name[..n], bytes);
-    }
-    write_beside(&part[..m], &name[..n], bytes)
-}
 
 fn write_line(name: &[u8], text: &[u8], code: Code) -> bool
     requires { ⌜ length (now text) ≤ 1048576 ⌝ }
@@ -128,8 +52,8 @@ fn write_number(number: u8) -> bool {
     }
     let mut line = [0u8; 20];
     let n = io::decimal(number as u64, &mut line);
-    write_to(STDOUT_FILENO, b"standard output", &line[..n])
-        && write_to(STDOUT_FILENO, b"standard output", b"\n")
+    result::write_to(STDOUT_FILENO, b"standard output", &line[..n])
+        && result::write_to(STDOUT_FILENO, b"standard output", b"\n")
 }
 
 // Tells the status, last of all. Where that fails, it is missing, which is told apart too.
@@ -181,12 +105,17 @@ pub fn fail() {
     end(FAILED, true);
 }
 
+// Ends a program whose result was written, or could not be.
+pub fn done(written: bool) {
+    end(DONE, written);
+}
+
 // Ends a program with its result, the first bytes of a buffer, or with its refusal.
 pub fn answer(outcome: Outcome, bytes: &[u8], text: &[u8])
     requires { ⌜ Holds outcome (now bytes) × (length (now text) ≤ 1048576) ⌝ }
 {
     match outcome {
-        Outcome::Done(n) => end(DONE, write_result(&bytes[0..n])),
+        Outcome::Done(n) => done(result::write_whole(&bytes[0..n])),
         Outcome::Refused(refusal) => refuse(refusal, text),
     }
 }

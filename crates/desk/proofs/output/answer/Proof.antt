@@ -5,8 +5,8 @@ use borrow.Author.Needs.{needs}
 use Rattle.desk.proofs.output.answer.Statement.{statement}
 use Rattle.desk.proofs.output.answer.Tie as tie
 
-part-write-result-end : tie.Need-part-write-result-end
-part-write-result-end c = search result-count
+part-write-whole-end : tie.Need-part-write-whole-end
+part-write-whole-end c = search result-count
 
 pub answer-spec : {M : Type 1} → statement M
 answer-spec =
@@ -15,7 +15,7 @@ answer-spec =
     (λ c. search needs)
     (λ c. search needs)
     (λ c. search needs)
-    part-write-result-end
+    part-write-whole-end
     (λ c κs. search needs)
     (λ c κs. search needs)
     (λ c. search needs)

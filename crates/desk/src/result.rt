@@ -1,0 +1,111 @@
+// A result, written to the file that the program was given or to standard output, at once or in parts. Either way a file appears whole or
+// not at all: what was there before stays as it was where anything fails.
+use crate::names;
+use libc::STDOUT_FILENO;
+ghost use Rattle.io.specs.Counts.{Counts};
+
+// What the file is called, at the start of a buffer; nothing for standard output.
+pub fn name(buf: &mut [u8]) -> usize
+    ensures { λ r. ⌜ Counts r (now (buf .exit)) ⌝ }
+{
+    if names::is_file(names::OUT) {
+        return names::name(names::OUT, buf);
+    }
+    0
+}
+
+// Opens what the result goes to: the name beside the file, or the file itself where that has no whole, as a device. A number below 0
+// where it cannot be opened, which standard error tells.
+pub fn begin(name: &[u8]) -> i32 {
+    if !names::is_file(names::OUT) {
+        return STDOUT_FILENO;
+    }
+    let mut part = io::buffer();
+    let m = names::name(names::PART, &mut part);
+    let fd = if m == 0 {
+        os::open_overwrite(name)
+    } else {
+        os::create(&part[..m])
+    };
+    if fd < 0 {
+        os::fail(name);
+    }
+    fd
+}
+
+// Writes a part; false where it cannot be written, which standard error tells.
+pub fn write(fd: i32, name: &[u8], bytes: &[u8]) -> bool {
+    if name.len() == 0 {
+        return write_to(fd, b"standard output", bytes);
+    }
+    write_to(fd, name, bytes)
+}
+
+// Ends the result, with every part written or not; whether the file is there now, whole.
+pub fn finish(fd: i32, name: &[u8], written: bool) -> bool {
+    if !names::is_file(names::OUT) {
+        return written;
+    }
+    let mut part = io::buffer();
+    let m = names::name(names::PART, &mut part);
+    if m == 0 {
+        return written && is_closed(fd, name);
+    }
+    let done = written && is_kept(fd, name) && is_closed(fd, name) && is_renamed(&part[..m], name);
+    if !done {
+        remove(&part[..m]);
+    }
+    done
+}
+
+// Writes a result that is one part.
+pub fn write_whole(bytes: &[u8]) -> bool {
+    let mut buf = io::buffer();
+    let n = name(&mut buf);
+    let fd = begin(&buf[..n]);
+    if fd < 0 {
+        return false;
+    }
+    let written = write(fd, &buf[..n], bytes);
+    finish(fd, &buf[..n], written)
+}
+
+pub fn write_to(fd: i32, name: &[u8], bytes: &[u8]) -> bool {
+    let done = io::write_all(fd, bytes);
+    if !done {
+        os::fail(name);
+    }
+    done
+}
+
+// Some systems tell only here, or where the file is closed, that what was written had no room.
+fn is_kept(fd: i32, name: &[u8]) -> bool {
+    let done = libc::fsync(fd) >= 0;
+    if !done {
+        os::fail(name);
+    }
+    done
+}
+
+fn is_closed(fd: i32, name: &[u8]) -> bool {
+    let done = libc::close(fd) >= 0;
+    if !done {
+        os::fail(name);
+    }
+    done
+}
+
+fn is_renamed(part: &[u8], name: &[u8]) -> bool {
+    let done = os::rename(part, name) >= 0;
+    if !done {
+        os::fail(name);
+    }
+    done
+}
+
+// Takes away what was written of a file that is not to be.
+fn remove(part: &[u8]) {
+    if os::unlink(part) < 0 {
+        os::fail(part);
+    }
+}
