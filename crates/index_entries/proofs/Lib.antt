@@ -1,1 +1,3 @@
+pub mod Back
+pub mod OfImages
 pub mod Reading
