@@ -1,7 +1,10 @@
-// Op 1C: the line index.
+// Ops 1C to 1E: the line index, a target in one, an entry of one.
+ghost use Rattle.cases.specs.Frames.{Sendable};
 use crate::frames;
 use crate::rooms;
 use frames::Answer;
+use index_entries::Held;
+use index_entries::Kind;
 
 pub fn index(payload: &[u8], room: &mut [u8]) -> bool {
     if payload.len() < 4 {
@@ -14,4 +17,34 @@ pub fn index(payload: &[u8], room: &mut [u8]) -> bool {
     rooms::fill(&mut room[0..size]);
     let outcome = line_index::write_index(&payload[4..], &mut room[0..size]);
     frames::length_of(outcome).send_with(&room[0..size])
+}
+
+pub fn look_up(payload: &[u8]) -> bool {
+    if payload.len() < 2 {
+        return Answer::malformed().send();
+    }
+    let number = frames::u16_at(payload, 0) as usize;
+    held(index_entries::look_up(number, &payload[2..])).send()
+}
+
+pub fn entry(payload: &[u8]) -> bool {
+    if payload.len() < 9 {
+        return Answer::malformed().send();
+    }
+    let place = frames::u64_at(payload, 1) as usize;
+    match payload[0] {
+        0 => held(index_entries::entry(Kind::Line, place, &payload[9..])).send(),
+        1 => held(index_entries::entry(Kind::Jump, place, &payload[9..])).send(),
+        _ => Answer::malformed().send(),
+    }
+}
+
+// 0 where an index holds nothing, or 1 and two numbers.
+fn held(answer: Held) -> Answer
+    ensures { λ r. ⌜ Sendable r ⌝ }
+{
+    match answer {
+        Held::Nothing => Answer::done().byte(0),
+        Held::Numbers { first, second } => Answer::done().byte(1).number(first).number(second),
+    }
 }

@@ -47,6 +47,8 @@ fn answer_request(op: u8, payload: &[u8], room: &mut [u8], disk: &mut [u8]) -> b
         0x1A => measured::measured_line(payload),
         0x1B => counted::count_images(payload),
         0x1C => indexes::index(payload, room),
+        0x1D => indexes::look_up(payload),
+        0x1E => indexes::entry(payload),
         0x20 => disks::format(payload, disk),
         0x21 => disks::save(payload, disk),
         0x22 => disks::read(payload, room),
