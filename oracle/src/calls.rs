@@ -27,6 +27,9 @@ pub const ADDRESSED_STEP_BY_TERMINATORS: u8 = 0x18;
 pub const ADDRESSED_STEP_BY_LINKS: u8 = 0x19;
 pub const MEASURED_LINE: u8 = 0x1A;
 pub const COUNT_IMAGES: u8 = 0x1B;
+pub const LINE_INDEX: u8 = 0x1C;
+pub const LOOK_UP: u8 = 0x1D;
+pub const INDEX_ENTRY: u8 = 0x1E;
 pub const FORMAT_DISK: u8 = 0x20;
 pub const SAVE_FILE: u8 = 0x21;
 pub const READ_FILE: u8 = 0x22;
@@ -38,7 +41,7 @@ pub const LINKED_LISTING_ROOM: u8 = 0x31;
 /// Whether the original, or a model of our own, can answer an op.
 pub fn is_known(op: u8) -> bool {
     matches!(op, CRUNCH..=LISTING_ROOM | LINE_BY_NUMBER)
-        || matches!(op, ADDRESSED_STEP_BY_TERMINATORS..=COUNT_IMAGES)
+        || matches!(op, ADDRESSED_STEP_BY_TERMINATORS..=INDEX_ENTRY)
         || is_under_options(op)
         || is_of_disks(op)
 }
@@ -135,6 +138,19 @@ pub enum Call<'a> {
         count: u32,
         images: &'a [u8],
     },
+    LineIndex {
+        room: usize,
+        image: &'a [u8],
+    },
+    LookUp {
+        number: u16,
+        index: &'a [u8],
+    },
+    IndexEntry {
+        kind: u8,
+        place: u64,
+        index: &'a [u8],
+    },
     FormatDisk {
         disk: &'a [u8],
     },
@@ -226,6 +242,19 @@ impl<'a> Call<'a> {
                 (counted::list(images)?.len() as u64 == u64::from(count))
                     .then_some(Call::CountImages { count, images })?
             }
+            LINE_INDEX => Call::LineIndex {
+                room: fields.room()?,
+                image: fields.rest(),
+            },
+            LOOK_UP => Call::LookUp {
+                number: fields.address()?,
+                index: fields.rest(),
+            },
+            INDEX_ENTRY => Call::IndexEntry {
+                kind: fields.kind()?,
+                place: fields.number()?,
+                index: fields.rest(),
+            },
             FORMAT_DISK => Call::FormatDisk {
                 disk: fields.rest(),
             },
@@ -319,6 +348,13 @@ impl<'a> Call<'a> {
             Call::CountImages { count, images } => {
                 (COUNT_IMAGES, count.to_le_bytes().to_vec(), images)
             }
+            Call::LineIndex { room, image } => (LINE_INDEX, length_field(room), image),
+            Call::LookUp { number, index } => (LOOK_UP, number.to_le_bytes().to_vec(), index),
+            Call::IndexEntry { kind, place, index } => (
+                INDEX_ENTRY,
+                [&[kind], &place.to_le_bytes()[..]].concat(),
+                index,
+            ),
             Call::FormatDisk { disk } => (FORMAT_DISK, vec![], disk),
             Call::SaveFile { name, image, disk } => {
                 let fixed = [name_field(name), length_field(image.len()), image.to_vec()];
@@ -356,6 +392,9 @@ pub fn fixed_part(op: u8) -> usize {
         LINKED_LISTING_ROOM => 1 + 1,
         MEASURED_LINE => 2 + 1 + 1 + 8,
         COUNT_IMAGES => 4,
+        LINE_INDEX => 4,
+        LOOK_UP => 2,
+        INDEX_ENTRY => 1 + 8,
         SAVE_FILE => 2 + 4,
         READ_FILE => 4 + 2,
         SCRATCH_FILE => 2,

@@ -61,6 +61,12 @@ impl<'a> Fields<'a> {
         })
     }
 
+    /// The kind of an index's entry: a line or a jump.
+    pub fn kind(&mut self) -> Option<u8> {
+        let [kind] = self.take()?;
+        (kind <= 1).then_some(kind)
+    }
+
     pub fn room(&mut self) -> Option<usize> {
         let room = u32::from_le_bytes(self.take()?) as usize;
         (room <= ROOM_LIMIT).then_some(room)

@@ -9,6 +9,7 @@ use crate::counted::{self, Totals};
 use crate::disk::{self, CheckedDisk};
 use crate::found::{self, Found};
 use crate::frames::{self, Incoming, Request};
+use crate::indexes::{self, Pair};
 use crate::library::{self, Checked, Step};
 use crate::measured::{self, MeasuredLine};
 use crate::modes;
@@ -111,6 +112,12 @@ fn answer_call(call: &Call) -> Vec<u8> {
             text,
         } => plain(measured::line(load, dialect, place, text).map(measured_line)),
         Call::CountImages { images, .. } => counted_images(&counted::totals(images)),
+        Call::LineIndex { room, image } => lent(indexes::index(image), room),
+        Call::LookUp { number, index } => plain(Ok(held(indexes::look_up(number, index)))),
+        Call::IndexEntry { kind, place, index } => plain(Ok(held(match kind {
+            0 => indexes::line_entry(place, index),
+            _ => indexes::jump_entry(place, index),
+        }))),
         Call::FormatDisk { disk } => changed(disk, disk::format(disk)),
         Call::SaveFile { name, image, disk } => changed(disk, disk::save(disk, name, image)),
         Call::ReadFile { room, name, disk } => [&lent(disk::read(disk, name), room), disk].concat(),
@@ -212,6 +219,13 @@ fn counted_images(totals: &Totals) -> Vec<u8> {
         false => vec![DONE],
     };
     [first, fields(&totals.numbers())].concat()
+}
+
+fn held(found: Option<Pair>) -> Vec<u8> {
+    match found {
+        Some((first, second)) => [vec![1], fields(&[first, second])].concat(),
+        None => vec![0],
+    }
 }
 
 fn fields(numbers: &[u64]) -> Vec<u8> {

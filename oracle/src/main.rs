@@ -22,6 +22,7 @@ mod fields;
 mod found;
 mod frames;
 mod generate;
+mod indexes;
 mod judge;
 mod library;
 mod links;

@@ -76,6 +76,11 @@ fn of_call(call: &Call) -> String {
         Call::CountImages { count, images } => {
             format!("counts over {count} images: {}", hex(images))
         }
+        Call::LineIndex { room, image } => format!("line index, room {room}: {}", hex(image)),
+        Call::LookUp { number, index } => format!("line {number} of an index: {}", hex(index)),
+        Call::IndexEntry { kind, place, index } => {
+            format!("entry {place} of kind {kind} of an index: {}", hex(index))
+        }
         Call::FormatDisk { disk } => format!("format a {}", disk_of(disk)),
         Call::SaveFile { name, image, disk } => format!(
             "save {} bytes under {} on a {}",
@@ -107,7 +112,7 @@ pub fn answer(op: u8, body: &[u8]) -> String {
 
 fn of_results(op: u8, results: &[u8]) -> String {
     let shown = match op {
-        calls::CRUNCH | calls::LISTING => of_lent(op, results),
+        calls::CRUNCH | calls::LISTING | calls::LINE_INDEX => of_lent(op, results),
         calls::SECOND_LISTING | calls::LINKED_LISTING => of_lent(op, results),
         calls::CRUNCH_ROOM | calls::LISTING_ROOM => named(&["length"], results),
         calls::SECOND_LISTING_ROOM | calls::LINKED_LISTING_ROOM => named(&["length"], results),
@@ -123,6 +128,8 @@ fn of_results(op: u8, results: &[u8]) -> String {
         }
         calls::MEASURED_LINE => of_line(&MEASURED_LABELS, results),
         calls::COUNT_IMAGES => of_totals(results),
+        calls::LOOK_UP => of_line(&["place", "link offset"], results),
+        calls::INDEX_ENTRY => of_line(&["first", "second"], results),
         calls::FORMAT_DISK | calls::SAVE_FILE | calls::SCRATCH_FILE => Some(disk_of(results)),
         calls::READ_FILE => before_disk(&["length"], results),
         calls::CHECK_DISK => before_disk(&["files", "free sectors"], results),

@@ -2,6 +2,7 @@
 
 use crate::calls::{self, Call, ROOM_LIMIT, Reader};
 use crate::frames::Request;
+use crate::indexes;
 use crate::library;
 use crate::modes::{self, ListOptions};
 use crate::random::Random;
@@ -129,6 +130,14 @@ pub fn of_image(op: u8, image: &[u8], random: &mut Random) -> Request {
             options: list_options(op, random),
             image,
         },
+        calls::LINE_INDEX => {
+            let index = indexes::index(image);
+            Call::LineIndex {
+                room: room(index.ok().map(|index| index.len()), random),
+                image,
+            }
+        }
+        calls::LOOK_UP | calls::INDEX_ENTRY => return of_index(op, image, random),
         _ => unreachable!("op {op:02X} takes no image"),
     };
     call.encode()
@@ -187,6 +196,37 @@ fn list_options(op: u8, random: &mut Random) -> ListOptions {
             by: Reader::Links,
         },
     }
+}
+
+/// A question to the index of an image, whole or cut, or to any bytes.
+fn of_index(op: u8, image: &[u8], random: &mut Random) -> Request {
+    let mut index = match indexes::index(image) {
+        Ok(index) if !random.one_in(8) => index,
+        _ => image.to_vec(),
+    };
+    if random.one_in(4) {
+        index.truncate(random.below(index.len() + 1));
+    }
+    let index = &index;
+    let place = match random.below(8) {
+        0 => random.pick(&HUGE),
+        _ => random.below(8) as u64,
+    };
+    let call = match op {
+        calls::LOOK_UP => {
+            let number = match indexes::line_entry(place, index) {
+                Some((number, _)) => number as u16,
+                None => random.pick(&[0, 10, 20, 0xFFFF]),
+            };
+            Call::LookUp { number, index }
+        }
+        _ => Call::IndexEntry {
+            kind: random.below(2) as u8,
+            place,
+            index,
+        },
+    };
+    call.encode()
 }
 
 /// A search for a line that is there, mostly, with a limit around its place.
