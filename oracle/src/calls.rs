@@ -30,6 +30,7 @@ pub const COUNT_IMAGES: u8 = 0x1B;
 pub const LINE_INDEX: u8 = 0x1C;
 pub const LOOK_UP: u8 = 0x1D;
 pub const INDEX_ENTRY: u8 = 0x1E;
+pub const JUMP_REPORT: u8 = 0x1F;
 pub const FORMAT_DISK: u8 = 0x20;
 pub const SAVE_FILE: u8 = 0x21;
 pub const READ_FILE: u8 = 0x22;
@@ -41,7 +42,7 @@ pub const LINKED_LISTING_ROOM: u8 = 0x31;
 /// Whether the original, or a model of our own, can answer an op.
 pub fn is_known(op: u8) -> bool {
     matches!(op, CRUNCH..=LISTING_ROOM | LINE_BY_NUMBER)
-        || matches!(op, ADDRESSED_STEP_BY_TERMINATORS..=INDEX_ENTRY)
+        || matches!(op, ADDRESSED_STEP_BY_TERMINATORS..=JUMP_REPORT)
         || is_under_options(op)
         || is_of_disks(op)
 }
@@ -151,6 +152,10 @@ pub enum Call<'a> {
         place: u64,
         index: &'a [u8],
     },
+    JumpReport {
+        room: usize,
+        image: &'a [u8],
+    },
     FormatDisk {
         disk: &'a [u8],
     },
@@ -255,6 +260,10 @@ impl<'a> Call<'a> {
                 place: fields.number()?,
                 index: fields.rest(),
             },
+            JUMP_REPORT => Call::JumpReport {
+                room: fields.room()?,
+                image: fields.rest(),
+            },
             FORMAT_DISK => Call::FormatDisk {
                 disk: fields.rest(),
             },
@@ -355,6 +364,7 @@ impl<'a> Call<'a> {
                 [&[kind], &place.to_le_bytes()[..]].concat(),
                 index,
             ),
+            Call::JumpReport { room, image } => (JUMP_REPORT, length_field(room), image),
             Call::FormatDisk { disk } => (FORMAT_DISK, vec![], disk),
             Call::SaveFile { name, image, disk } => {
                 let fixed = [name_field(name), length_field(image.len()), image.to_vec()];
@@ -392,7 +402,7 @@ pub fn fixed_part(op: u8) -> usize {
         LINKED_LISTING_ROOM => 1 + 1,
         MEASURED_LINE => 2 + 1 + 1 + 8,
         COUNT_IMAGES => 4,
-        LINE_INDEX => 4,
+        LINE_INDEX | JUMP_REPORT => 4,
         LOOK_UP => 2,
         INDEX_ENTRY => 1 + 8,
         SAVE_FILE => 2 + 4,

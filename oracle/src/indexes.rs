@@ -28,6 +28,14 @@ pub fn index(image: &[u8]) -> Result<Vec<u8>, Refusal> {
     Ok(packed(&bits))
 }
 
+/// The jumps of an image whose target no line has.
+pub fn report(image: &[u8]) -> Result<Vec<u8>, Refusal> {
+    let found = entries(image)?;
+    let has_line = |target: u64| found.lines.iter().any(|&(number, _)| number == target);
+    let lost = found.jumps.iter().filter(|jump| !has_line(jump.1));
+    Ok(packed(&lost.flat_map(jump_bits).collect::<Vec<_>>()))
+}
+
 /// The first line of an index with a number: its place from 1 and its link offset.
 pub fn look_up(number: u16, index: &[u8]) -> Option<Pair> {
     let bits = unpacked(index);

@@ -118,6 +118,7 @@ fn answer_call(call: &Call) -> Vec<u8> {
             0 => indexes::line_entry(place, index),
             _ => indexes::jump_entry(place, index),
         }))),
+        Call::JumpReport { room, image } => lent(indexes::report(image), room),
         Call::FormatDisk { disk } => changed(disk, disk::format(disk)),
         Call::SaveFile { name, image, disk } => changed(disk, disk::save(disk, name, image)),
         Call::ReadFile { room, name, disk } => [&lent(disk::read(disk, name), room), disk].concat(),

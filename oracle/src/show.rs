@@ -81,6 +81,9 @@ fn of_call(call: &Call) -> String {
         Call::IndexEntry { kind, place, index } => {
             format!("entry {place} of kind {kind} of an index: {}", hex(index))
         }
+        Call::JumpReport { room, image } => {
+            format!("report of jumps, room {room}: {}", hex(image))
+        }
         Call::FormatDisk { disk } => format!("format a {}", disk_of(disk)),
         Call::SaveFile { name, image, disk } => format!(
             "save {} bytes under {} on a {}",
@@ -112,7 +115,9 @@ pub fn answer(op: u8, body: &[u8]) -> String {
 
 fn of_results(op: u8, results: &[u8]) -> String {
     let shown = match op {
-        calls::CRUNCH | calls::LISTING | calls::LINE_INDEX => of_lent(op, results),
+        calls::CRUNCH | calls::LISTING | calls::LINE_INDEX | calls::JUMP_REPORT => {
+            of_lent(op, results)
+        }
         calls::SECOND_LISTING | calls::LINKED_LISTING => of_lent(op, results),
         calls::CRUNCH_ROOM | calls::LISTING_ROOM => named(&["length"], results),
         calls::SECOND_LISTING_ROOM | calls::LINKED_LISTING_ROOM => named(&["length"], results),

@@ -3,6 +3,7 @@
 
 mod counts;
 mod disk;
+mod indexes;
 mod lines;
 mod modes;
 

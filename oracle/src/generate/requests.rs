@@ -137,6 +137,13 @@ pub fn of_image(op: u8, image: &[u8], random: &mut Random) -> Request {
                 image,
             }
         }
+        calls::JUMP_REPORT => {
+            let report = indexes::report(image);
+            Call::JumpReport {
+                room: room(report.ok().map(|report| report.len()), random),
+                image,
+            }
+        }
         calls::LOOK_UP | calls::INDEX_ENTRY => return of_index(op, image, random),
         _ => unreachable!("op {op:02X} takes no image"),
     };
