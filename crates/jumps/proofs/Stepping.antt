@@ -24,7 +24,7 @@ use Rattle.jumps.specs.declared.Cursor.{Cursor}
 use Rattle.jumps.specs.declared.Moved.{Moved}
 use Rattle.jumps.specs.declared.Next.{Next}
 use Rattle.jumps.specs.declared.Next.the-variants.{Jump, None}
-use Rattle.jumps.specs.Jumps.{withDigit, told, targetsFrom, openedList, heeded, jumpsFrom}
+use Rattle.jumps.specs.Jumps.{withDigit, jumpTold, targetsFrom, openedList, heeded, jumpsFrom}
 use Rattle.jumps.specs.JumpHelpers.{low, lowPart, leftFrom, leftOf, distance, Moves, JumpsTo, NextIs, Begins}
 use Rattle.jumps.proofs.Targets.{targets-none, targets-digit, targets-space, targets-comma, targets-other, low-early}
 use Rattle.jumps.proofs.Walking.{Inert, jumps-none, jumps-more, jumps-pass}
@@ -53,11 +53,11 @@ digit-low b e t = between-in 48 57 b (sym e ∙ t) .0
 abbrev cut : List ℕ → List ℕ
 cut = map low
 
-low-told : (p : Part) (ts : List ℕ) → cut (told p ts) ≡ told (lowPart p) (cut ts)
+low-told : (p : Part) (ts : List ℕ) → cut (jumpTold p ts) ≡ jumpTold (lowPart p) (cut ts)
 low-told Empty ts = refl
 low-told (Worth v) ts = refl
 
-told-then : (p : Part) (ts us : List ℕ) → told p ts ++ us ≡ told p (ts ++ us)
+told-then : (p : Part) (ts us : List ℕ) → jumpTold p ts ++ us ≡ jumpTold p (ts ++ us)
 told-then Empty ts us = refl
 told-then (Worth v) ts us = refl
 
@@ -141,10 +141,10 @@ module _ (body : List ℕ) (c : Cursor) (listed : c .listed ≡ true) (h : c .at
         rw g (record {
           same =
               split ∙ ap (λ (x : List ℕ). cut x ++ jumps (byteAt body c ∷ s)) (targets-comma (c .part) (byteAt body c) s e f)
-              ∙ ap (λ (x : List ℕ). cut (told (c .part) (targetsFrom Empty s)) ++ x) (pass (omega arith))
+              ∙ ap (λ (x : List ℕ). cut (jumpTold (c .part) (targetsFrom Empty s)) ++ x) (pass (omega arith))
               ∙ ap (λ (x : List ℕ). x ++ jumps s) (low-told (c .part) (targetsFrom Empty s))
               ∙ told-then (lowPart (c .part)) (cut (targetsFrom Empty s)) (jumps s)
-              ∙ ap (told (lowPart (c .part))) (sym (left-list body d refl));
+              ∙ ap (jumpTold (lowPart (c .part))) (sym (left-list body d refl));
           nearer = omega (arith, one);
         })
 
@@ -157,8 +157,8 @@ module _ (body : List ℕ) (c : Cursor) (listed : c .listed ≡ true) (h : c .at
               split ∙ ap (λ (x : List ℕ). cut x ++ jumps (byteAt body c ∷ s)) (targets-other (c .part) (byteAt body c) s e f k)
               ∙ ap (λ (x : List ℕ). x ++ jumps (byteAt body c ∷ s)) (low-told (c .part) [])
               ∙ told-then (lowPart (c .part)) [] (jumps (byteAt body c ∷ s))
-              ∙ ap (λ (x : List ℕ). told (lowPart (c .part)) (cut (jumpsFrom (c .mode) x))) (sym byte)
-              ∙ ap (told (lowPart (c .part))) (sym (left-text body d refl));
+              ∙ ap (λ (x : List ℕ). jumpTold (lowPart (c .part)) (cut (jumpsFrom (c .mode) x))) (sym byte)
+              ∙ ap (jumpTold (lowPart (c .part))) (sym (left-text body d refl));
           nearer = omega (arith, one);
         })
 
@@ -225,11 +225,11 @@ onwards-start body c = record { same = refl; near = omega arith }
 module _ {body : List ℕ} {c₀ c : Cursor} (o : Onwards body c₀ c) {m : Moved} (k : Moves body c m) where
   pub onwards-turn : m .told ≡ Empty → Onwards body c₀ (m .cursor)
   onwards-turn e =
-      record { same = o .same ∙ k .same ∙ ap (λ (p : Part). told (lowPart p) (leftOf body (m .cursor))) e; near = omega (arith, o .near, k .nearer) }
+      record { same = o .same ∙ k .same ∙ ap (λ (p : Part). jumpTold (lowPart p) (leftOf body (m .cursor))) e; near = omega (arith, o .near, k .nearer) }
 
   pub next-told : {target : ℕ} → m .told ≡ Worth target → JumpsTo body c₀ target (m .cursor)
   next-told e =
-      record { same = o .same ∙ k .same ∙ ap (λ (p : Part). told (lowPart p) (leftOf body (m .cursor))) e; nearer = omega (arith, o .near, k .nearer) }
+      record { same = o .same ∙ k .same ∙ ap (λ (p : Part). jumpTold (lowPart p) (leftOf body (m .cursor))) e; nearer = omega (arith, o .near, k .nearer) }
 
 pub next-last : {body : List ℕ} {c₀ c : Cursor} → Onwards body c₀ c → (r : Next) → NextIs body c r → NextIs body c₀ r
 next-last o (Jump target d) k = record { same = o .same ∙ k .same; nearer = omega (arith, o .near, k .nearer) }
@@ -240,22 +240,22 @@ module _ (body : List ℕ) (c : Cursor) (h : length body ≤ c .at) where
   pub last-text : c .listed ≡ false → leftOf body c ≡ []
   last-text e = left-text body c e ∙ ap (λ (x : List ℕ). cut (jumpsFrom (c .mode) x)) (drop-of-length-le body h) ∙ ap cut (jumps-none (c .mode))
 
-  last-list : c .listed ≡ true → leftOf body c ≡ told (lowPart (c .part)) []
+  last-list : c .listed ≡ true → leftOf body c ≡ jumpTold (lowPart (c .part)) []
   last-list e =
       left-list body c e ∙ ap (λ (x : List ℕ). cut (targetsFrom (c .part) x) ++ cut (jumpsFrom (c .mode) x)) (drop-of-length-le body h)
       ∙ ap (λ (x : List ℕ). cut x ++ cut (jumpsFrom (c .mode) [])) (targets-none (c .part))
-      ∙ ap (λ (x : List ℕ). cut (told (c .part) []) ++ cut x) (jumps-none (c .mode))
-      ∙ append-nil (cut (told (c .part) [])) ∙ low-told (c .part) []
+      ∙ ap (λ (x : List ℕ). cut (jumpTold (c .part) []) ++ cut x) (jumps-none (c .mode))
+      ∙ append-nil (cut (jumpTold (c .part) [])) ∙ low-told (c .part) []
 
   pub last-empty : c .listed ≡ true → c .part ≡ Empty → leftOf body c ≡ []
-  last-empty e f = last-list e ∙ ap (λ (p : Part). told (lowPart p) []) f
+  last-empty e f = last-list e ∙ ap (λ (p : Part). jumpTold (lowPart p) []) f
 
   pub last-worth : c .listed ≡ true → {target : ℕ} → c .part ≡ Worth target
       → JumpsTo body c target (record { at = c .at; mode = c .mode; listed = false; part = Empty })
   last-worth e {target} f =
       record {
         same =
-            last-list e ∙ ap (λ (p : Part). told (lowPart p) []) f
+            last-list e ∙ ap (λ (p : Part). jumpTold (lowPart p) []) f
             ∙ ap (λ (x : List ℕ). low target ∷ x) (sym (left-text body d refl ∙ ap (λ (x : List ℕ). cut (jumpsFrom (c .mode) x)) (drop-of-length-le body h) ∙ ap cut (jumps-none (c .mode))));
         nearer = let z : _≡_ {A = ℕ} (cond (c .listed) 1 0) 1 = ap (λ (t : Bool). cond t 1 0) e in omega arith;
       }

@@ -11,10 +11,10 @@ use Rattle.ascii.specs.Bytes.{between, isDigit}
 use Rattle.ascii.proofs.Ranges.{between-in}
 use Rattle.jumps.specs.declared.Part.{Part}
 use Rattle.jumps.specs.declared.Part.the-variants.{Empty, Worth}
-use Rattle.jumps.specs.Jumps.{withDigit, told, targetsFrom}
+use Rattle.jumps.specs.Jumps.{withDigit, jumpTold, targetsFrom}
 use Rattle.jumps.specs.JumpHelpers.{low, lowPart}
 
-pub targets-none : (p : Part) → targetsFrom p [] ≡ told p []
+pub targets-none : (p : Part) → targetsFrom p [] ≡ jumpTold p []
 unfolding targetsFrom
 targets-none p = refl
 
@@ -28,11 +28,11 @@ module _ (p : Part) (b : ℕ) (s : List ℕ) where
     unfolding targetsFrom
     targets-space f = rw (targetsFrom, e, eq-eqb b 0x20 f)
 
-    pub targets-comma : b ≡ 0x2C → targetsFrom p (b ∷ s) ≡ told p (targetsFrom Empty s)
+    pub targets-comma : b ≡ 0x2C → targetsFrom p (b ∷ s) ≡ jumpTold p (targetsFrom Empty s)
     unfolding targetsFrom
     targets-comma f = let n : b ≡ 0x20 → ⊥ = λ q. omega arith in rw (targetsFrom, e, ne-eqb b 0x20 n, eq-eqb b 0x2C f)
 
-    pub targets-other : (b ≡ 0x20 → ⊥) → (b ≡ 0x2C → ⊥) → targetsFrom p (b ∷ s) ≡ told p []
+    pub targets-other : (b ≡ 0x20 → ⊥) → (b ≡ 0x2C → ⊥) → targetsFrom p (b ∷ s) ≡ jumpTold p []
     unfolding targetsFrom
     targets-other f g = rw (targetsFrom, e, ne-eqb b 0x20 f, ne-eqb b 0x2C g)
 
@@ -42,7 +42,7 @@ low-digit : (p : Part) (d : ℕ) → lowPart (withDigit (lowPart p) d) ≡ lowPa
 low-digit Empty d = refl
 low-digit (Worth v) d = ap Worth (omega arith)
 
-low-told : (p : Part) (ts us : List ℕ) → map low ts ≡ map low us → map low (told (lowPart p) ts) ≡ map low (told p us)
+low-told : (p : Part) (ts us : List ℕ) → map low ts ≡ map low us → map low (jumpTold (lowPart p) ts) ≡ map low (jumpTold p us)
 low-told Empty ts us e = e
 low-told (Worth v) ts us e = ap (λ (n : ℕ). n ∷ map low ts) (omega arith) ∙ ap (λ (x : List ℕ). low v ∷ x) e
 

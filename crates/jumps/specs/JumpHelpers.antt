@@ -17,7 +17,7 @@ use Rattle.jumps.specs.declared.Next.the-variants.{Jump, None}
 use Rattle.jumps.specs.declared.Opened.{Opened}
 use Rattle.jumps.specs.declared.Opened.the-variants.{List as ListAt, Nothing}
 use Rattle.ascii.specs.Search.{equals, past}
-use Rattle.jumps.specs.Jumps.{behindTo, told, targetsFrom, openedList, jumpsFrom}
+use Rattle.jumps.specs.Jumps.{behindTo, jumpTold, targetsFrom, openedList, jumpsFrom}
 
 -- a target, cut
 abbrev pub low : ℕ → ℕ
@@ -43,7 +43,7 @@ distance body c = 2 * (length body - c .at) + cond (c .listed) 1 0
 
 -- a step tells a target or none, and is nearer to the end
 pub record Moves (body : List ℕ) (c : Cursor) (r : Moved) : Type 0 where
-  pub same : leftOf body c ≡ told (lowPart (r .told)) (leftOf body (r .cursor))
+  pub same : leftOf body c ≡ jumpTold (lowPart (r .told)) (leftOf body (r .cursor))
   pub nearer : distance body (r .cursor) < distance body c
 
 -- a jump, and what is left behind it, nearer to the end

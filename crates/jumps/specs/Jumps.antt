@@ -25,20 +25,20 @@ withDigit Empty d = Worth d
 withDigit (Worth v) d = Worth (v * 10 + d)
 
 -- a part that is not empty is a jump to its value
-abbrev pub told : Part → List ℕ → List ℕ
-told Empty rest = rest
-told (Worth v) rest = v ∷ rest
+abbrev pub jumpTold : Part → List ℕ → List ℕ
+jumpTold Empty rest = rest
+jumpTold (Worth v) rest = v ∷ rest
 
 -- the targets of the list that bytes begin with, behind a part
 unfoldable pub targetsFrom : Part → List ℕ → List ℕ
 unfolding between
-targetsFrom p [] = told p []
+targetsFrom p [] = jumpTold p []
 targetsFrom p (b ∷ s) =
     elim (isDigit b) [
       | true ↦ targetsFrom (withDigit p (b - 48)) s
       | false ↦ elim (eqb b 0x20) [
         | true ↦ targetsFrom p s
-        | false ↦ elim (eqb b 0x2C) [ true ↦ told p (targetsFrom Empty s) | false ↦ told p [] ]
+        | false ↦ elim (eqb b 0x2C) [ true ↦ jumpTold p (targetsFrom Empty s) | false ↦ jumpTold p [] ]
       ]
     ]
 

@@ -26,7 +26,7 @@ use Rattle.jumps.specs.JumpHelpers.{low, leftOf, distance, JumpsTo, NextIs}
 use Rattle.jumps.proofs.Stepping.{left-text}
 use Rattle.line_index.specs.declared.Counted.{Counted}
 use Rattle.line_index.specs.declared.Counted.the-variants.{TooHigh, Jumps}
-use Rattle.line_index.specs.IndexHelpers.{foundFrom, Sound, lowJumps, lowTargets, counted, AtMost, CountedIs}
+use Rattle.line_index.specs.IndexHelpers.{foundFrom, Sound, lowJumps, lowTargets, targetsCounted, AtMost, CountedIs}
 use Rattle.line_index.proofs.Sounding.{SoundLine, sound-line, sound-end, sound-refused}
 
 -- ---- a mark
@@ -44,46 +44,46 @@ module _ (marked : List ℕ) (target : ℕ) where
 -- ---- the cases of `counted`
 
 module _ (marked : List ℕ) (n t : ℕ) (ts : List ℕ) where
-  counted-high : 65535 < t → counted marked n (t ∷ ts) ≡ TooHigh
-  unfolding counted
+  counted-high : 65535 < t → targetsCounted marked n (t ∷ ts) ≡ TooHigh
+  unfolding targetsCounted
   counted-high h = simp (lt-ltb _ _ h)
 
-  counted-more : t ≤ 65535 → counted marked n (t ∷ ts) ≡ counted marked (n + cond (eqb (getD marked t 0) 0) 1 0) ts
-  unfolding counted
+  counted-more : t ≤ 65535 → targetsCounted marked n (t ∷ ts) ≡ targetsCounted marked (n + cond (eqb (getD marked t 0) 0) 1 0) ts
+  unfolding targetsCounted
   counted-more h = simp (le-ltb _ _ h)
 
-counted-none : (marked : List ℕ) (n : ℕ) → counted marked n [] ≡ Jumps n
-unfolding counted
+counted-none : (marked : List ℕ) (n : ℕ) → targetsCounted marked n [] ≡ Jumps n
+unfolding targetsCounted
 counted-none marked n = refl
 
 -- what is counted of a list, and then of another
 abbrev thenCounted : List ℕ → List ℕ → Counted → Counted
 thenCounted marked us TooHigh = TooHigh
-thenCounted marked us (Jumps m) = counted marked m us
+thenCounted marked us (Jumps m) = targetsCounted marked m us
 
-counted-both : (marked ts us : List ℕ) (n : ℕ) → counted marked n (ts ++ us) ≡ thenCounted marked us (counted marked n ts)
-unfolding counted
+counted-both : (marked ts us : List ℕ) (n : ℕ) → targetsCounted marked n (ts ++ us) ≡ thenCounted marked us (targetsCounted marked n ts)
+unfolding targetsCounted
 counted-both marked [] us n = refl
 counted-both marked (t ∷ ts) us n = go (ltb 65535 t) (counted-both marked ts us (n + cond (eqb (getD marked t 0) 0) 1 0))
   where
     m : ℕ
     m = n + cond (eqb (getD marked t 0) 0) 1 0
 
-    go : (b : Bool) → counted marked m (ts ++ us) ≡ thenCounted marked us (counted marked m ts)
-        → cond b TooHigh (counted marked m (ts ++ us)) ≡ thenCounted marked us (cond b TooHigh (counted marked m ts))
+    go : (b : Bool) → targetsCounted marked m (ts ++ us) ≡ thenCounted marked us (targetsCounted marked m ts)
+        → cond b TooHigh (targetsCounted marked m (ts ++ us)) ≡ thenCounted marked us (cond b TooHigh (targetsCounted marked m ts))
     go true ih = refl
     go false ih = ih
 
 -- ---- the loop over a body
 
 pub record CountingBody (marked body : List ℕ) (n₀ n : ℕ) (c : Cursor) : Type 0 where
-  pub same : counted marked n (leftOf body c) ≡ counted marked n₀ (lowJumps body)
+  pub same : targetsCounted marked n (leftOf body c) ≡ targetsCounted marked n₀ (lowJumps body)
   pub few : n + distance body c ≤ n₀ + 2 * length body
 
 pub counting-start : (marked body : List ℕ) (n : ℕ) {c : Cursor} → c ≡ record { at = 0; mode = Plain; listed = false; part = Empty } → CountingBody marked body n n c
 counting-start marked body n e =
     rw e (record {
-      same = ap (counted marked n) (left-text body (record { at = 0; mode = Plain; listed = false; part = Empty }) refl);
+      same = ap (targetsCounted marked n) (left-text body (record { at = 0; mode = Plain; listed = false; part = Empty }) refl);
       few = omega arith;
     })
 
@@ -95,7 +95,7 @@ module _ {marked body : List ℕ} {n₀ n : ℕ} {c : Cursor} (k : CountingBody 
     pub counting-high : 65535 < target → CountedIs marked n₀ (lowJumps body) (n₀ + 2 * length body) TooHigh
     counting-high h =
         record {
-          is = sym (counted-high marked n (low target) (leftOf body d) (omega arith)) ∙ ap (counted marked n) (sym (jumped .same)) ∙ k .same;
+          is = sym (counted-high marked n (low target) (leftOf body d) (omega arith)) ∙ ap (targetsCounted marked n) (sym (jumped .same)) ∙ k .same;
           few = tt;
         }
 
@@ -104,8 +104,8 @@ module _ {marked body : List ℕ} {n₀ n : ℕ} {c : Cursor} (k : CountingBody 
         let w : low target ≡ target = omega arith in
         record {
           same =
-              ap (λ (m : ℕ). counted marked (n + m) (leftOf body d)) f ∙ sym (counted-more marked n target (leftOf body d) h)
-              ∙ ap (λ (t : ℕ). counted marked n (t ∷ leftOf body d)) (sym w) ∙ ap (counted marked n) (sym (jumped .same)) ∙ k .same;
+              ap (λ (m : ℕ). targetsCounted marked (n + m) (leftOf body d)) f ∙ sym (counted-more marked n target (leftOf body d) h)
+              ∙ ap (λ (t : ℕ). targetsCounted marked n (t ∷ leftOf body d)) (sym w) ∙ ap (targetsCounted marked n) (sym (jumped .same)) ∙ k .same;
           few = omega (arith, k .few, jumped .nearer);
         }
 
@@ -115,7 +115,7 @@ module _ {marked body : List ℕ} {n₀ n : ℕ} {c : Cursor} (k : CountingBody 
   pub counting-end : r ≡ None → CountedIs marked n₀ (lowJumps body) (n₀ + 2 * length body) (Jumps n)
   counting-end is =
       record {
-        is = sym (counted-none marked n) ∙ ap (counted marked n) (sym (subst (NextIs body c) is next)) ∙ k .same;
+        is = sym (counted-none marked n) ∙ ap (targetsCounted marked n) (sym (subst (NextIs body c) is next)) ∙ k .same;
         few = omega (arith, k .few);
       }
 
@@ -123,7 +123,7 @@ module _ {marked body : List ℕ} {n₀ n : ℕ} {c : Cursor} (k : CountingBody 
 
 pub record CountingLines (marked s : List ℕ) (p n : ℕ) : Type 0 where
   pub sound : Sound s p
-  pub same : counted marked n (lowTargets s (foundFrom s p)) ≡ counted marked 0 (lowTargets s (foundFrom s 2))
+  pub same : targetsCounted marked n (lowTargets s (foundFrom s p)) ≡ targetsCounted marked 0 (lowTargets s (foundFrom s 2))
   pub few : n ≤ 2 * p
   pub within : p ≤ length s
 
@@ -155,13 +155,13 @@ module _ {marked s : List ℕ} {p n : ℕ} {r : Step} (e : stepAnswer r ≡ link
     pub count-low : length s ≤ 1048576 → n ≤ 4294967296
     count-low h = omega (arith, k .few, k .within)
 
-    here : counted marked n (lowTargets s (foundFrom s p)) ≡ thenCounted marked (lowTargets s (foundFrom s (l .next))) (counted marked n (lowJumps (bodyOf s l)))
+    here : targetsCounted marked n (lowTargets s (foundFrom s p)) ≡ thenCounted marked (lowTargets s (foundFrom s (l .next))) (targetsCounted marked n (lowJumps (bodyOf s l)))
     here =
-        ap (λ (ls : List Line). counted marked n (lowTargets s ls)) (at .line) ∙ ap (counted marked n) (low-first s l (foundFrom s (l .next)))
+        ap (λ (ls : List Line). targetsCounted marked n (lowTargets s ls)) (at .line) ∙ ap (targetsCounted marked n) (low-first s l (foundFrom s (l .next)))
         ∙ counted-both marked (lowJumps (bodyOf s l)) (lowTargets s (foundFrom s (l .next))) n
 
     module _ {t : Counted} {most : ℕ} (c : CountedIs marked n (lowJumps (bodyOf s l)) most t) where
-      told-body : counted marked 0 (lowTargets s (foundFrom s 2)) ≡ thenCounted marked (lowTargets s (foundFrom s (l .next))) t
+      told-body : targetsCounted marked 0 (lowTargets s (foundFrom s 2)) ≡ thenCounted marked (lowTargets s (foundFrom s (l .next))) t
       told-body = sym (k .same) ∙ here ∙ ap (thenCounted marked (lowTargets s (foundFrom s (l .next)))) (sym (c .is))
 
       pub lines-high : t ≡ TooHigh → CountedIs marked 0 (lowTargets s (foundFrom s 2)) 2097152 TooHigh
@@ -184,8 +184,8 @@ module _ {marked s : List ℕ} {p n : ℕ} {r : Step} (e : stepAnswer r ≡ link
   lines-end is h =
       record {
         is =
-            sym (counted-none marked n) ∙ ap (counted marked n) (sym (low-none s))
-            ∙ ap (λ (ls : List Line). counted marked n (lowTargets s ls)) (sym (sound-end s p e (k .sound) is)) ∙ k .same;
+            sym (counted-none marked n) ∙ ap (targetsCounted marked n) (sym (low-none s))
+            ∙ ap (λ (ls : List Line). targetsCounted marked n (lowTargets s ls)) (sym (sound-end s p e (k .sound) is)) ∙ k .same;
         few = omega (arith, k .few, k .within);
       }
 

@@ -16,7 +16,7 @@ use Rattle.readers.specs.Links.{linkStep}
 use Rattle.readers.proofs.ByLinks.{link-sound}
 use Rattle.readers.proofs.Equations.{LiesAt, lines-line, lines-end, lines-refused}
 use Rattle.readers.proofs.Finding.{told}
-use Rattle.line_index.specs.IndexHelpers.{listed, foundFrom, Sound}
+use Rattle.line_index.specs.IndexHelpers.{linesListed, foundFrom, Sound}
 
 -- a line, and no fault behind it
 pub record SoundLine (s : List ℕ) (p : ℕ) (l : Line) : Type 0 where
@@ -32,9 +32,9 @@ module _ (s : List ℕ) (p : ℕ) {r : Step} (e : stepAnswer r ≡ linkStep s p)
       go (done ls) f =
           record {
             line =
-                ap listed (lines-line link-sound s p (told is e) ∙ ap (mapDone (λ ms. l ∷ ms)) f)
-                ∙ ap (λ (a : Answer (List Line)). l ∷ listed a) (sym f);
-            behind = f ∙ ap (λ (a : Answer (List Line)). done (listed a)) (sym f);
+                ap linesListed (lines-line link-sound s p (told is e) ∙ ap (mapDone (λ ms. l ∷ ms)) f)
+                ∙ ap (λ (a : Answer (List Line)). l ∷ linesListed a) (sym f);
+            behind = f ∙ ap (λ (a : Answer (List Line)). done (linesListed a)) (sym f);
             lies = link-sound .lies s p (told is e);
           }
       go (refused n) f =
@@ -43,7 +43,7 @@ module _ (s : List ℕ) (p : ℕ) {r : Step} (e : stepAnswer r ≡ linkStep s p)
           absurd (omega arith)
 
   pub sound-end : r ≡ End → foundFrom s p ≡ []
-  sound-end is = ap listed (lines-end linkStep s p (told is e))
+  sound-end is = ap linesListed (lines-end linkStep s p (told is e))
 
   pub sound-refused : {n : Refusal} → r ≡ Refused n → ⊥
   sound-refused {n} is =

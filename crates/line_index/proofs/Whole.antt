@@ -34,7 +34,7 @@ use Rattle.bits.proofs.Bytes.{length-bits, pack-length}
 use Rattle.line_index.specs.declared.Counted.{Counted}
 use Rattle.line_index.specs.declared.Counted.the-variants.{TooHigh, Jumps}
 use Rattle.line_index.specs.Index.{IndexLine, IndexJump, LineIndex, indexLine, jumpTo, jumpsIn, anyTooHigh, indexLines, indexed, lineFields, jumpFields, indexFields, lineIndex}
-use Rattle.line_index.specs.IndexHelpers.{listed, foundFrom, Sound, lowJumps, lowTargets, counted, AtMost, CountedIs, pairBits, lineBits, targetBit, targetBits, jumpBits, indexBits, Faultless}
+use Rattle.line_index.specs.IndexHelpers.{linesListed, foundFrom, Sound, lowJumps, lowTargets, targetsCounted, AtMost, CountedIs, pairBits, lineBits, targetBit, targetBits, jumpBits, indexBits, Faultless}
 
 -- ---- the jumps, one by one
 
@@ -59,13 +59,13 @@ all-low s v (l ∷ ls) =
     ∙ sym (map-append targetLow (map (jumpTo (v + 1)) (jumpsOf (bodyOf s l))) (jumpsIn s (v + 1) ls))
 
 -- how many there are, and whether one is too high
-counts : (n : ℕ) (js : List IndexJump) → counted [] n (map targetLow js) ≡ cond (anyTooHigh js) TooHigh (Jumps (n + length js))
-unfolding counted anyTooHigh targetLow
+counts : (n : ℕ) (js : List IndexJump) → targetsCounted [] n (map targetLow js) ≡ cond (anyTooHigh js) TooHigh (Jumps (n + length js))
+unfolding targetsCounted anyTooHigh targetLow
 counts n [] = ap Jumps (omega arith)
 counts n (j ∷ js) = go (ltb 65535 (j .target)) refl (counts (n + 1) js)
   where
-    go : (b : Bool) → ltb 65535 (j .target) ≡ b → counted [] (n + 1) (map targetLow js) ≡ cond (anyTooHigh js) TooHigh (Jumps (n + 1 + length js))
-        → cond (ltb 65535 (low (j .target))) TooHigh (counted [] (n + 1) (map targetLow js)) ≡ cond (ltb 65535 (j .target) || anyTooHigh js) TooHigh (Jumps (n + length (j ∷ js)))
+    go : (b : Bool) → ltb 65535 (j .target) ≡ b → targetsCounted [] (n + 1) (map targetLow js) ≡ cond (anyTooHigh js) TooHigh (Jumps (n + 1 + length js))
+        → cond (ltb 65535 (low (j .target))) TooHigh (targetsCounted [] (n + 1) (map targetLow js)) ≡ cond (ltb 65535 (j .target) || anyTooHigh js) TooHigh (Jumps (n + length (j ∷ js)))
     go true e ih =
         let h : 65535 < low (j .target) = omega (arith, ltb-true 65535 (j .target) e) in
         simp (lt-ltb _ _ h, e)
@@ -166,7 +166,7 @@ module _ {s : List ℕ} {n : ℕ} (k : Faultless s n) where
 
   module _ {r : Counted} (c : CountedIs [] 0 (lowTargets s (foundFrom s 2)) 2097152 r) where
     told-count : r ≡ cond (anyTooHigh (jumpsIn s 0 (foundFrom s 2))) TooHigh (Jumps (0 + length (jumpsIn s 0 (foundFrom s 2))))
-    told-count = c .is ∙ ap (counted [] 0) (all-low s 0 (foundFrom s 2)) ∙ counts 0 (jumpsIn s 0 (foundFrom s 2))
+    told-count = c .is ∙ ap (targetsCounted [] 0) (all-low s 0 (foundFrom s 2)) ∙ counts 0 (jumpsIn s 0 (foundFrom s 2))
 
     pub jumps-few : {m : ℕ} → r ≡ Jumps m → m ≤ 2097152
     jumps-few e = subst (AtMost 2097152) e (c .few)
@@ -258,8 +258,8 @@ module _ (s : List ℕ) {r : Checked} (e : checkedAnswer r ≡ overview linkStep
           let w : done (record { load = load; lines = n }) ≡ done (overviewOf s ls) = sym seen ∙ overview-lines linkStep s f in
           let k = subst (Leads linkStep s 2) f (lines-lead link-sound s 2) in
           record {
-            sound = f ∙ ap (λ (a : Answer (List Line)). done (listed a)) (sym f);
-            count = lines-told ls w ∙ ap (λ (a : Answer (List Line)). length (listed a)) (sym f);
+            sound = f ∙ ap (λ (a : Answer (List Line)). done (linesListed a)) (sym f);
+            count = lines-told ls w ∙ ap (λ (a : Answer (List Line)). length (linesListed a)) (sym f);
             short = link-sound .long-enough s (k .0) (k .2);
             long = link-sound .not-too-long s (k .0) (k .2);
           }

@@ -19,12 +19,12 @@ use Rattle.line_index.specs.declared.Counted.{Counted}
 use Rattle.line_index.specs.declared.Counted.the-variants.{TooHigh, Jumps}
 
 -- the lines from p on, and none where there is a fault
-abbrev pub listed : Answer (List Line) → List Line
-listed (done ls) = ls
-listed (refused n) = []
+abbrev pub linesListed : Answer (List Line) → List Line
+linesListed (done ls) = ls
+linesListed (refused n) = []
 
 abbrev pub foundFrom : List ℕ → ℕ → List Line
-foundFrom s p = listed (linesFrom linkStep s p)
+foundFrom s p = linesListed (linesFrom linkStep s p)
 
 -- no fault from p on
 abbrev pub Sound : List ℕ → ℕ → Type 0
@@ -41,9 +41,9 @@ lowTargets s [] = []
 lowTargets s (l ∷ ls) = lowJumps (bodyOf s l) ++ lowTargets s ls
 
 -- how many of the targets are not marked, behind n of them, unless one is too high
-unfoldable pub counted : List ℕ → ℕ → List ℕ → Counted
-counted marked n [] = Jumps n
-counted marked n (t ∷ ts) = cond (ltb 65535 t) TooHigh (counted marked (n + cond (eqb (getD marked t 0) 0) 1 0) ts)
+unfoldable pub targetsCounted : List ℕ → ℕ → List ℕ → Counted
+targetsCounted marked n [] = Jumps n
+targetsCounted marked n (t ∷ ts) = cond (ltb 65535 t) TooHigh (targetsCounted marked (n + cond (eqb (getD marked t 0) 0) 1 0) ts)
 
 -- so many, and no more than a count
 abbrev pub AtMost : ℕ → Counted → Type 0
@@ -51,7 +51,7 @@ AtMost most TooHigh = Unit {0}
 AtMost most (Jumps n) = n ≤ most
 
 pub record CountedIs (marked : List ℕ) (n : ℕ) (ts : List ℕ) (most : ℕ) (r : Counted) : Type 0 where
-  pub is : r ≡ counted marked n ts
+  pub is : r ≡ targetsCounted marked n ts
   pub few : AtMost most r
 
 -- two numbers, the second of 16 bits
