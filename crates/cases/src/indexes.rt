@@ -1,5 +1,5 @@
 // Ops 1C to 1E: the line index, a target in one, an entry of one.
-ghost use Rattle.cases.specs.Frames.{Sendable};
+ghost use Rattle.cases.specs.FramesHelpers.{Sendable};
 use crate::frames;
 use crate::rooms;
 use frames::Answer;
