@@ -1,4 +1,4 @@
-//! How the time grows when a text has twice as many bytes. Each run is a process
+//! How the time grows when a text or an image has twice as many bytes. Each run is a process
 //! of its own, which is cut off after a minute.
 
 use std::hint::black_box;
@@ -80,7 +80,7 @@ pub fn once(name: &str, side: &str, size: &str) -> ExitCode {
     let (Some(growing), Ok(size), true) = (growing, size.parse(), SIDES.contains(&side)) else {
         return ExitCode::from(2);
     };
-    let work = growing.work(size);
+    let work = (growing.work)(size);
     let mut out = work.room();
     let mut least = Duration::MAX;
     let begin = Instant::now();

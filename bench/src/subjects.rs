@@ -10,20 +10,11 @@ pub struct Subject {
     pub work: Work,
 }
 
-/// Texts crunched under Auto, of a size and of twice that size.
+/// A text or an image, of a size and of twice that size.
 pub struct Growing {
     pub name: &'static str,
-    pub text: fn(usize) -> String,
+    pub work: fn(usize) -> Work,
     pub size: usize,
-}
-
-impl Growing {
-    pub fn work(&self, size: usize) -> Work {
-        Work::Crunch {
-            text: (self.text)(size),
-            dialect: Dialect::Auto,
-        }
-    }
 }
 
 /// The size of a program that nearly fills a disk magazine's page.
@@ -109,26 +100,67 @@ pub fn further() -> Vec<Subject> {
 }
 
 pub fn growing() -> Vec<Growing> {
-    let of = |name, text, size| Growing { name, text, size };
+    let of = |name, work, size| Growing { name, work, size };
     vec![
         of(
             "life-like V2 text",
-            |size| lifelike::program(Kind::V2, size),
+            |size| auto(lifelike::program(Kind::V2, size)),
             20_000,
         ),
         of(
             "life-like TSB text",
-            |size| lifelike::program(Kind::Tsb, size),
+            |size| auto(lifelike::program(Kind::Tsb, size)),
             20_000,
         ),
-        of("string of {", hostile::braces, 30_000),
-        of("string of {, to a megabyte", hostile::braces, MEGABYTE / 2),
-        of("string of { and one }", hostile::closed_braces, 4_000),
-        of("MAP( in MAP(", hostile::nested_calls, 20_000),
-        of("one line, to a megabyte", hostile::one_line, MEGABYTE / 2),
-        of("spaces, to a megabyte", hostile::spaces, MEGABYTE / 2),
-        of("line ends, to a megabyte", hostile::line_ends, MEGABYTE / 2),
+        of("string of {", |size| auto(hostile::braces(size)), 30_000),
+        of(
+            "string of {, to a megabyte",
+            |size| auto(hostile::braces(size)),
+            MEGABYTE / 2,
+        ),
+        of(
+            "string of { and one }",
+            |size| auto(hostile::closed_braces(size)),
+            4_000,
+        ),
+        of(
+            "MAP( in MAP(",
+            |size| auto(hostile::nested_calls(size)),
+            20_000,
+        ),
+        of(
+            "one line, to a megabyte",
+            |size| auto(hostile::one_line(size)),
+            MEGABYTE / 2,
+        ),
+        of(
+            "spaces, to a megabyte",
+            |size| auto(hostile::spaces(size)),
+            MEGABYTE / 2,
+        ),
+        of(
+            "line ends, to a megabyte",
+            |size| auto(hostile::line_ends(size)),
+            MEGABYTE / 2,
+        ),
+        of("an image listed", letters, 8_192),
+        of("an image listed, to 65,536 bytes", letters, 32_768),
     ]
+}
+
+/// A text crunched under Auto.
+fn auto(text: String) -> Work {
+    Work::Crunch {
+        text,
+        dialect: Dialect::Auto,
+    }
+}
+
+/// An image of letters, listed.
+fn letters(size: usize) -> Work {
+    Work::List {
+        image: hostile::image(b"HELLO ", size),
+    }
 }
 
 fn crunch(name: &'static str, text: String, dialect: Dialect) -> Subject {
