@@ -1,5 +1,7 @@
 pub mod Counting
 pub mod Fitting
+pub mod Marking
 pub mod Putting
+pub mod Reporting
 pub mod Sounding
 pub mod Whole

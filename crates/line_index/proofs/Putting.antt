@@ -272,7 +272,7 @@ unfolding lineBits
 lines-are [] = tt
 lines-are (l ∷ ls) = are-both (pairBits 16 (l .number) (l .from - 4)) (lineBits ls) (pair-are 16 (l .number) (l .from - 4)) (lines-are ls)
 
-jumps-are : (marked s : List ℕ) (v : ℕ) (ls : List Line) → AreBits (jumpBits marked s v ls)
+pub jumps-are : (marked s : List ℕ) (v : ℕ) (ls : List Line) → AreBits (jumpBits marked s v ls)
 unfolding jumpBits
 jumps-are marked s v [] = tt
 jumps-are marked s v (l ∷ ls) =

@@ -3,7 +3,7 @@
 -- Assumes nothing.
 use Prim.Native.Nat.{ℕ, _+_, _-_, _≤_}
 use mathlib.Core.Path.{_≡_}
-use mathlib.Core.Bool.{cond}
+use mathlib.Core.Bool.{cond, not}
 use mathlib.Core.List.{List, [], _∷_, _++_, map}
 use lib.Dec.{eqb, ltb}
 use lib.ListN.{length, getD}
@@ -15,6 +15,7 @@ use Rattle.readers.specs.Links.{linkStep}
 use Rattle.jumps.specs.Jumps.{jumpsFrom, jumpsOf}
 use Rattle.jumps.specs.JumpHelpers.{low}
 use Rattle.bits.specs.Bits.{bitsOf}
+use Rattle.line_index.specs.Index.{IndexLine, hasLine}
 use Rattle.line_index.specs.declared.Counted.{Counted}
 use Rattle.line_index.specs.declared.Counted.the-variants.{TooHigh, Jumps}
 
@@ -39,6 +40,10 @@ unfoldable pub lowTargets : List ℕ → List Line → List ℕ
 unfolding jumpsFrom
 lowTargets s [] = []
 lowTargets s (l ∷ ls) = lowJumps (bodyOf s l) ++ lowTargets s ls
+
+-- the marks are at the numbers up to 65535 that lines have
+pub record NumbersMarked (lines : List IndexLine) (marked : List ℕ) : Type 0 where
+  pub tells : (t : ℕ) → t ≤ 65535 → eqb (getD marked t 0) 0 ≡ not (hasLine lines t)
 
 -- how many of the targets are not marked, behind n of them, unless one is too high
 unfoldable pub targetsCounted : List ℕ → ℕ → List ℕ → Counted

@@ -7,9 +7,10 @@ ghost use lib.ListN.{length, getD};
 ghost use Rattle.lent.specs.Lent.{intoBuffer, left};
 ghost use Rattle.lent.specs.Stores.{Room, Put};
 ghost use Rattle.bits.specs.Bits.{packFrom};
-ghost use Rattle.line_index.specs.Index.{lineIndex};
+ghost use mathlib.Core.List.{[], map};
+ghost use Rattle.line_index.specs.Index.{indexLine, lineIndex, jumpReport};
 ghost use Rattle.bits.specs.PenHelpers.{Ready, drawn};
-ghost use Rattle.line_index.specs.IndexHelpers.{Sound, foundFrom, lowJumps, lowTargets, CountedIs, pairBits, lineBits, targetBit, targetBits, jumpBits, indexBits, Faultless};
+ghost use Rattle.line_index.specs.IndexHelpers.{Sound, foundFrom, lowJumps, lowTargets, CountedIs, pairBits, lineBits, targetBit, targetBits, jumpBits, indexBits, Faultless, NumbersMarked};
 use bits::Pen;
 use jumps::Cursor;
 use jumps::Next;
@@ -64,6 +65,73 @@ fn put_index(out: &mut [u8], image: &[u8], lines: usize) -> usize
     let second = put_lines(out, first, image);
     let third = put_jumps(out, second, image, &image[..0]);
     bits::finish(out, third)
+}
+
+// Stores the report on an image's jumps with no target at the start of a buffer, and answers how long it is.
+pub fn write_report(image: &[u8], out: &mut [u8]) -> Outcome
+    ensures { λ r. ⌜ left r (now (out .exit)) ≡ intoBuffer (jumpReport (now (image .entry))) (now (out .entry)) ⌝ }
+{
+    match links::check(image) {
+        Checked::Image { load: _, lines } => {
+            let mut marked = [0u8; 65536];
+            mark_lines(image, &mut marked);
+            report_lines(image, out, lines, &marked)
+        }
+        Checked::Refused(refusal) => Outcome::Refused(refusal),
+    }
+}
+
+// Marks the lines' numbers.
+fn mark_lines(image: &[u8], marked: &mut [u8])
+    requires { ⌜ Sound (now image) 2 × (length (now marked) ≡ 65536) × NumbersMarked [] (now marked) ⌝ }
+    ensures { λ r. ⌜ NumbersMarked (map indexLine (foundFrom (now (image .entry)) 2)) (now (marked .exit)) ⌝ }
+{
+    let mut offset: usize = 2;
+    loop {
+        match links::step(image, offset) {
+            Step::Found(line) => {
+                let number = line.number as usize;
+                marked[number] = 1;
+                offset = line.next;
+            }
+            Step::End => {
+                return;
+            }
+            // An image without a fault is refused nowhere.
+            Step::Refused(_) => {
+                return;
+            }
+        }
+    }
+}
+
+// The report on an image without a fault, of so many lines, whose numbers are marked.
+fn report_lines(image: &[u8], out: &mut [u8], lines: usize, marked: &[u8]) -> Outcome
+    requires { ⌜ Faultless (now image) lines × NumbersMarked (map indexLine (foundFrom (now image) 2)) (now marked) ⌝ }
+    ensures { λ r. ⌜ left r (now (out .exit)) ≡ intoBuffer (jumpReport (now (image .entry))) (now (out .entry)) ⌝ }
+{
+    if lines > 8191 {
+        return Outcome::Refused(Refusal::TooManyLines);
+    }
+    match count_jumps(image, marked) {
+        Counted::TooHigh => Outcome::Refused(Refusal::TargetTooHigh),
+        Counted::Jumps(jumps) => {
+            let needed = (7 + 29 * jumps) / 8;
+            if needed > out.len() {
+                return Outcome::Refused(Refusal::NoRoom { needed });
+            }
+            Outcome::Done(put_report(out, image, marked))
+        }
+    }
+}
+
+// Stores the report in a buffer that has the room.
+fn put_report(out: &mut [u8], image: &[u8], marked: &[u8]) -> usize
+    requires { ⌜ Sound (now image) 2 × (2 ≤ length (now image)) × Room (now out) 0 (packFrom 0 0 (jumpBits (now marked) (now image) 0 (foundFrom (now image) 2))) ⌝ }
+    ensures { λ r. ⌜ Put (now (out .entry)) 0 (packFrom 0 0 (jumpBits (now (marked .entry)) (now (image .entry)) 0 (foundFrom (now (image .entry)) 2))) r (now (out .exit)) ⌝ }
+{
+    let pen = put_jumps(out, bits::new_pen(), image, marked);
+    bits::finish(out, pen)
 }
 
 // The jumps of a body to numbers that are not marked, behind n of them.
