@@ -1,12 +1,26 @@
-// Ops 1C to 1E: the line index, a target in one, an entry of one.
+// Ops 1C to 1F: the line index, a target in one, an entry of one, the report of jumps with no target.
 ghost use Rattle.cases.specs.FramesHelpers.{Sendable};
 use crate::frames;
 use crate::rooms;
 use frames::Answer;
 use index_entries::Held;
 use index_entries::Kind;
+use lent::Outcome;
 
-pub fn index(payload: &[u8], room: &mut [u8]) -> bool {
+// What is written of an image: its line index, or the report.
+pub enum Page {
+    Index,
+    Report,
+}
+
+fn write(page: Page, image: &[u8], out: &mut [u8]) -> Outcome {
+    match page {
+        Page::Index => line_index::write_index(image, out),
+        Page::Report => line_index::write_report(image, out),
+    }
+}
+
+pub fn written(payload: &[u8], room: &mut [u8], page: Page) -> bool {
     if payload.len() < 4 {
         return Answer::malformed().send();
     }
@@ -15,7 +29,7 @@ pub fn index(payload: &[u8], room: &mut [u8]) -> bool {
         return Answer::malformed().send();
     }
     rooms::fill(&mut room[0..size]);
-    let outcome = line_index::write_index(&payload[4..], &mut room[0..size]);
+    let outcome = write(page, &payload[4..], &mut room[0..size]);
     frames::length_of(outcome).send_with(&room[0..size])
 }
 

@@ -16,6 +16,7 @@ mod words;
 
 use desk::input;
 use frames::Answer;
+use indexes::Page;
 use input::Part;
 use libc::STDIN_FILENO;
 use readers::By;
@@ -46,9 +47,10 @@ fn answer_request(op: u8, payload: &[u8], room: &mut [u8], disk: &mut [u8]) -> b
         0x19 => images::addressed_step(payload, By::Links),
         0x1A => measured::measured_line(payload),
         0x1B => counted::count_images(payload),
-        0x1C => indexes::index(payload, room),
+        0x1C => indexes::written(payload, room, Page::Index),
         0x1D => indexes::look_up(payload),
         0x1E => indexes::entry(payload),
+        0x1F => indexes::written(payload, room, Page::Report),
         0x20 => disks::format(payload, disk),
         0x21 => disks::save(payload, disk),
         0x22 => disks::read(payload, room),
