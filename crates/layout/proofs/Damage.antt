@@ -130,28 +130,28 @@ image-is load ls {s} c kept =
 -- ---- bytes of numbers and bodies changed in a set of lines
 
 module _ {set : ℕ → Bool} {load : ℕ} {ls : List NumberedBody} {s : List ℕ} (laid : Laid load ls) (c : ChangedLines set load ls s) where
-  now : NowAt set load 2 ls s (linesNow load ls s)
-  now =
+  changed-now : NowAt set load 2 ls s (linesNow load ls s)
+  changed-now =
       now-at set ls load 2 (lines-there laid) (laid .fits) (laid .numbers)
       (record { long = c .changed .long; others = λ i h e. c .changed .others i e; bytes = λ i h e. c .changed .bytes i e })
 
   -- every line outside the set is as before
   pub changed-outside : KeptOutside set ls (linesNow load ls s)
-  changed-outside = now .outside
+  changed-outside = changed-now .outside
 
   -- each line stands where it stood, and has its link
   pub changed-places : map placeOf (linesAt load 2 (linesNow load ls s)) ≡ map placeOf (linesAt load 2 ls)
-  changed-places = now .places
+  changed-places = changed-now .places
 
   pub changed-laid : Laid load (linesNow load ls s)
-  changed-laid = record { fits = rw (now .ends) (laid .fits); numbers = now .numbers }
+  changed-laid = record { fits = rw (changed-now .ends) (laid .fits); numbers = changed-now .numbers }
 
   -- the image is that of the lines as they are now
   pub changed-image : s ≡ imageOf load (linesNow load ls s)
   unfolding imageOf
   changed-image =
       image-is load ls (c .changed) (none-in number-or-body-in set ls load 2)
-      ∙ ap (λ (x : List ℕ). twoBytes load ++ x) (now .lined .there)
+      ∙ ap (λ (x : List ℕ). twoBytes load ++ x) (changed-now .lined .there)
 
   module _ (up : leastLoad ≤ load) where
     -- by links, whatever the bodies hold
