@@ -61,7 +61,7 @@ unfolding those
 those-skip test {p} (here l) a = ap (λ (q : Bool). cond q (p ∷ those test l) (those test l)) a
 those-skip test (there r m l w) a = ap (λ (x : List ℕ). cond (test r) (r ∷ x) x) (those-skip test w a)
 
-those-named : (d d′ name l : List ℕ) → AllSame d d′ l → those (isNamed d′ name) l ≡ those (isNamed d name) l
+pub those-named : (d d′ name l : List ℕ) → AllSame d d′ l → those (isNamed d′ name) l ≡ those (isNamed d name) l
 unfolding those some
 those-named d d′ name [] h = refl
 those-named d d′ name (p ∷ l) h =

@@ -244,7 +244,7 @@ module _ (d d′ : List ℕ) where
 
 -- ---- those of a run that pass a test, and one more
 
-those-same : (f : ℕ → ℕ) (s s′ : ℕ → Bool) (from k : ℕ) → ((e : ℕ) → from ≤ e → e < from + k → s′ (f e) ≡ s (f e))
+pub those-same : (f : ℕ → ℕ) (s s′ : ℕ → Bool) (from k : ℕ) → ((e : ℕ) → from ≤ e → e < from + k → s′ (f e) ≡ s (f e))
     → those s′ (map f (numbersFrom from k)) ≡ those s (map f (numbersFrom from k))
 unfolding those numbersFrom
 those-same f s s′ from zero h = refl
