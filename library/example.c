@@ -1,7 +1,8 @@
-/* Crunches two lines, reads the image by its links, lists it, and says why there is no room for it elsewhere. */
+/* Crunches two lines, reads the image by its links, lists it, saves it on a disk, and says why there is no room for it elsewhere. */
 #include "moldthatch.h"
 
 #include <stdio.h>
+#include <string.h>
 
 static const char text[] = "10 PRINT \"Hi{0}\"\n20 GOTO 10\n";
 
@@ -27,6 +28,24 @@ int main(void)
 
     moldthatch_code shown = moldthatch_list(image, crunched.first, listing, sizeof listing);
     fwrite(listing, 1, shown.first, stdout);
+
+    moldthatch_code relinked = moldthatch_relink(image, crunched.first);
+    if (relinked.count == 2)
+        printf("the machine changes the link at offset %zu to %zu\n", relinked.first, relinked.second);
+
+    static uint8_t disk[MOLDTHATCH_DISK_LENGTH];
+    static const uint8_t name[] = "COVER";
+    moldthatch_disk_format(disk, sizeof disk);
+    moldthatch_code saved = moldthatch_disk_save(disk, sizeof disk, name, sizeof name - 1, image, crunched.first);
+    if (saved.number != 0) {
+        tell(saved);
+        return 1;
+    }
+    moldthatch_code holds = moldthatch_disk_check(disk, sizeof disk);
+    moldthatch_code again = moldthatch_disk_read(disk, sizeof disk, name, sizeof name - 1, listing, sizeof listing);
+    printf("%zu file, %zu sectors free, %zu bytes read back, %s\n", holds.first, holds.second, again.first,
+           again.first == crunched.first && memcmp(listing, image, again.first) == 0 ? "the same" : "others");
+    tell(moldthatch_disk_save(disk, sizeof disk, name, sizeof name - 1, image, crunched.first));
 
     moldthatch_code short_of_room =
         moldthatch_crunch((const uint8_t *)text, sizeof text - 1, 0x0801, MOLDTHATCH_AUTO, image, 8);

@@ -61,6 +61,9 @@ enum {
     MOLDTHATCH_SENTENCE_LENGTH = 128
 };
 
+/* The bytes of a disk image. */
+enum { MOLDTHATCH_DISK_LENGTH = 174848 };
+
 enum { MOLDTHATCH_AUTO = 0, MOLDTHATCH_BASIC_V2 = 1, MOLDTHATCH_TSB = 2 };
 
 /* Crunches a text to an image at the start of out: its length. A refusal changes
@@ -79,6 +82,54 @@ moldthatch_code moldthatch_list_room(const uint8_t *image, size_t image_length);
 
 /* Reads a whole image by its links: its load address and its line count. */
 moldthatch_code moldthatch_check(const uint8_t *image, size_t image_length);
+
+/* A line index beside an image, and the report of its jumps to lines that are not
+ * there, to the start of out: the length; out as above. */
+moldthatch_code moldthatch_index(const uint8_t *image, size_t image_length, uint8_t *out, size_t out_length);
+moldthatch_code moldthatch_index_report(const uint8_t *image, size_t image_length, uint8_t *out, size_t out_length);
+
+/* What any bytes hold as an index, places from 1: a line's number and the offset of
+ * its link; a jump's line, by its place, and its target; the place and the offset
+ * of the first line with a number. count is 0 where there is none. */
+moldthatch_code moldthatch_index_line(size_t place, const uint8_t *index, size_t index_length);
+moldthatch_code moldthatch_index_jump(size_t place, const uint8_t *index, size_t index_length);
+moldthatch_code moldthatch_index_look_up(size_t number, const uint8_t *index, size_t index_length);
+
+/* What the machine makes of an image's links after loading it. count is 0 where every
+ * link is as it was; 2 where one is changed, the first of these: its offset and its
+ * new link; 1 where that is not known, first being 0 if the routine leaves the image,
+ * 1 if it never ends. */
+moldthatch_code moldthatch_relink(const uint8_t *image, size_t image_length);
+
+/* Counts of words over up to 1,000 images: totals are 206 numbers, all 0 at first. first
+ * is 0 where the image is counted or the totals are joined; the number of the refusal
+ * for which the image is counted apart; 255 where the numbers are no totals. */
+moldthatch_code moldthatch_count(uint64_t *totals, size_t totals_length, const uint8_t *image, size_t image_length);
+moldthatch_code moldthatch_count_join(uint64_t *totals, size_t totals_length, const uint64_t *other, size_t other_length);
+
+/* How many words are counted, and the share of a token in thousandths. */
+uint64_t moldthatch_count_tokens(const uint64_t *totals, size_t totals_length);
+uint64_t moldthatch_count_share(const uint64_t *totals, size_t totals_length, uint8_t token);
+
+/* Disk images (D64). Each call but format checks the disk first. A refusal changes
+ * no byte of it. A name has 1 to 16 bytes, none of them A0. */
+
+/* Makes a disk without files. */
+moldthatch_code moldthatch_disk_format(uint8_t *disk, size_t disk_length);
+
+/* Saves an image under a name that no file of the disk has. */
+moldthatch_code moldthatch_disk_save(uint8_t *disk, size_t disk_length, const uint8_t *name, size_t name_length,
+                                     const uint8_t *image, size_t image_length);
+
+/* Reads the file of a name to the start of out: its length; out as above. */
+moldthatch_code moldthatch_disk_read(const uint8_t *disk, size_t disk_length, const uint8_t *name, size_t name_length,
+                                     uint8_t *out, size_t out_length);
+
+/* Scratches the file of a name. */
+moldthatch_code moldthatch_disk_scratch(uint8_t *disk, size_t disk_length, const uint8_t *name, size_t name_length);
+
+/* Checks a disk: how many files it has, and how many sectors are free. */
+moldthatch_code moldthatch_disk_check(const uint8_t *disk, size_t disk_length);
 
 /* The sentence of a refusal, for a person: stores as much of it as fits at the start
  * of out, and answers how many bytes that are, 0 for a number that is no refusal's.

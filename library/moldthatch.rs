@@ -10,6 +10,9 @@ use std::{error, fmt, str};
 pub const TEXT_LENGTH: usize = 1_048_576;
 pub const IMAGE_LENGTH: usize = 1_048_576;
 
+/// The bytes of a disk image.
+pub const DISK_LENGTH: usize = 174_848;
+
 /// No sentence is longer.
 const SENTENCE_LENGTH: usize = 128;
 
@@ -239,9 +242,256 @@ pub fn check(image: &[u8]) -> Result<Image, Refusal> {
     })
 }
 
+/// Writes the line index of an image into the start of a buffer, and answers its length.
+pub fn index(image: &[u8], out: &mut [u8]) -> Result<usize, Refusal> {
+    // SAFETY: as above.
+    length(unsafe {
+        ffi::moldthatch_index(image.as_ptr(), image.len(), out.as_mut_ptr(), out.len())
+    })
+}
+
+/// Writes the report of an image's jumps to lines that it does not have, as [`index`] does.
+pub fn index_report(image: &[u8], out: &mut [u8]) -> Result<usize, Refusal> {
+    // SAFETY: as above.
+    length(unsafe {
+        ffi::moldthatch_index_report(image.as_ptr(), image.len(), out.as_mut_ptr(), out.len())
+    })
+}
+
+/// A line of an index.
+#[derive(Debug, Clone, Copy, PartialEq, Eq)]
+pub struct IndexLine {
+    pub number: usize,
+    /// The offset of its link in the image.
+    pub offset: usize,
+}
+
+/// A jump of an index.
+#[derive(Debug, Clone, Copy, PartialEq, Eq)]
+pub struct IndexJump {
+    /// Its line's place, from 1.
+    pub place: usize,
+    pub target: usize,
+}
+
+/// The line at a place of an index, from 1.
+pub fn index_line(place: usize, index: &[u8]) -> Option<IndexLine> {
+    // SAFETY: as above.
+    let code = unsafe { ffi::moldthatch_index_line(place, index.as_ptr(), index.len()) };
+    two(code).map(|(number, offset)| IndexLine { number, offset })
+}
+
+/// The jump at a place of an index, from 1.
+pub fn index_jump(place: usize, index: &[u8]) -> Option<IndexJump> {
+    // SAFETY: as above.
+    let code = unsafe { ffi::moldthatch_index_jump(place, index.as_ptr(), index.len()) };
+    two(code).map(|(place, target)| IndexJump { place, target })
+}
+
+/// The place of the first line with a number, from 1, and the offset of its link.
+pub fn index_look_up(number: usize, index: &[u8]) -> Option<(usize, usize)> {
+    // SAFETY: as above.
+    two(unsafe { ffi::moldthatch_index_look_up(number, index.as_ptr(), index.len()) })
+}
+
+/// What the machine makes of an image's links after loading it.
+#[derive(Debug, Clone, Copy, PartialEq, Eq)]
+pub enum Relinked {
+    Same,
+    /// The first line whose link is changed, and its new link.
+    Changed {
+        offset: usize,
+        link: u16,
+    },
+    /// The routine leaves the image: what it does then is unknown.
+    Leaves,
+    /// The routine never ends.
+    Endless,
+}
+
+pub fn relink(image: &[u8]) -> Result<Relinked, Refusal> {
+    // SAFETY: as above.
+    let code = unsafe { ffi::moldthatch_relink(image.as_ptr(), image.len()) };
+    answered(code)?;
+    Ok(match (code.count, code.first) {
+        (0, _) => Relinked::Same,
+        (2, offset) => Relinked::Changed {
+            offset,
+            link: code.second as u16,
+        },
+        (_, 0) => Relinked::Leaves,
+        _ => Relinked::Endless,
+    })
+}
+
+/// Counts of words over up to 1,000 images. A token's count stands at its own number, that of a TSB word at the byte behind 64.
+#[derive(Debug, Clone, PartialEq, Eq)]
+pub struct Totals([u64; 206]);
+
+impl Default for Totals {
+    fn default() -> Self {
+        Totals([0; 206])
+    }
+}
+
+impl Totals {
+    pub fn counts(&self) -> &[u64; 206] {
+        &self.0
+    }
+
+    /// Takes one more image: `Some` refusal where it is counted apart. The 1,001st is refused.
+    pub fn add(&mut self, image: &[u8]) -> Result<Option<Refusal>, Refusal> {
+        // SAFETY: as above.
+        let code = unsafe {
+            ffi::moldthatch_count(
+                self.0.as_mut_ptr(),
+                self.0.len(),
+                image.as_ptr(),
+                image.len(),
+            )
+        };
+        answered(code)?;
+        Ok(match code.first {
+            0 => None,
+            number => Some(Refusal::from_code(number as u8, 0, 0)),
+        })
+    }
+
+    /// Joins other totals. More than 1,000 images together are refused.
+    pub fn join(&mut self, other: &Totals) -> Result<(), Refusal> {
+        // SAFETY: as above.
+        answered(unsafe {
+            ffi::moldthatch_count_join(
+                self.0.as_mut_ptr(),
+                self.0.len(),
+                other.0.as_ptr(),
+                other.0.len(),
+            )
+        })
+    }
+
+    /// How many words are counted.
+    pub fn tokens(&self) -> u64 {
+        // SAFETY: as above.
+        unsafe { ffi::moldthatch_count_tokens(self.0.as_ptr(), self.0.len()) }
+    }
+
+    /// The share of a token in thousandths, rounded down.
+    pub fn share(&self, token: u8) -> u64 {
+        // SAFETY: as above.
+        unsafe { ffi::moldthatch_count_share(self.0.as_ptr(), self.0.len(), token) }
+    }
+}
+
+/// A disk image (D64). Each call but [`Disk::format`] checks it first, and a refusal changes no byte of it. A name has 1 to 16
+/// bytes, none of them A0.
+pub struct Disk<B> {
+    bytes: B,
+}
+
+/// What a disk holds.
+#[derive(Debug, Clone, Copy, PartialEq, Eq)]
+pub struct Holding {
+    pub files: usize,
+    pub free_sectors: usize,
+}
+
+impl Disk<Vec<u8>> {
+    /// A disk without files.
+    pub fn fresh() -> Self {
+        let mut disk = Disk::of(vec![0; DISK_LENGTH]);
+        // A disk of this length is always formatted.
+        let _ = disk.format();
+        disk
+    }
+}
+
+impl<B: AsRef<[u8]>> Disk<B> {
+    /// The disk that these bytes are, whatever they hold.
+    pub fn of(bytes: B) -> Self {
+        Disk { bytes }
+    }
+
+    pub fn bytes(&self) -> &[u8] {
+        self.bytes.as_ref()
+    }
+
+    pub fn check(&self) -> Result<Holding, Refusal> {
+        let disk = self.bytes();
+        // SAFETY: as above.
+        let code = unsafe { ffi::moldthatch_disk_check(disk.as_ptr(), disk.len()) };
+        answered(code)?;
+        Ok(Holding {
+            files: code.first,
+            free_sectors: code.second,
+        })
+    }
+
+    /// Reads the file of a name into the start of a buffer, and answers its length.
+    pub fn read_into(&self, name: &[u8], out: &mut [u8]) -> Result<usize, Refusal> {
+        let disk = self.bytes();
+        // SAFETY: as above.
+        length(unsafe {
+            ffi::moldthatch_disk_read(
+                disk.as_ptr(),
+                disk.len(),
+                name.as_ptr(),
+                name.len(),
+                out.as_mut_ptr(),
+                out.len(),
+            )
+        })
+    }
+
+    /// The bytes of the file of a name.
+    pub fn read(&self, name: &[u8]) -> Result<Vec<u8>, Refusal> {
+        let mut out = vec![0; DISK_LENGTH];
+        let length = self.read_into(name, &mut out)?;
+        out.truncate(length);
+        Ok(out)
+    }
+}
+
+impl<B: AsMut<[u8]>> Disk<B> {
+    /// Makes it a disk without files.
+    pub fn format(&mut self) -> Result<(), Refusal> {
+        let disk = self.bytes.as_mut();
+        // SAFETY: as above.
+        answered(unsafe { ffi::moldthatch_disk_format(disk.as_mut_ptr(), disk.len()) })
+    }
+
+    /// Saves an image under a name that no file of the disk has.
+    pub fn save(&mut self, name: &[u8], image: &[u8]) -> Result<(), Refusal> {
+        let disk = self.bytes.as_mut();
+        // SAFETY: as above.
+        answered(unsafe {
+            ffi::moldthatch_disk_save(
+                disk.as_mut_ptr(),
+                disk.len(),
+                name.as_ptr(),
+                name.len(),
+                image.as_ptr(),
+                image.len(),
+            )
+        })
+    }
+
+    pub fn scratch(&mut self, name: &[u8]) -> Result<(), Refusal> {
+        let disk = self.bytes.as_mut();
+        // SAFETY: as above.
+        answered(unsafe {
+            ffi::moldthatch_disk_scratch(disk.as_mut_ptr(), disk.len(), name.as_ptr(), name.len())
+        })
+    }
+}
+
 fn length(code: ffi::Code) -> Result<usize, Refusal> {
     answered(code)?;
     Ok(code.first)
+}
+
+fn two(code: ffi::Code) -> Option<(usize, usize)> {
+    (code.count == 2).then_some((code.first, code.second))
 }
 
 fn answered(code: ffi::Code) -> Result<(), Refusal> {
@@ -286,6 +536,64 @@ mod ffi {
         ) -> Code;
         pub fn moldthatch_list_room(image: *const u8, image_length: usize) -> Code;
         pub fn moldthatch_check(image: *const u8, image_length: usize) -> Code;
+        pub fn moldthatch_index(
+            image: *const u8,
+            image_length: usize,
+            out: *mut u8,
+            out_length: usize,
+        ) -> Code;
+        pub fn moldthatch_index_report(
+            image: *const u8,
+            image_length: usize,
+            out: *mut u8,
+            out_length: usize,
+        ) -> Code;
+        pub fn moldthatch_index_line(place: usize, index: *const u8, index_length: usize) -> Code;
+        pub fn moldthatch_index_jump(place: usize, index: *const u8, index_length: usize) -> Code;
+        pub fn moldthatch_index_look_up(
+            number: usize,
+            index: *const u8,
+            index_length: usize,
+        ) -> Code;
+        pub fn moldthatch_relink(image: *const u8, image_length: usize) -> Code;
+        pub fn moldthatch_count(
+            totals: *mut u64,
+            totals_length: usize,
+            image: *const u8,
+            image_length: usize,
+        ) -> Code;
+        pub fn moldthatch_count_join(
+            totals: *mut u64,
+            totals_length: usize,
+            other: *const u64,
+            other_length: usize,
+        ) -> Code;
+        pub fn moldthatch_count_tokens(totals: *const u64, totals_length: usize) -> u64;
+        pub fn moldthatch_count_share(totals: *const u64, totals_length: usize, token: u8) -> u64;
+        pub fn moldthatch_disk_format(disk: *mut u8, disk_length: usize) -> Code;
+        pub fn moldthatch_disk_save(
+            disk: *mut u8,
+            disk_length: usize,
+            name: *const u8,
+            name_length: usize,
+            image: *const u8,
+            image_length: usize,
+        ) -> Code;
+        pub fn moldthatch_disk_read(
+            disk: *const u8,
+            disk_length: usize,
+            name: *const u8,
+            name_length: usize,
+            out: *mut u8,
+            out_length: usize,
+        ) -> Code;
+        pub fn moldthatch_disk_scratch(
+            disk: *mut u8,
+            disk_length: usize,
+            name: *const u8,
+            name_length: usize,
+        ) -> Code;
+        pub fn moldthatch_disk_check(disk: *const u8, disk_length: usize) -> Code;
         pub fn moldthatch_sentence(
             number: u8,
             first: usize,

@@ -14,7 +14,17 @@ use Rattle.dialect.specs.declared.Dialect.{Dialect}
 use Rattle.dialect.specs.declared.Named.{Named}
 use Rattle.dialect.specs.declared.Named.the-variants.{Known, Refused}
 use Rattle.image.specs.Crunched.{crunched}
-use Rattle.moldthatch.specs.Told.{Told, toldCode, crunchedBy}
+use Rattle.d64.specs.Calls.{Holding, After, changedAnswer, diskAnswer, leaving}
+use Rattle.d64.specs.declared.Changed.{Changed}
+use Rattle.d64.specs.declared.DiskCheck.{DiskCheck}
+use Rattle.index_entries.specs.declared.Held.{Held}
+use Rattle.relink.specs.Relinking.{Relinking, relinkedAnswer}
+use Rattle.relink.specs.declared.Relinked.{Relinked}
+use Rattle.relink.specs.declared.Relinked.the-variants.{Changed as Relinked·Changed}
+use Rattle.counting.specs.Carried.{Kept, carriedAnswer, carried}
+use Rattle.counting.specs.declared.Carried.{Carried}
+use Rattle.counting.specs.declared.Carried.the-variants.{Apart}
+use Rattle.moldthatch.specs.Told.{Told, toldCode, crunchedBy, bareCode, toldDisk, holdingCode, heldCode, relinkingCode, fateCode, toldTotals}
 
 module _ (o : Outcome) {c : Code} (code : c ≡ lengthCode (outcomeAnswer o)) where
   pub tells : {b : List ℕ} {l : Lent} → left o b ≡ l → _≡_ {A = Told} (record { code = c; buffer = b }) (toldCode l)
@@ -44,3 +54,41 @@ module _ (number load : ℕ) (text : List ℕ) {n : Named} (answer : namedAnswer
 
     pub tells-unknown-room : c ≡ lengthCode (roomFor (crunchedBy number load text))
     tells-unknown-room = code ∙ ap (λ (a : Answer (List ℕ)). lengthCode (roomFor a)) (crunched-with e)
+
+-- ---- disks
+
+pub tells-disk : (r : Changed) {c : Code} → c ≡ bareCode (changedAnswer r) → {d : List ℕ} {a : After} → leaving r d ≡ a → _≡_ {A = Told} (record { code = c; buffer = d }) (toldDisk a)
+tells-disk r code {d} q = ap (λ (x : Code). record { code = x; buffer = d }) code ∙ ap toldDisk q
+
+pub tells-changed : (r : Changed) {m : Changed} → r ≡ m → {c : Code} → c ≡ bareCode (changedAnswer m) → c ≡ bareCode (changedAnswer r)
+tells-changed r e code = code ∙ ap (λ (x : Changed). bareCode (changedAnswer x)) (sym e)
+
+pub tells-holding : (r : DiskCheck) {m : DiskCheck} → r ≡ m → {a : Answer Holding} → diskAnswer r ≡ a → {c : Code} → c ≡ holdingCode (diskAnswer m) → c ≡ holdingCode a
+tells-holding r e q code = code ∙ ap (λ (x : DiskCheck). holdingCode (diskAnswer x)) (sym e) ∙ ap holdingCode q
+
+-- ---- indexes, relinking, counts
+
+pub tells-held : (r : Held) {m : Held} → r ≡ m → {c : Code} → c ≡ heldCode m → c ≡ heldCode r
+tells-held r e code = code ∙ ap heldCode (sym e)
+
+pub tells-entry : (r : Held) {c : Code} → c ≡ heldCode r → {h : Held} → r ≡ h → c ≡ heldCode h
+tells-entry r code q = code ∙ ap heldCode q
+
+pub tells-relinked : (r : Relinked) {m : Relinked} → r ≡ m → {a : Answer Relinking} → relinkedAnswer r ≡ a → {c : Code} → c ≡ relinkingCode (relinkedAnswer m) → c ≡ relinkingCode a
+tells-relinked r e q code = code ∙ ap (λ (x : Relinked). relinkingCode (relinkedAnswer x)) (sym e) ∙ ap relinkingCode q
+
+pub tells-fate : (r : Carried) {m : Carried} → r ≡ m → {c : Code} → c ≡ fateCode (carriedAnswer m) → c ≡ fateCode (carriedAnswer r)
+tells-fate r e code = code ∙ ap (λ (x : Carried). fateCode (carriedAnswer x)) (sym e)
+
+pub tells-totals : (r : Carried) {c : Code} → c ≡ fateCode (carriedAnswer r) → {t : List ℕ} {k : Kept} → carried r t ≡ k → _≡_ {A = Told} (record { code = c; buffer = t }) (toldTotals k)
+tells-totals r code {t} q = ap (λ (x : Code). record { code = x; buffer = t }) code ∙ ap toldTotals q
+
+-- an image counted apart, by the number of its refusal
+pub tells-apart : (r : Carried) {f : Refusal} → r ≡ Apart f → {q : Code} → q ≡ codeOf (numbered f) → {n : ℕ} → n ≡ q .number
+    → {c : Code} → c ≡ record { number = 0; count = 1; first = n; second = 0 } → c ≡ fateCode (carriedAnswer r)
+tells-apart r e code number made = made ∙ ap (λ (x : ℕ). record { number = 0; count = 1; first = x; second = 0 }) (number ∙ ap (λ (x : Code). x .number) code) ∙ ap (λ (x : Carried). fateCode (carriedAnswer x)) (sym e)
+
+-- a link that is changed
+pub tells-link : (r : Relinked) {offset link : ℕ} → r ≡ Relinked·Changed offset link → {n : ℕ} → n ≡ link → {a : Answer Relinking} → relinkedAnswer r ≡ a
+    → record { number = 0; count = 2; first = offset; second = n } ≡ relinkingCode a
+tells-link r {offset} e number q = tells-relinked r e q (ap (λ (x : ℕ). record { number = 0; count = 2; first = offset; second = x }) number)

@@ -15,6 +15,10 @@ ghost use Rattle.sentences.specs.Clipped.{Clipped};
 ghost use Rattle.sentences.specs.Sentence.{sentence};
 ghost use Rattle.moldthatch.specs.Told.{crunchedBy, toldCode, overviewCode};
 
+pub mod counts;
+pub mod disks;
+pub mod indexes;
+
 // Crunches a text into the start of a buffer: the image's length.
 #[no_mangle]
 pub extern "C" fn moldthatch_crunch(text: &[u8], load: u16, dialect: u8, out: &mut [u8]) -> Code
@@ -102,15 +106,9 @@ fn checked_code(checked: Checked) -> Code
         Checked::Image { load, lines } => Code {
             number: 0,
             count: 2,
-            first: wide(load),
+            first: ascii::wide16(load),
             second: lines,
         },
         Checked::Refused(refusal) => refusals::refusal_code(refusal),
     }
-}
-
-fn wide(x: u16) -> usize
-    ensures { λ r. ⌜ r ≡ x ⌝ }
-{
-    x as usize
 }

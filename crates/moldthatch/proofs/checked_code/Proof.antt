@@ -11,8 +11,8 @@ use Rattle.moldthatch.proofs.checked_code.Tie as tie
 enum-known-checked : tie.Need-enum-known-checked
 enum-known-checked c = search needs
 
-wide-requires : tie.Need-wide-requires
-wide-requires c κs = search needs
+wide16-requires : tie.Need-wide16-requires
+wide16-requires c κs = search needs
 
 enum-known-checked-2 : tie.Need-enum-known-checked-2
 enum-known-checked-2 c = search needs
@@ -21,7 +21,7 @@ refusal-code-requires : tie.Need-refusal-code-requires
 refusal-code-requires c κs = search needs
 
 returns : tie.Need-returns
-returns c = rw (c .wide .ensures) (ap (λ (x : Checked). overviewCode (checkedAnswer x)) (sym (c .before .before .checked .given .1)))
+returns c = rw (c .wide16 .ensures) (ap (λ (x : Checked). overviewCode (checkedAnswer x)) (sym (c .before .before .checked .given .1)))
 
 returns-2 : tie.Need-returns-2
 returns-2 c = c .refusal-code .ensures ∙ ap (λ (x : Checked). overviewCode (checkedAnswer x)) (sym (c .before .before .checked2 .given .1))
@@ -31,7 +31,7 @@ checked-code-spec =
     tie.close
     (tie.spec
     enum-known-checked
-    wide-requires
+    wide16-requires
     enum-known-checked-2
     refusal-code-requires
     returns

@@ -1,0 +1,12 @@
+-- `moldthatch::indexes::moldthatch_index_jump` meets its contract.
+-- Assumes nothing.
+use Rattle.moldthatch.proofs.Telling.{tells-entry}
+use borrow.Author.Needs.{needs}
+use Rattle.moldthatch.proofs.indexes.moldthatch_index_jump.Statement.{statement}
+use Rattle.moldthatch.proofs.indexes.moldthatch_index_jump.Tie as tie
+
+returns : tie.Need-returns
+returns c = search tells-entry
+
+pub moldthatch-index-jump-spec : {M : Type 1} → statement M
+moldthatch-index-jump-spec = tie.close (tie.spec (λ c κs. search needs) (λ c κs. search needs) returns)

@@ -1,0 +1,59 @@
+// Counts of words over many images. Totals are 206 numbers that the caller lends and carries on; empty ones are all 0.
+use counting::Carried;
+use refusals::Code;
+ghost use mathlib.Core.Path.{_≡_};
+ghost use Rattle.counting.specs.Totals.{tokensCounted, shareOf};
+ghost use Rattle.counting.specs.Carried.{withImage, joined, carriedAnswer};
+ghost use Rattle.moldthatch.specs.Told.{toldTotals, fateCode};
+
+// Takes one more image into totals.
+#[no_mangle]
+pub extern "C" fn moldthatch_count(totals: &mut [u64], image: &[u8]) -> Code
+    ensures { λ r. ⌜ record { code = r; buffer = now (totals .exit) } ≡ toldTotals (withImage (now (totals .entry)) (now (image .entry))) ⌝ }
+{
+    carried_code(counting::add_image(totals, image))
+}
+
+// Joins other totals to totals.
+#[no_mangle]
+pub extern "C" fn moldthatch_count_join(totals: &mut [u64], other: &[u64]) -> Code
+    ensures { λ r. ⌜ record { code = r; buffer = now (totals .exit) } ≡ toldTotals (joined (now (totals .entry)) (now (other .entry))) ⌝ }
+{
+    carried_code(counting::join(totals, other))
+}
+
+// How many tokens are counted in totals.
+#[no_mangle]
+pub extern "C" fn moldthatch_count_tokens(totals: &[u64]) -> u64
+    ensures { λ r. ⌜ r ≡ tokensCounted (now (totals .entry)) ⌝ }
+{
+    counting::tokens(totals)
+}
+
+// A token's share of them, in thousandths.
+#[no_mangle]
+pub extern "C" fn moldthatch_count_share(totals: &[u64], token: u8) -> u64
+    ensures { λ r. ⌜ r ≡ shareOf (now (totals .entry)) token ⌝ }
+{
+    counting::share(totals, token)
+}
+
+fn carried_code(carried: Carried) -> Code
+    ensures { λ r. ⌜ r ≡ fateCode (carriedAnswer carried) ⌝ }
+{
+    match carried {
+        Carried::Taken => refusals::with_one(0, 0),
+        Carried::Apart(refusal) => refusals::with_one(
+            0,
+            number_of(refusals::refusal_code(refusal)),
+        ),
+        Carried::Refused(refusal) => refusals::refusal_code(refusal),
+        Carried::NoTotals => refusals::with_one(0, 255),
+    }
+}
+
+fn number_of(code: Code) -> usize
+    ensures { λ r. ⌜ r ≡ code .number ⌝ }
+{
+    code.number as usize
+}
