@@ -1,22 +1,21 @@
--- What stands behind a word: the loop over a list in parentheses, an assignment, and none where no = follows.
+-- What stands behind a word: the loop over a list in parentheses, and an assignment.
 -- Assumes nothing.
 use Prim.Native.Nat.{ℕ, zero, suc, _+_, _-_, _≤_, _<_}
 use mathlib.Core.Path.{_≡_, refl, sym, ap, _∙_}
-use mathlib.Core.Bool.{Bool, true, false, not}
+use mathlib.Core.Bool.{Bool, true, false}
 use mathlib.Core.List.{List, [], _∷_}
 use native.Mathlib.Omega.{arith}
 use lib.Dec.{eqb}
 use lib.ListN.{length, getD, take, drop, length-drop, drop-of-length-le}
-use lib.Seq.{drop-drop}
 use borrow.Author.Tests.{eq-eqb, ne-eqb}
 use mir.Syntax.{w64}
 use mir.Val.{Fits}
-use Rattle.ascii.specs.Search.{equals, ofKind, startsWith, front, before, past}
+use Rattle.ascii.specs.Search.{ofKind, startsWith, front, past}
 use Rattle.ascii.specs.declared.search.Kind.{Kind}
 use Rattle.ascii.proofs.Searching.{tail, here, starts-long}
-use Rattle.lines.proofs.Parts.{taken, left, either}
+use Rattle.lines.proofs.Parts.{taken, left}
 use Rattle.guess_scans.specs.Ahead.{closing, behindList, assigns}
-use Rattle.guess_scans.specs.ScanHelpers.{NoneFrom}
+use Rattle.guess_scans.specs.ScanHelpers.{equalsAhead}
 
 -- what is left of a text from a place on, as it is lent
 abbrev pub rest : List ℕ → ℕ → List ℕ
@@ -31,19 +30,19 @@ rest-some t {a} h = omega (arith, rest-long t a)
 -- ---- a byte of a list
 
 module _ (b : ℕ) (s : List ℕ) where
-  close-last : b ≡ 0x29 → closing 0 (b ∷ s) ≡ 1
+  pub close-last : b ≡ 0x29 → closing 0 (b ∷ s) ≡ 1
   unfolding closing
   close-last e = taken _ _ (eq-eqb _ _ e)
 
-  close-one : (d : ℕ) → b ≡ 0x29 → closing (suc d) (b ∷ s) ≡ suc (closing d s)
+  pub close-one : (d : ℕ) → b ≡ 0x29 → closing (suc d) (b ∷ s) ≡ suc (closing d s)
   unfolding closing
   close-one d e = taken _ _ (eq-eqb _ _ e)
 
-  open-one : (d : ℕ) → (b ≡ 0x29 → ⊥) → b ≡ 0x28 → closing d (b ∷ s) ≡ suc (closing (suc d) s)
+  pub open-one : (d : ℕ) → (b ≡ 0x29 → ⊥) → b ≡ 0x28 → closing d (b ∷ s) ≡ suc (closing (suc d) s)
   unfolding closing
   open-one d n e = left _ _ (ne-eqb _ _ n) ∙ taken _ _ (eq-eqb _ _ e)
 
-  keep : (d : ℕ) → (b ≡ 0x29 → ⊥) → (b ≡ 0x28 → ⊥) → closing d (b ∷ s) ≡ suc (closing d s)
+  pub keep : (d : ℕ) → (b ≡ 0x29 → ⊥) → (b ≡ 0x28 → ⊥) → closing d (b ∷ s) ≡ suc (closing d s)
   unfolding closing
   keep d n m = left _ _ (ne-eqb _ _ n) ∙ left _ _ (ne-eqb _ _ m)
 
@@ -108,11 +107,24 @@ closing-le (b ∷ s) d = go (eqb b 0x29) (eqb b 0x28) (closing-le s) d
 pub opens : (b : ℕ) (s : List ℕ) {x : Bool} → x ≡ true → x ≡ startsWith b s → 1 ≤ length s
 opens b s e q = starts-long b s (sym q ∙ e)
 
-pub list-within : (s : List ℕ) {n : ℕ} {x : Bool} → n ≡ closing 0 (rest s 1) → x ≡ true → x ≡ startsWith 0x28 s → 1 + n ≤ length s
-list-within s c e q = omega (arith, closing-le (rest s 1) 0, rest-long s 1, opens 0x28 s e q)
+module _ (s : List ℕ) {n : ℕ} (c : n ≡ closing 0 (rest s 1)) (h : 0 < length s) where
+  pub list-within : 1 + n ≤ length s
+  list-within = omega (arith, closing-le (rest s 1) 0, rest-long s 1)
 
-pub list-fits : (t : List ℕ) (a : ℕ) {n : ℕ} {x : Bool} → n ≡ closing 0 (rest (rest t a) 1) → x ≡ true → x ≡ startsWith 0x28 (rest t a) → Fits w64 (length t) → Fits w64 (1 + n)
-list-fits t a c e q f = record { fits = omega (arith, f .fits, list-within (rest t a) c e q, rest-long t a) }
+  pub list-fits : Fits w64 (length s) → Fits w64 (1 + n)
+  list-fits f = record { fits = omega (arith, f .fits, list-within) }
+
+-- = behind the list that a text begins with
+pub list-told : (blank : Kind) (s : List ℕ) {n m : ℕ} {y : Bool} → y ≡ startsWith 0x3D (rest (rest s (1 + n)) m) → m ≡ front (ofKind blank) (rest s (1 + n))
+    → n ≡ closing 0 (rest s 1) → y ≡ equalsAhead blank (behindList s)
+unfolding equalsAhead behindList
+list-told blank s {n} {m} r f c =
+    let i : closing 0 (rest s 1) ≡ closing 0 (drop 1 s) = ap (closing 0) (tail s 1) in
+    let k : 1 + n ≡ suc (closing 0 (drop 1 s)) = omega arith in
+    let listed : rest s (1 + n) ≡ behindList s = tail s (1 + n) ∙ ap (λ (j : ℕ). drop j s) k in
+    let behind : rest (rest s (1 + n)) m ≡ past (ofKind blank) (behindList s) =
+    tail (rest s (1 + n)) m ∙ ap (λ (j : ℕ). drop j (rest s (1 + n))) f ∙ ap (past (ofKind blank)) listed in
+    r ∙ ap (startsWith 0x3D) behind
 
 module _ (blank : Kind) (t : List ℕ) {a : ℕ} where
   passed : a ≡ front (ofKind blank) t → rest t a ≡ past (ofKind blank) t
@@ -125,47 +137,6 @@ module _ (blank : Kind) (t : List ℕ) {a : ℕ} where
   unfolding assigns
   assigns-plain r e q p = r ∙ ap (startsWith 0x3D) (passed p) ∙ sym (left _ _ (told q p ∙ e))
 
-  pub assigns-list : {x y : Bool} {n m : ℕ} → y ≡ startsWith 0x3D (rest (rest (rest t a) (1 + n)) m) → m ≡ front (ofKind blank) (rest (rest t a) (1 + n))
-      → n ≡ closing 0 (rest (rest t a) 1) → x ≡ true → x ≡ startsWith 0x28 (rest t a) → a ≡ front (ofKind blank) t → y ≡ assigns blank t
-  unfolding assigns behindList
-  assigns-list {x} {y} {n} {m} r f c e q p =
-      let u = past (ofKind blank) t in
-      let i : closing 0 (rest (rest t a) 1) ≡ closing 0 (drop 1 u) = ap (closing 0) (tail (rest t a) 1 ∙ ap (drop 1) (passed p)) in
-      let k : 1 + n ≡ suc (closing 0 (drop 1 u)) = omega arith in
-      let listed : rest (rest t a) (1 + n) ≡ behindList u =
-      tail (rest t a) (1 + n) ∙ ap (λ (j : ℕ). drop j (rest t a)) k ∙ ap (drop (suc (closing 0 (drop 1 u)))) (passed p) in
-      let behind : rest (rest (rest t a) (1 + n)) m ≡ past (ofKind blank) (behindList u) =
-      tail (rest (rest t a) (1 + n)) m ∙ ap (λ (j : ℕ). drop j (rest (rest t a) (1 + n))) f ∙ ap (past (ofKind blank)) listed in
-      r ∙ ap (startsWith 0x3D) behind ∙ sym (taken _ _ (told q p ∙ e))
-
--- ---- no assignment where no = follows
-
--- a text without a byte does not start with it
-starts-without : (x : ℕ) (s : List ℕ) → before (equals x) s ≡ length s → startsWith x s ≡ false
-unfolding before startsWith front
-starts-without x [] h = refl
-starts-without x (b ∷ s) h = go (eqb b x) h
-  where
-    go : (r : Bool) → elim (not r) [ true ↦ suc (before (equals x) s) | false ↦ 0 ] ≡ suc (length s) → r ≡ false
-    go true e = absurd (omega arith)
-    go false e = refl
-
-module _ (line : List ℕ) {last k : ℕ} (p : NoneFrom line last) (h : last ≤ k) where
-  starts-later : (m : ℕ) → k ≤ m → startsWith 0x3D (drop m line) ≡ false
-  starts-later m l = starts-without 0x3D (drop m line) (p .none m (omega arith))
-
-  blanks-later : (blank : Kind) (m : ℕ) → k ≤ m → startsWith 0x3D (past (ofKind blank) (drop m line)) ≡ false
-  blanks-later blank m l =
-      let a : ℕ = front (ofKind blank) (drop m line) in
-      ap (startsWith 0x3D) (drop-drop a m line) ∙ starts-later (m + a) (omega arith)
-
-  -- either = that is looked for would stand at a place from k on
-  pub none-assigned : (blank : Kind) → assigns blank (drop k line) ≡ false
-  unfolding assigns behindList
-  none-assigned blank =
-      let a : ℕ = front (ofKind blank) (drop k line) in
-      let n : ℕ = suc (closing 0 (drop 1 (drop a (drop k line)))) in
-      let e : drop n (drop a (drop k line)) ≡ drop (k + a + n) line = ap (drop n) (drop-drop a k line) ∙ drop-drop n (k + a) line in
-      either (λ (x : Bool). x ≡ false) (startsWith 0x28 (drop a (drop k line))) _ _
-      (λ _. ap (λ (l : List ℕ). startsWith 0x3D (past (ofKind blank) l)) e ∙ blanks-later blank (k + a + n) (omega arith))
-      (λ _. blanks-later blank k (omega arith))
+  pub assigns-list : {x y : Bool} → y ≡ equalsAhead blank (behindList (rest t a)) → x ≡ true → x ≡ startsWith 0x28 (rest t a) → a ≡ front (ofKind blank) t → y ≡ assigns blank t
+  unfolding assigns equalsAhead
+  assigns-list r e q p = r ∙ ap (λ (u : List ℕ). equalsAhead blank (behindList u)) (passed p) ∙ sym (taken _ _ (told q p ∙ e))

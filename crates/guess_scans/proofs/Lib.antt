@@ -1,4 +1,6 @@
 pub mod Behind
+pub mod Bits
+pub mod Marks
 pub mod Passes
 pub mod Places
 pub mod Steps

@@ -14,11 +14,9 @@ use mir.Syntax.{w64}
 use mir.Val.{Fits}
 use Rattle.steps.proofs.Nearer.{Nearer, again-on}
 use Rattle.ascii.specs.Bytes.{upper}
-use Rattle.ascii.specs.Search.{equals, isWhite, front, past, before, last, pastEnd}
-use Rattle.ascii.specs.declared.search.Found.{Found}
-use Rattle.ascii.specs.declared.search.Found.the-variants.{At, Nowhere}
+use Rattle.ascii.specs.Search.{isWhite, front, past, pastEnd}
 use Rattle.ascii.specs.declared.search.Kind.the-variants.{Space}
-use Rattle.ascii.proofs.Searching.{tail, end-take, end-le, last-within, Behind, none-behind}
+use Rattle.ascii.proofs.Searching.{tail, end-take, end-le}
 use Rattle.words.specs.Compare.{begins}
 use Rattle.words.specs.Find.{wordIn}
 use Rattle.words.specs.declared.Match.{Match}
@@ -28,13 +26,12 @@ use Rattle.tables.specs.Tsb.{tsbWords}
 use Rattle.lines.proofs.Parts.{taken, left, either}
 use Rattle.guess_scans.specs.Ahead.{assigns}
 use Rattle.guess_scans.specs.Places.{isPlain, aside}
-use Rattle.guess_scans.specs.ScanHelpers.{behindEquals, NoneFrom}
 use Rattle.guess_scans.specs.Variables.{afterDim, isName, wordPass, plainPass, passOf, NameScan, onBy, namesOn, namesFrom, lineNames}
 use Rattle.guess_scans.specs.declared.place.Place.{Place}
 use Rattle.guess_scans.specs.declared.place.Place.the-variants.{Within, Quoted, Data}
 use Rattle.guess_scans.specs.declared.variables.Pass.{Pass}
 use Rattle.guess_scans.specs.declared.variables.Pass.the-variants.{Remark, On, Name}
-use Rattle.guess_scans.proofs.Behind.{rest, rest-long, none-assigned}
+use Rattle.guess_scans.proofs.Behind.{rest, rest-long}
 use Rattle.guess_scans.proofs.Words.{Bounded, begins-long, word-bounds}
 
 -- what a line has in front of a place, from the last byte back to the first
@@ -113,39 +110,11 @@ module _ (line : List ℕ) (i : ℕ) where
 pub prefix-long : (line : List ℕ) {i : ℕ} → i ≤ length line → i ≡ length (take i line)
 prefix-long line {i} h = sym (length-take-le i line h)
 
--- ---- a place from which on there is no =
-
-pub behind-at : (line : List ℕ) {f : Found} {n : ℕ} → f ≡ At n → f ≡ last (equals 0x3D) line → n + 1 ≡ behindEquals line
-unfolding behindEquals
-behind-at line {f} {n} e p = rw (behindEquals, sym p ∙ e) (omega arith)
-
-pub behind-nowhere : (line : List ℕ) {f : Found} → f ≡ Nowhere → f ≡ last (equals 0x3D) line → 0 ≡ behindEquals line
-unfolding behindEquals
-behind-nowhere line e p = rw (behindEquals, sym p ∙ e)
-
-pub behind-fits : (line : List ℕ) {f : Found} {n : ℕ} → f ≡ At n → f ≡ last (equals 0x3D) line → Fits w64 (length line) → Fits w64 (n + 1)
-behind-fits line e p f = record { fits = omega (arith, f .fits, last-within (equals 0x3D) line (sym p ∙ e)) }
-
-pub none-from : (line : List ℕ) {place : ℕ} → place ≡ behindEquals line → NoneFrom line place
-unfolding behindEquals
-none-from line {place} e = record { none = λ i h. none-behind (equals 0x3D) line i (behind (last (equals 0x3D) line) i (omega arith)) }
-  where
-    behind : (f : Found) (i : ℕ) → elim f [ At n ↦ suc n | Nowhere ↦ 0 ] ≤ i → Behind f i
-    behind (At n) i h = omega arith
-    behind Nowhere i h = tt
-
 -- ---- a word that is a variable
 
 module _ (line : List ℕ) (i used : ℕ) where
   at-word : drop (i + used) line ≡ drop used (drop i line)
   at-word = sym (drop-drop used i line)
-
-  -- no = follows
-  pub name-last : {y : Bool} {last : ℕ} → y ≡ afterDim (passedAt line i) → last ≤ i + used → NoneFrom line last → y ≡ isName (passedAt line i) (drop i line) used
-  unfolding isName
-  name-last q h p =
-      let n : assigns Space (drop used (drop i line)) ≡ false = ap (assigns Space) (sym at-word) ∙ none-assigned line p h Space in
-      q ∙ ap (λ (r : Bool). r || afterDim (passedAt line i)) (sym n)
 
   module _ {x : Bool} where
     told-assigned : x ≡ assigns Space (rest line (i + used)) → x ≡ assigns Space (drop used (drop i line))

@@ -1,4 +1,5 @@
 // What stands at a place and behind it: a TSB word, a list in parentheses, an assignment.
+use crate::lists;
 use ascii::search;
 use ascii::search::Kind;
 use words::Match;
@@ -10,7 +11,8 @@ ghost use Rattle.words.specs.Find.{wordIn};
 ghost use Rattle.words.specs.Spelling.{bytesOf};
 ghost use Rattle.tables.specs.Tsb.{tsbWords};
 ghost use Rattle.tables.specs.WordsHelpers.{SpellsWords};
-ghost use Rattle.guess_scans.specs.Ahead.{closing as closingOf, assigns as assignsOf};
+ghost use Rattle.guess_scans.specs.Ahead.{closing as closingOf, behindList, assigns as assignsOf};
+ghost use Rattle.guess_scans.specs.ScanHelpers.{equalsAhead, MarksOf};
 
 // The TSB word that a text begins with. Each begins with a letter, so any other byte is not looked up.
 pub fn tsb_word(text: &[u8], bytes: &[u8], index: &[u16]) -> Match
@@ -57,17 +59,30 @@ fn closing(text: &[u8]) -> usize
     i
 }
 
-// Whether an assignment follows a name: blanks, perhaps a list in parentheses and blanks behind it, then =.
-pub fn assigns(text: &[u8], blank: Kind) -> bool
+// Whether = follows the list in parentheses that a text begins with.
+fn list_assigned(text: &[u8], blank: Kind) -> bool
+    requires { ⌜ 0 < length (now text) ⌝ }
+    ensures { λ r. ⌜ r ≡ equalsAhead blank (behindList (now (text .entry))) ⌝ }
+{
+    let list = 1 + closing(&text[1..]);
+    let behind = &text[list..];
+    let more = search::front(behind, blank);
+    search::starts_with(&behind[more..], 0x3D)
+}
+
+// Whether an assignment follows a name: blanks, perhaps a list in parentheses and blanks behind it, then =. Where the lists are marked,
+// none is gone through.
+pub fn assigns(text: &[u8], blank: Kind, marks: &[u8]) -> bool
+    requires { ⌜ MarksOf blank (now text) (now marks) ⌝ }
     ensures { λ r. ⌜ r ≡ assignsOf blank (now (text .entry)) ⌝ }
 {
     let blanks = search::front(text, blank);
     let rest = &text[blanks..];
     if search::starts_with(rest, 0x28) {
-        let list = 1 + closing(&rest[1..]);
-        let behind = &rest[list..];
-        let more = search::front(behind, blank);
-        return search::starts_with(&behind[more..], 0x3D);
+        if marks.len() == 0 {
+            return list_assigned(rest, blank);
+        }
+        return lists::bit(marks, rest.len() - 1);
     }
     search::starts_with(rest, 0x3D)
 }

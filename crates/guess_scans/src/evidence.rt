@@ -1,5 +1,6 @@
 // Whether a line uses a TSB word as a statement, as a function or as ELSE.
 use crate::ahead;
+use crate::lists;
 use crate::place;
 use crate::place::Place;
 use ascii::search;
@@ -8,8 +9,10 @@ use words::Match;
 ghost use mathlib.Core.Path.{_≡_};
 ghost use Prim.Native.Nat.{_≤_, _<_};
 ghost use lib.ListN.{length};
+ghost use Rattle.ascii.specs.declared.search.Kind.the-variants.{White};
 ghost use Rattle.tables.specs.WordsHelpers.{SpellsWords};
 ghost use Rattle.guess_scans.specs.Evidence.{isElse, assigned as assignedOf, called, proves as provesOf, wordProves, wordStep, statementStep, evidenceStep, numberLength, lineEvidence};
+ghost use Rattle.guess_scans.specs.ScanHelpers.{MarksOf};
 
 pub enum EvidenceStep {
     // A TSB word that proves it.
@@ -30,16 +33,17 @@ fn is_else(used: usize, text: &[u8]) -> bool
 }
 
 // Whether what follows a word makes it a variable that is assigned to.
-fn assigned(text: &[u8]) -> bool
+fn assigned(text: &[u8], marks: &[u8]) -> bool
+    requires { ⌜ MarksOf White (now text) (now marks) ⌝ }
     ensures { λ r. ⌜ r ≡ assignedOf (now (text .entry)) ⌝ }
 {
     if search::starts_with(text, 0x25) {
-        return ahead::assigns(&text[1..], Kind::White);
+        return ahead::assigns(&text[1..], Kind::White, marks);
     }
     if search::starts_with(text, 0x24) {
-        return ahead::assigns(&text[1..], Kind::White);
+        return ahead::assigns(&text[1..], Kind::White, marks);
     }
-    ahead::assigns(text, Kind::White)
+    ahead::assigns(text, Kind::White, marks)
 }
 
 // Whether what follows a word makes it a function.
@@ -51,22 +55,22 @@ fn is_called(text: &[u8]) -> bool
 }
 
 // Whether a TSB word of so many bytes in front of a text proves that the text is TSB.
-fn proves(start: bool, text: &[u8], used: usize) -> bool
-    requires { ⌜ used ≤ length (now text) ⌝ }
+fn proves(start: bool, text: &[u8], used: usize, marks: &[u8]) -> bool
+    requires { ⌜ (used ≤ length (now text)) × MarksOf White (now text) (now marks) ⌝ }
     ensures { λ r. ⌜ r ≡ provesOf start (now (text .entry)) used ⌝ }
 {
     if is_else(used, text) {
         return true;
     }
     if start {
-        return !assigned(&text[used..]);
+        return !assigned(&text[used..], marks);
     }
     is_called(&text[used..])
 }
 
 // Whether a TSB word stands in front of a text, and proves that the text is TSB.
-fn word_proves(place: Place, text: &[u8], bytes: &[u8], index: &[u16]) -> bool
-    requires { ⌜ SpellsWords (now bytes) (now index) ⌝ }
+fn word_proves(place: Place, text: &[u8], marks: &[u8], bytes: &[u8], index: &[u16]) -> bool
+    requires { ⌜ SpellsWords (now bytes) (now index) × MarksOf White (now text) (now marks) ⌝ }
     ensures { λ r. ⌜ r ≡ wordProves place (now (text .entry)) ⌝ }
 {
     match ahead::tsb_word(text, bytes, index) {
@@ -74,7 +78,7 @@ fn word_proves(place: Place, text: &[u8], bytes: &[u8], index: &[u16]) -> bool
             index: _,
             used,
             token: _,
-        } => proves(place::is_start(place), text, used),
+        } => proves(place::is_start(place), text, used, marks),
         Match::Nothing => false,
     }
 }
@@ -86,8 +90,8 @@ fn on(used: usize, place: Place) -> EvidenceStep
 }
 
 // A step on through a statement.
-fn word_step(place: Place, text: &[u8], bytes: &[u8], index: &[u16]) -> EvidenceStep
-    requires { ⌜ SpellsWords (now bytes) (now index) × (0 < length (now text)) ⌝ }
+fn word_step(place: Place, text: &[u8], marks: &[u8], bytes: &[u8], index: &[u16]) -> EvidenceStep
+    requires { ⌜ SpellsWords (now bytes) (now index) × (0 < length (now text)) × MarksOf White (now text) (now marks) ⌝ }
     ensures { λ r. ⌜ r ≡ wordStep place (now (text .entry)) ⌝ }
 {
     let b = text[0];
@@ -97,15 +101,21 @@ fn word_step(place: Place, text: &[u8], bytes: &[u8], index: &[u16]) -> Evidence
     if search::is_kind(b, Kind::White) {
         return on(1, place);
     }
-    if word_proves(place, text, bytes, index) {
+    if word_proves(place, text, marks, bytes, index) {
         return EvidenceStep::Proved;
     }
     on(1, Place::Within)
 }
 
 // A step outside strings and DATA. A space begins no word: it is asked for first, since no byte is more frequent.
-fn statement_step(place: Place, text: &[u8], bytes: &[u8], index: &[u16]) -> EvidenceStep
-    requires { ⌜ SpellsWords (now bytes) (now index) × (0 < length (now text)) ⌝ }
+fn statement_step(
+    place: Place,
+    text: &[u8],
+    marks: &[u8],
+    bytes: &[u8],
+    index: &[u16],
+) -> EvidenceStep
+    requires { ⌜ SpellsWords (now bytes) (now index) × (0 < length (now text)) × MarksOf White (now text) (now marks) ⌝ }
     ensures { λ r. ⌜ r ≡ statementStep place (now (text .entry)) ⌝ }
 {
     let b = text[0];
@@ -121,15 +131,21 @@ fn statement_step(place: Place, text: &[u8], bytes: &[u8], index: &[u16]) -> Evi
     if ahead::begins_data(text) {
         return on(4, Place::Data);
     }
-    word_step(place, text, bytes, index)
+    word_step(place, text, marks, bytes, index)
 }
 
-fn evidence_step(place: Place, text: &[u8], bytes: &[u8], index: &[u16]) -> EvidenceStep
-    requires { ⌜ SpellsWords (now bytes) (now index) × (0 < length (now text)) ⌝ }
+fn evidence_step(
+    place: Place,
+    text: &[u8],
+    marks: &[u8],
+    bytes: &[u8],
+    index: &[u16],
+) -> EvidenceStep
+    requires { ⌜ SpellsWords (now bytes) (now index) × (0 < length (now text)) × MarksOf White (now text) (now marks) ⌝ }
     ensures { λ r. ⌜ r ≡ evidenceStep place (now (text .entry)) ⌝ }
 {
     if place::is_plain(place) {
-        return statement_step(place, text, bytes, index);
+        return statement_step(place, text, marks, bytes, index);
     }
     on(1, place::aside(place, text[0]))
 }
@@ -142,14 +158,14 @@ fn number_length(line: &[u8]) -> usize
     blanks + search::front(&line[blanks..], Kind::Digit)
 }
 
-pub fn line_evidence(line: &[u8], bytes: &[u8], index: &[u16]) -> bool
-    requires { ⌜ SpellsWords (now bytes) (now index) ⌝ }
+fn marked_evidence(line: &[u8], marks: &[u8], bytes: &[u8], index: &[u16]) -> bool
+    requires { ⌜ SpellsWords (now bytes) (now index) × MarksOf White (now line) (now marks) ⌝ }
     ensures { λ r. ⌜ r ≡ lineEvidence (now (line .entry)) ⌝ }
 {
     let mut i = number_length(line);
     let mut place = Place::Start;
     while i < line.len() {
-        match evidence_step(place, &line[i..], bytes, index) {
+        match evidence_step(place, &line[i..], marks, bytes, index) {
             EvidenceStep::Proved => {
                 return true;
             }
@@ -163,4 +179,41 @@ pub fn line_evidence(line: &[u8], bytes: &[u8], index: &[u16]) -> bool
         }
     }
     false
+}
+
+fn long_evidence(line: &[u8], bytes: &[u8], index: &[u16]) -> bool
+    requires { ⌜ SpellsWords (now bytes) (now index) × (length (now line) ≤ 16384) ⌝ }
+    ensures { λ r. ⌜ r ≡ lineEvidence (now (line .entry)) ⌝ }
+{
+    let mut marks = [0u8; 2048];
+    let mut levels = [0u8; 2048];
+    lists::mark_lists(line, Kind::White, &mut marks, &mut levels);
+    marked_evidence(line, &marks, bytes, index)
+}
+
+fn longest_evidence(line: &[u8], bytes: &[u8], index: &[u16]) -> bool
+    requires { ⌜ SpellsWords (now bytes) (now index) × (length (now line) ≤ 1048576) ⌝ }
+    ensures { λ r. ⌜ r ≡ lineEvidence (now (line .entry)) ⌝ }
+{
+    let mut marks = [0u8; 131072];
+    let mut levels = [0u8; 131072];
+    lists::mark_lists(line, Kind::White, &mut marks, &mut levels);
+    marked_evidence(line, &marks, bytes, index)
+}
+
+// Whether a line proves that a text is TSB. The room for marks goes by its length; a short line needs none, and no text has a longer one.
+pub fn line_evidence(line: &[u8], bytes: &[u8], index: &[u16]) -> bool
+    requires { ⌜ SpellsWords (now bytes) (now index) ⌝ }
+    ensures { λ r. ⌜ r ≡ lineEvidence (now (line .entry)) ⌝ }
+{
+    let n = line.len();
+    if n > 256 {
+        if n <= 16384 {
+            return long_evidence(line, bytes, index);
+        }
+        if n <= 1048576 {
+            return longest_evidence(line, bytes, index);
+        }
+    }
+    marked_evidence(line, b"", bytes, index)
 }

@@ -1,18 +1,19 @@
 // Which TSB words a line uses as variables.
 use crate::ahead;
+use crate::lists;
 use crate::place;
 use crate::place::Place;
 use ascii::search;
-use ascii::search::Found;
 use ascii::search::Kind;
 use words::Match;
 ghost use mathlib.Core.Path.{_≡_};
 ghost use mathlib.Core.List.{reverse};
 ghost use Prim.Native.Nat.{_+_, _≤_, _<_};
 ghost use lib.ListN.{length, take, drop};
+ghost use Rattle.ascii.specs.declared.search.Kind.the-variants.{Space};
 ghost use Rattle.tables.specs.WordsHelpers.{SpellsWords};
 ghost use Rattle.guess_scans.specs.Variables.{afterDim, isName, wordPass, plainPass, passOf, lineNames};
-ghost use Rattle.guess_scans.specs.ScanHelpers.{behindEquals, NoneFrom};
+ghost use Rattle.guess_scans.specs.ScanHelpers.{MarksOf};
 
 pub enum Pass {
     // A remark: the rest of the line counts for nothing.
@@ -38,17 +39,13 @@ fn after_dim(line: &[u8], i: usize) -> bool
     words::begins(b"DIM", &line[from..e])
 }
 
-// Whether a TSB word of so many bytes at i is a variable. Where no = stands behind the word nothing is assigned to, and no list in
-// parentheses is gone through.
-fn is_name(line: &[u8], i: usize, used: usize, last: usize) -> bool
-    requires { ⌜ (i + used ≤ length (now line)) × NoneFrom (now line) last ⌝ }
+// Whether a TSB word of so many bytes at i is a variable.
+fn is_name(line: &[u8], i: usize, used: usize, marks: &[u8]) -> bool
+    requires { ⌜ (i + used ≤ length (now line)) × MarksOf Space (now line) (now marks) ⌝ }
     ensures { λ r. ⌜ r ≡ isName (reverse (take i (now (line .entry)))) (drop i (now (line .entry))) used ⌝ }
 {
     let behind = i + used;
-    if last <= behind {
-        return after_dim(line, i);
-    }
-    if ahead::assigns(&line[behind..], Kind::Space) {
+    if ahead::assigns(&line[behind..], Kind::Space, marks) {
         return true;
     }
     after_dim(line, i)
@@ -61,8 +58,8 @@ fn on(used: usize, place: Place) -> Pass
 }
 
 // A step at a place where a TSB word may stand.
-fn word_pass(line: &[u8], i: usize, last: usize, bytes: &[u8], index: &[u16]) -> Pass
-    requires { ⌜ SpellsWords (now bytes) (now index) × (i ≤ length (now line)) × NoneFrom (now line) last ⌝ }
+fn word_pass(line: &[u8], i: usize, marks: &[u8], bytes: &[u8], index: &[u16]) -> Pass
+    requires { ⌜ SpellsWords (now bytes) (now index) × (i ≤ length (now line)) × MarksOf Space (now line) (now marks) ⌝ }
     ensures { λ r. ⌜ r ≡ wordPass (reverse (take i (now (line .entry)))) (drop i (now (line .entry))) ⌝ }
 {
     match ahead::tsb_word(&line[i..], bytes, index) {
@@ -71,7 +68,7 @@ fn word_pass(line: &[u8], i: usize, last: usize, bytes: &[u8], index: &[u16]) ->
             used,
             token: _,
         } => {
-            if is_name(line, i, used, last) {
+            if is_name(line, i, used, marks) {
                 return Pass::Name { index: word, used };
             }
             on(used, Place::Within)
@@ -81,8 +78,8 @@ fn word_pass(line: &[u8], i: usize, last: usize, bytes: &[u8], index: &[u16]) ->
 }
 
 // A step outside strings and DATA.
-fn plain_pass(line: &[u8], i: usize, last: usize, bytes: &[u8], index: &[u16]) -> Pass
-    requires { ⌜ SpellsWords (now bytes) (now index) × (i < length (now line)) × NoneFrom (now line) last ⌝ }
+fn plain_pass(line: &[u8], i: usize, marks: &[u8], bytes: &[u8], index: &[u16]) -> Pass
+    requires { ⌜ SpellsWords (now bytes) (now index) × (i < length (now line)) × MarksOf Space (now line) (now marks) ⌝ }
     ensures { λ r. ⌜ r ≡ plainPass (reverse (take i (now (line .entry)))) (drop i (now (line .entry))) ⌝ }
 {
     if line[i] == 0x22 {
@@ -95,39 +92,27 @@ fn plain_pass(line: &[u8], i: usize, last: usize, bytes: &[u8], index: &[u16]) -
     if ahead::begins_data(text) {
         return on(4, Place::Data);
     }
-    word_pass(line, i, last, bytes, index)
+    word_pass(line, i, marks, bytes, index)
 }
 
-fn next_pass(line: &[u8], i: usize, place: Place, last: usize, bytes: &[u8], index: &[u16]) -> Pass
-    requires { ⌜ SpellsWords (now bytes) (now index) × (i < length (now line)) × NoneFrom (now line) last ⌝ }
+fn next_pass(line: &[u8], i: usize, place: Place, marks: &[u8], bytes: &[u8], index: &[u16]) -> Pass
+    requires { ⌜ SpellsWords (now bytes) (now index) × (i < length (now line)) × MarksOf Space (now line) (now marks) ⌝ }
     ensures { λ r. ⌜ r ≡ passOf (reverse (take i (now (line .entry)))) place (drop i (now (line .entry))) ⌝ }
 {
     if place::is_plain(place) {
-        return plain_pass(line, i, last, bytes, index);
+        return plain_pass(line, i, marks, bytes, index);
     }
     on(1, place::aside(place, line[i]))
 }
 
-// A place behind which no = stands.
-fn behind_equals(line: &[u8]) -> usize
-    ensures { λ r. ⌜ r ≡ behindEquals (now (line .entry)) ⌝ }
-{
-    match search::last(line, Kind::Is(0x3D)) {
-        Found::At(n) => n + 1,
-        Found::Nowhere => 0,
-    }
-}
-
-// Adds the words that the line uses as variables to those that were found. The last = is looked for once to a line.
-pub fn line_names(line: &[u8], bytes: &[u8], index: &[u16], found: &mut [bool])
-    requires { ⌜ SpellsWords (now bytes) (now index) × (123 ≤ length (now found)) ⌝ }
+fn marked_names(line: &[u8], marks: &[u8], bytes: &[u8], index: &[u16], found: &mut [bool])
+    requires { ⌜ SpellsWords (now bytes) (now index) × MarksOf Space (now line) (now marks) × (123 ≤ length (now found)) ⌝ }
     ensures { λ r. ⌜ now (found .exit) ≡ lineNames (now (line .entry)) (now (found .entry)) ⌝ }
 {
-    let last = behind_equals(line);
     let mut i: usize = 0;
     let mut place = Place::Within;
     while i < line.len() {
-        match next_pass(line, i, place, last, bytes, index) {
+        match next_pass(line, i, place, marks, bytes, index) {
             Pass::Remark => {
                 return;
             }
@@ -142,4 +127,43 @@ pub fn line_names(line: &[u8], bytes: &[u8], index: &[u16], found: &mut [bool])
             }
         }
     }
+}
+
+fn long_names(line: &[u8], bytes: &[u8], index: &[u16], found: &mut [bool])
+    requires { ⌜ SpellsWords (now bytes) (now index) × (length (now line) ≤ 16384) × (123 ≤ length (now found)) ⌝ }
+    ensures { λ r. ⌜ now (found .exit) ≡ lineNames (now (line .entry)) (now (found .entry)) ⌝ }
+{
+    let mut marks = [0u8; 2048];
+    let mut levels = [0u8; 2048];
+    lists::mark_lists(line, Kind::Space, &mut marks, &mut levels);
+    marked_names(line, &marks, bytes, index, found);
+}
+
+fn longest_names(line: &[u8], bytes: &[u8], index: &[u16], found: &mut [bool])
+    requires { ⌜ SpellsWords (now bytes) (now index) × (length (now line) ≤ 1048576) × (123 ≤ length (now found)) ⌝ }
+    ensures { λ r. ⌜ now (found .exit) ≡ lineNames (now (line .entry)) (now (found .entry)) ⌝ }
+{
+    let mut marks = [0u8; 131072];
+    let mut levels = [0u8; 131072];
+    lists::mark_lists(line, Kind::Space, &mut marks, &mut levels);
+    marked_names(line, &marks, bytes, index, found);
+}
+
+// Adds the words that the line uses as variables to those that were found. Room for marks as in evidence.rt.
+pub fn line_names(line: &[u8], bytes: &[u8], index: &[u16], found: &mut [bool])
+    requires { ⌜ SpellsWords (now bytes) (now index) × (123 ≤ length (now found)) ⌝ }
+    ensures { λ r. ⌜ now (found .exit) ≡ lineNames (now (line .entry)) (now (found .entry)) ⌝ }
+{
+    let n = line.len();
+    if n > 256 {
+        if n <= 16384 {
+            long_names(line, bytes, index, found);
+            return;
+        }
+        if n <= 1048576 {
+            longest_names(line, bytes, index, found);
+            return;
+        }
+    }
+    marked_names(line, b"", bytes, index, found);
 }

@@ -1,7 +1,9 @@
 -- `guess_scans::ahead::assigns` meets its contract.
 -- Assumes nothing.
-use Rattle.guess_scans.proofs.Behind.{assigns-list, assigns-plain, list-fits, list-within, opens}
+use Rattle.guess_scans.proofs.Behind.{assigns-list, assigns-plain, opens}
+use Rattle.guess_scans.proofs.Marks.{assigns-marked, mark-within}
 use Rattle.ascii.proofs.Searching.{front-within}
+use Rattle.steps.proofs.The.{the}
 use borrow.Author.Needs.{needs}
 use Rattle.guess_scans.proofs.ahead.assigns.Statement.{statement}
 use Rattle.guess_scans.proofs.ahead.assigns.Tie as tie
@@ -12,32 +14,23 @@ sub-rest c = search front-within
 part-rest-start : tie.Need-part-rest-start
 part-rest-start c = search front-within
 
-sub-closing : tie.Need-sub-closing
-sub-closing c = search opens
-
-part-closing-start : tie.Need-part-closing-start
-part-closing-start c = search opens
-
-add-list : tie.Need-add-list
-add-list c = search list-fits
-
-sub-behind : tie.Need-sub-behind
-sub-behind c = search list-within
-
-part-behind-start : tie.Need-part-behind-start
-part-behind-start c = search list-within
-
-sub-starts-with : tie.Need-sub-starts-with
-sub-starts-with c = search front-within
-
-part-starts-with-start : tie.Need-part-starts-with-start
-part-starts-with-start c = search front-within
+list-assigned-requires : tie.Need-list-assigned-requires
+list-assigned-requires c κs = search opens
 
 returns : tie.Need-returns
 returns c = search assigns-list
 
+sub-bit : tie.Need-sub-bit
+sub-bit c = search opens
+
+bit-requires : tie.Need-bit-requires
+bit-requires c κs = search (mark-within, the tie.Else2 (search) .if2 .left)
+
 returns-2 : tie.Need-returns-2
-returns-2 c = search assigns-plain
+returns-2 c = search (assigns-marked, the tie.Else2 (search) .if2 .left)
+
+returns-3 : tie.Need-returns-3
+returns-3 c = search assigns-plain
 
 pub assigns-spec : {M : Type 1} → statement M
 assigns-spec =
@@ -48,19 +41,10 @@ assigns-spec =
     part-rest-start
     (λ c. search needs)
     (λ c κs. search needs)
-    sub-closing
-    part-closing-start
-    (λ c. search needs)
-    (λ c κs. search needs)
-    add-list
-    sub-behind
-    part-behind-start
-    (λ c. search needs)
-    (λ c κs. search needs)
-    sub-starts-with
-    part-starts-with-start
-    (λ c. search needs)
-    (λ c κs. search needs)
+    list-assigned-requires
     returns
+    sub-bit
+    bit-requires
+    returns-2
     (λ c κs. search needs)
-    returns-2)
+    returns-3)

@@ -2,6 +2,7 @@
 -- Assumes nothing.
 use Rattle.guess_scans.proofs.Steps.{assigned-percent, assigned-dollar, assigned-bare}
 use Rattle.guess_scans.proofs.Behind.{opens}
+use Rattle.guess_scans.proofs.Marks.{marks-rest}
 use borrow.Author.Needs.{needs}
 use Rattle.guess_scans.proofs.evidence.assigned.Statement.{statement}
 use Rattle.guess_scans.proofs.evidence.assigned.Tie as tie
@@ -35,13 +36,13 @@ assigned-spec =
     sub-assigns
     part-assigns-start
     (λ c. search needs)
-    (λ c κs. search needs)
+    (λ c κs. search marks-rest)
     returns
     (λ c κs. search needs)
     sub-assigns-2
     part-assigns-start-2
     (λ c. search needs)
-    (λ c κs. search needs)
+    (λ c κs. search marks-rest)
     returns-2
     (λ c κs. search needs)
     returns-3)

@@ -1,6 +1,7 @@
 -- `guess_scans::evidence::proves` meets its contract.
 -- Assumes nothing.
 use Rattle.guess_scans.proofs.Steps.{proves-else, proves-start, proves-call}
+use Rattle.guess_scans.proofs.Marks.{marks-rest}
 use borrow.Author.Needs.{needs}
 use Rattle.guess_scans.proofs.evidence.proves.Statement.{statement}
 use Rattle.guess_scans.proofs.evidence.proves.Tie as tie
@@ -23,7 +24,7 @@ proves-spec =
     (λ c. search needs)
     (λ c. search needs)
     (λ c. search needs)
-    (λ c κs. search needs)
+    (λ c κs. search marks-rest)
     returns-2
     (λ c. search needs)
     (λ c. search needs)
