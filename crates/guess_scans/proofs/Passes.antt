@@ -13,7 +13,7 @@ use borrow.Author.Tests.{eq-eqb, ne-eqb, le-leb, lt-leb}
 use mir.Syntax.{w64}
 use mir.Val.{Fits}
 use Rattle.steps.proofs.Nearer.{Nearer, again-on}
-use Rattle.ascii.specs.Bytes.{upper}
+use Rattle.ascii.specs.Bytes.{upper, isLetter}
 use Rattle.ascii.specs.Search.{isWhite, front, past, pastEnd}
 use Rattle.ascii.specs.declared.search.Kind.the-variants.{Space}
 use Rattle.ascii.proofs.Searching.{tail, end-take, end-le}
@@ -32,7 +32,7 @@ use Rattle.guess_scans.specs.declared.place.Place.the-variants.{Within, 
 use Rattle.guess_scans.specs.declared.variables.Pass.{Pass}
 use Rattle.guess_scans.specs.declared.variables.Pass.the-variants.{Remark, On, Name}
 use Rattle.guess_scans.proofs.Behind.{rest, rest-long}
-use Rattle.guess_scans.proofs.Words.{Bounded, begins-long, word-bounds}
+use Rattle.guess_scans.proofs.Words.{Bounded, begins-long, word-bounds, no-letter, not-rem, not-data, letter-high}
 
 -- what a line has in front of a place, from the last byte back to the first
 abbrev pub passedAt : List ℕ → ℕ → List ℕ
@@ -169,20 +169,42 @@ module _ (line : List ℕ) (i : ℕ) where
     told-rem : r ≡ begins (bytesOf "REM") (rest line i) → begins (bytesOf "REM") (drop i line) ≡ r
     told-rem p = sym (p ∙ ap (begins (bytesOf "REM")) (tail line i))
 
-    pub pass-remark : r ≡ true → r ≡ begins (bytesOf "REM") (rest line i) → (getD line i 0 ≡ 0x22 → ⊥) → Remark ≡ plainPass (passedAt line i) (drop i line)
+    pass-remark : r ≡ true → r ≡ begins (bytesOf "REM") (rest line i) → (getD line i 0 ≡ 0x22 → ⊥) → Remark ≡ plainPass (passedAt line i) (drop i line)
     unfolding plainPass
     pass-remark e p n = sym (left _ _ (no-quote n) ∙ taken _ _ (told-rem p ∙ e))
 
     module _ {d : Bool} where
-      pub pass-data : {s : Pass} → s ≡ On 4 Data → d ≡ true → d ≡ begins (bytesOf "DATA") (rest line i) → r ≡ false → r ≡ begins (bytesOf "REM") (rest line i) → (getD line i 0 ≡ 0x22 → ⊥)
+      pass-data : {s : Pass} → s ≡ On 4 Data → d ≡ true → d ≡ begins (bytesOf "DATA") (rest line i) → r ≡ false → r ≡ begins (bytesOf "REM") (rest line i) → (getD line i 0 ≡ 0x22 → ⊥)
           → s ≡ plainPass (passedAt line i) (drop i line)
       unfolding plainPass
       pass-data q f u e p n = q ∙ sym (left _ _ (no-quote n) ∙ left _ _ (told-rem p ∙ e) ∙ taken _ _ (told-data u ∙ f))
 
-      pub pass-on : {s : Pass} → s ≡ wordPass (passedAt line i) (drop i line) → d ≡ false → d ≡ begins (bytesOf "DATA") (rest line i) → r ≡ false → r ≡ begins (bytesOf "REM") (rest line i)
+      pass-on : {s : Pass} → s ≡ wordPass (passedAt line i) (drop i line) → d ≡ false → d ≡ begins (bytesOf "DATA") (rest line i) → r ≡ false → r ≡ begins (bytesOf "REM") (rest line i)
           → (getD line i 0 ≡ 0x22 → ⊥) → s ≡ plainPass (passedAt line i) (drop i line)
       unfolding plainPass
       pass-on q f u e p n = q ∙ sym (left _ _ (no-quote n) ∙ left _ _ (told-rem p ∙ e) ∙ left _ _ (told-data u ∙ f))
+
+  -- at a letter: REM, DATA or a word
+  letter-quote : isLetter (getD line i 0) ≡ true → getD line i 0 ≡ 0x22 → ⊥
+  letter-quote l e = omega (arith, letter-high (getD line i 0) l)
+
+  module _ (l : isLetter (getD line i 0) ≡ true) {r : Bool} where
+    pub letter-remark : r ≡ true → r ≡ begins (bytesOf "REM") (rest line i) → Remark ≡ plainPass (passedAt line i) (drop i line)
+    letter-remark e p = pass-remark e p (letter-quote l)
+
+    module _ {d : Bool} {s : Pass} where
+      pub letter-data : s ≡ On 4 Data → d ≡ true → d ≡ begins (bytesOf "DATA") (rest line i) → r ≡ false → r ≡ begins (bytesOf "REM") (rest line i) → s ≡ plainPass (passedAt line i) (drop i line)
+      letter-data q f u e p = pass-data q f u e p (letter-quote l)
+
+      pub letter-word : s ≡ wordPass (passedAt line i) (drop i line) → d ≡ false → d ≡ begins (bytesOf "DATA") (rest line i) → r ≡ false → r ≡ begins (bytesOf "REM") (rest line i)
+          → s ≡ plainPass (passedAt line i) (drop i line)
+      letter-word q f u e p = pass-on q f u e p (letter-quote l)
+
+  -- at another byte: none of them
+  pub pass-other : {s : Pass} {x : Bool} → s ≡ On 1 Within → x ≡ false → x ≡ isLetter (getD line i 0) → (getD line i 0 ≡ 0x22 → ⊥) → s ≡ plainPass (passedAt line i) (drop i line)
+  pass-other q e p d =
+      let n : isLetter (getD (rest line i) 0 0) ≡ false = ap isLetter (ap (λ (t : List ℕ). getD t 0 0) (tail line i) ∙ first-at) ∙ sym p ∙ e in
+      pass-on (pass-nothing line i q refl (no-letter (rest line i) refl (sym n))) refl (sym (not-data (rest line i) n)) refl (sym (not-rem (rest line i) n)) d
 
   module _ (place : Place) {x : Bool} {s : Pass} where
     pub pass-plain : s ≡ plainPass (passedAt line i) (drop i line) → x ≡ true → x ≡ isPlain place → s ≡ passOf (passedAt line i) place (drop i line)

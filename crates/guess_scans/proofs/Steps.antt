@@ -12,7 +12,7 @@ use borrow.Author.Tests.{eq-eqb, ne-eqb}
 use mir.Syntax.{w64}
 use mir.Val.{Fits}
 use Rattle.steps.proofs.Nearer.{Nearer, again-on}
-use Rattle.ascii.specs.Bytes.{between, upper, isDigit}
+use Rattle.ascii.specs.Bytes.{between, upper, isDigit, isLetter}
 use Rattle.ascii.specs.Search.{isWhite, isBlank, startsWith, front, past}
 use Rattle.ascii.specs.declared.search.Kind.the-variants.{White}
 use Rattle.ascii.proofs.Searching.{tail, front-le, front-more}
@@ -32,7 +32,7 @@ use Rattle.guess_scans.specs.declared.place.Place.the-variants.{Start, W
 use Rattle.guess_scans.specs.declared.evidence.EvidenceStep.{EvidenceStep}
 use Rattle.guess_scans.specs.declared.evidence.EvidenceStep.the-variants.{Proved, Remark, On}
 use Rattle.guess_scans.proofs.Behind.{rest, rest-long}
-use Rattle.guess_scans.proofs.Words.{begins-long, word-bounds}
+use Rattle.guess_scans.proofs.Words.{begins-long, word-bounds, no-letter, not-rem, not-data, letter-high, letter-not-white}
 
 -- ---- what a word proves
 
@@ -91,20 +91,20 @@ word-within t e p = word-bounds t (sym p ∙ e) .within
 -- ---- a step on through a statement
 
 module _ (place : Place) (t : List ℕ) where
-  pub word-colon : {s : EvidenceStep} → s ≡ On 1 Start → getD t 0 0 ≡ 0x3A → s ≡ wordStep place t
+  word-colon : {s : EvidenceStep} → s ≡ On 1 Start → getD t 0 0 ≡ 0x3A → s ≡ wordStep place t
   unfolding wordStep
   word-colon q e = q ∙ sym (taken _ _ (eq-eqb _ _ e))
 
   module _ {w : Bool} where
-    pub word-white : {s : EvidenceStep} → s ≡ On 1 place → w ≡ true → w ≡ isWhite (getD t 0 0) → (getD t 0 0 ≡ 0x3A → ⊥) → s ≡ wordStep place t
+    word-white : {s : EvidenceStep} → s ≡ On 1 place → w ≡ true → w ≡ isWhite (getD t 0 0) → (getD t 0 0 ≡ 0x3A → ⊥) → s ≡ wordStep place t
     unfolding wordStep
     word-white q e v k = q ∙ sym (left _ _ (ne-eqb _ _ k) ∙ taken _ _ (sym v ∙ e))
 
-    pub word-proved : {x : Bool} → x ≡ true → x ≡ wordProves place t → w ≡ false → w ≡ isWhite (getD t 0 0) → (getD t 0 0 ≡ 0x3A → ⊥) → Proved ≡ wordStep place t
+    word-proved : {x : Bool} → x ≡ true → x ≡ wordProves place t → w ≡ false → w ≡ isWhite (getD t 0 0) → (getD t 0 0 ≡ 0x3A → ⊥) → Proved ≡ wordStep place t
     unfolding wordStep
     word-proved e u n v k = sym (left _ _ (ne-eqb _ _ k) ∙ left _ _ (sym v ∙ n) ∙ taken _ _ (sym u ∙ e))
 
-    pub word-other : {s : EvidenceStep} {x : Bool} → s ≡ On 1 Within → x ≡ false → x ≡ wordProves place t → w ≡ false → w ≡ isWhite (getD t 0 0) → (getD t 0 0 ≡ 0x3A → ⊥)
+    word-other : {s : EvidenceStep} {x : Bool} → s ≡ On 1 Within → x ≡ false → x ≡ wordProves place t → w ≡ false → w ≡ isWhite (getD t 0 0) → (getD t 0 0 ≡ 0x3A → ⊥)
         → s ≡ wordStep place t
     unfolding wordStep
     word-other q e u n v k = q ∙ sym (left _ _ (ne-eqb _ _ k) ∙ left _ _ (sym v ∙ n) ∙ left _ _ (sym u ∙ e))
@@ -125,18 +125,56 @@ module _ (place : Place) (t : List ℕ) where
   statement-quote q e = q ∙ sym (taken _ _ (eq-eqb _ _ e))
 
   module _ {r : Bool} where
-    pub statement-remark : r ≡ true → r ≡ begins (bytesOf "REM") t → (getD t 0 0 ≡ 0x22 → ⊥) → Remark ≡ statementStep place t
+    statement-remark : r ≡ true → r ≡ begins (bytesOf "REM") t → (getD t 0 0 ≡ 0x22 → ⊥) → Remark ≡ statementStep place t
     unfolding statementStep
     statement-remark e p n = sym (left _ _ (ne-eqb _ _ n) ∙ taken _ _ (sym p ∙ e))
 
     module _ {d : Bool} {s : EvidenceStep} where
-      pub statement-data : s ≡ On 4 Data → d ≡ true → d ≡ begins (bytesOf "DATA") t → r ≡ false → r ≡ begins (bytesOf "REM") t → (getD t 0 0 ≡ 0x22 → ⊥) → s ≡ statementStep place t
+      statement-data : s ≡ On 4 Data → d ≡ true → d ≡ begins (bytesOf "DATA") t → r ≡ false → r ≡ begins (bytesOf "REM") t → (getD t 0 0 ≡ 0x22 → ⊥) → s ≡ statementStep place t
       unfolding statementStep
       statement-data q f u e p n = q ∙ sym (left _ _ (ne-eqb _ _ n) ∙ left _ _ (sym p ∙ e) ∙ taken _ _ (sym u ∙ f))
 
-      pub statement-word : s ≡ wordStep place t → d ≡ false → d ≡ begins (bytesOf "DATA") t → r ≡ false → r ≡ begins (bytesOf "REM") t → (getD t 0 0 ≡ 0x22 → ⊥) → s ≡ statementStep place t
+      statement-word : s ≡ wordStep place t → d ≡ false → d ≡ begins (bytesOf "DATA") t → r ≡ false → r ≡ begins (bytesOf "REM") t → (getD t 0 0 ≡ 0x22 → ⊥) → s ≡ statementStep place t
       unfolding statementStep
       statement-word q f u e p n = q ∙ sym (left _ _ (ne-eqb _ _ n) ∙ left _ _ (sym p ∙ e) ∙ left _ _ (sym u ∙ f))
+
+-- at a letter: REM, DATA or a word
+no-quote : (b : ℕ) → isLetter b ≡ true → b ≡ 0x22 → ⊥
+no-quote b l e = omega (arith, letter-high b l)
+
+no-colon : (b : ℕ) → isLetter b ≡ true → b ≡ 0x3A → ⊥
+no-colon b l e = omega (arith, letter-high b l)
+
+module _ (place : Place) (t : List ℕ) (l : isLetter (getD t 0 0) ≡ true) {r : Bool} where
+  pub letter-remark : r ≡ true → r ≡ begins (bytesOf "REM") t → Remark ≡ statementStep place t
+  letter-remark e p = statement-remark place t e p (no-quote _ l)
+
+  module _ {d : Bool} {s : EvidenceStep} where
+    pub letter-data : s ≡ On 4 Data → d ≡ true → d ≡ begins (bytesOf "DATA") t → r ≡ false → r ≡ begins (bytesOf "REM") t → s ≡ statementStep place t
+    letter-data q f u e p = statement-data place t q f u e p (no-quote _ l)
+
+    pub letter-on : {x : Bool} → s ≡ On 1 Within → x ≡ false → x ≡ wordProves place t → d ≡ false → d ≡ begins (bytesOf "DATA") t → r ≡ false → r ≡ begins (bytesOf "REM") t
+        → s ≡ statementStep place t
+    letter-on q y z f u e p = statement-word place t (word-other place t q y z refl (sym (letter-not-white (getD t 0 0) l)) (no-colon _ l)) f u e p (no-quote _ l)
+
+  pub letter-proved : {d x : Bool} → x ≡ true → x ≡ wordProves place t → d ≡ false → d ≡ begins (bytesOf "DATA") t → r ≡ false → r ≡ begins (bytesOf "REM") t
+      → Proved ≡ statementStep place t
+  letter-proved y z f u e p = statement-word place t (word-proved place t y z refl (sym (letter-not-white (getD t 0 0) l)) (no-colon _ l)) f u e p (no-quote _ l)
+
+-- at another byte: none of them
+module _ (place : Place) (t : List ℕ) (n : isLetter (getD t 0 0) ≡ false) {s : EvidenceStep} where
+  passes : s ≡ wordStep place t → (getD t 0 0 ≡ 0x22 → ⊥) → s ≡ statementStep place t
+  passes q d = statement-word place t q refl (sym (not-data t n)) refl (sym (not-rem t n)) d
+
+  pub other-colon : s ≡ On 1 Start → getD t 0 0 ≡ 0x3A → s ≡ statementStep place t
+  other-colon q e = passes (word-colon place t q e) (λ f. omega arith)
+
+  module _ {w : Bool} where
+    pub other-white : s ≡ On 1 place → w ≡ true → w ≡ isWhite (getD t 0 0) → (getD t 0 0 ≡ 0x3A → ⊥) → (getD t 0 0 ≡ 0x22 → ⊥) → s ≡ statementStep place t
+    other-white q e v k d = passes (word-white place t q e v k) d
+
+    pub other-on : s ≡ On 1 Within → w ≡ false → w ≡ isWhite (getD t 0 0) → (getD t 0 0 ≡ 0x3A → ⊥) → (getD t 0 0 ≡ 0x22 → ⊥) → s ≡ statementStep place t
+    other-on q e v k d = passes (word-other place t q refl (no-word-proves place t refl (no-letter t refl (sym n))) e v k) d
 
 module _ (place : Place) (t : List ℕ) {x : Bool} {s : EvidenceStep} where
   pub step-plain : s ≡ statementStep place t → x ≡ true → x ≡ isPlain place → s ≡ evidenceStep place t

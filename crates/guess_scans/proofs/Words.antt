@@ -7,10 +7,11 @@ use mathlib.Core.Bool.{Bool, true, false, _&&_, false≢true}
 use mathlib.Core.List.{List, [], _∷_}
 use native.Mathlib.Omega.{arith}
 use native.Mathlib.Nat.{not-suc-le-zero, le-of-suc-le-suc}
-use lib.Dec.{T, eqb}
+use lib.Dec.{T, eqb, leb}
 use lib.ListN.{length, getD}
-use borrow.Author.Tests.{eq-eqb, ne-eqb}
+use borrow.Author.Tests.{eq-eqb, ne-eqb, leb-true, leb-false, lt-leb}
 use Rattle.ascii.specs.Bytes.{isLetter, between, upper}
+use Rattle.ascii.specs.Search.{isWhite}
 use Rattle.words.specs.Compare.{begins}
 use Rattle.words.specs.Find.{Entry, firstThat, wordIn}
 use Rattle.words.specs.Order.{wordAt}
@@ -152,3 +153,40 @@ no-rem t n e h = other-first 0x52 (bytesOf "EM") t refl n e h
 pub no-data : (t : List ℕ) {b : ℕ} → (b ≡ 0x44 → ⊥) → b ≡ upper (getD t 0 0) → 0 < length t → false ≡ begins (bytesOf "DATA") t
 unfolding upper between
 no-data t n e h = other-first 0x44 (bytesOf "ATA") t refl n e h
+
+-- ---- no word but at a letter, and a letter is above all other bytes that a step asks for
+
+pub not-rem : (t : List ℕ) → isLetter (getD t 0 0) ≡ false → begins (bytesOf "REM") t ≡ false
+unfolding initial between upper
+not-rem t n = not-begun (bytesOf "REM") t tt n
+
+pub not-data : (t : List ℕ) → isLetter (getD t 0 0) ≡ false → begins (bytesOf "DATA") t ≡ false
+unfolding initial between upper
+not-data t n = not-begun (bytesOf "DATA") t tt n
+
+pub letter-told : (b : ℕ) {x r : Bool} → x ≡ r → x ≡ isLetter b → isLetter b ≡ r
+letter-told b e p = sym p ∙ e
+
+low-no-letter : (b : ℕ) → b < 65 → isLetter b ≡ false
+unfolding between upper
+low-no-letter b h = simp (lt-leb 97 b (omega arith), lt-leb 65 b h)
+
+pub letter-high : (b : ℕ) → isLetter b ≡ true → 65 ≤ b
+letter-high b l = go (leb 65 b) refl
+  where
+    go : (r : Bool) → leb 65 b ≡ r → 65 ≤ b
+    go true e = leb-true 65 b e
+    go false e = absurd (false≢true (sym (low-no-letter b (leb-false 65 b e)) ∙ l))
+
+beyond : (low high b : ℕ) → high < b → between low high b ≡ false
+unfolding between
+beyond low high b h = rw (lt-leb b high h) (go (leb low b))
+  where
+    go : (r : Bool) → (r && false) ≡ false
+    go true = refl
+    go false = refl
+
+pub letter-not-white : (b : ℕ) → isLetter b ≡ true → isWhite b ≡ false
+letter-not-white b l =
+    let h : 65 ≤ b = letter-high b l in
+    simp (ne-eqb b 0x20 (λ e. omega arith), beyond 0x09 0x0A b (omega arith), beyond 0x0C 0x0D b (omega arith))

@@ -8,10 +8,12 @@ use ascii::search::Kind;
 use words::Match;
 ghost use mathlib.Core.Path.{_≡_};
 ghost use Prim.Native.Nat.{_≤_, _<_};
-ghost use lib.ListN.{length};
+ghost use mathlib.Core.Bool.{true, false};
+ghost use lib.ListN.{length, getD};
+ghost use Rattle.ascii.specs.Bytes.{isLetter};
 ghost use Rattle.ascii.specs.declared.search.Kind.the-variants.{White};
 ghost use Rattle.tables.specs.WordsHelpers.{SpellsWords};
-ghost use Rattle.guess_scans.specs.Evidence.{isElse, assigned as assignedOf, called, proves as provesOf, wordProves, wordStep, statementStep, evidenceStep, numberLength, lineEvidence};
+ghost use Rattle.guess_scans.specs.Evidence.{isElse, assigned as assignedOf, called, proves as provesOf, wordProves, statementStep, evidenceStep, numberLength, lineEvidence};
 ghost use Rattle.guess_scans.specs.ScanHelpers.{MarksOf};
 
 pub enum EvidenceStep {
@@ -89,17 +91,16 @@ fn on(used: usize, place: Place) -> EvidenceStep
     EvidenceStep::On { used, place }
 }
 
-// A step on through a statement.
-fn word_step(place: Place, text: &[u8], marks: &[u8], bytes: &[u8], index: &[u16]) -> EvidenceStep
-    requires { ⌜ SpellsWords (now bytes) (now index) × (0 < length (now text)) × MarksOf White (now text) (now marks) ⌝ }
-    ensures { λ r. ⌜ r ≡ wordStep place (now (text .entry)) ⌝ }
+// A step at a letter outside strings and DATA: only there a word may stand.
+fn letter_step(place: Place, text: &[u8], marks: &[u8], bytes: &[u8], index: &[u16]) -> EvidenceStep
+    requires { ⌜ SpellsWords (now bytes) (now index) × (0 < length (now text)) × MarksOf White (now text) (now marks) × (isLetter (getD (now text) 0 0) ≡ true) ⌝ }
+    ensures { λ r. ⌜ r ≡ statementStep place (now (text .entry)) ⌝ }
 {
-    let b = text[0];
-    if b == 0x3A {
-        return on(1, Place::Start);
+    if ahead::begins_rem(text) {
+        return EvidenceStep::Remark;
     }
-    if search::is_kind(b, Kind::White) {
-        return on(1, place);
+    if ahead::begins_data(text) {
+        return on(4, Place::Data);
     }
     if word_proves(place, text, marks, bytes, index) {
         return EvidenceStep::Proved;
@@ -107,7 +108,25 @@ fn word_step(place: Place, text: &[u8], marks: &[u8], bytes: &[u8], index: &[u16
     on(1, Place::Within)
 }
 
-// A step outside strings and DATA. A space begins no word: it is asked for first, since no byte is more frequent.
+// A step at another byte.
+fn other_step(place: Place, text: &[u8]) -> EvidenceStep
+    requires { ⌜ (0 < length (now text)) × (isLetter (getD (now text) 0 0) ≡ false) ⌝ }
+    ensures { λ r. ⌜ r ≡ statementStep place (now (text .entry)) ⌝ }
+{
+    let b = text[0];
+    if b == 0x22 {
+        return on(1, Place::Quoted);
+    }
+    if b == 0x3A {
+        return on(1, Place::Start);
+    }
+    if search::is_kind(b, Kind::White) {
+        return on(1, place);
+    }
+    on(1, Place::Within)
+}
+
+// A step outside strings and DATA. A space is asked for first, since no byte is more frequent.
 fn statement_step(
     place: Place,
     text: &[u8],
@@ -122,16 +141,10 @@ fn statement_step(
     if b == 0x20 {
         return on(1, place);
     }
-    if b == 0x22 {
-        return on(1, Place::Quoted);
+    if ascii::is_letter(b) {
+        return letter_step(place, text, marks, bytes, index);
     }
-    if ahead::begins_rem(text) {
-        return EvidenceStep::Remark;
-    }
-    if ahead::begins_data(text) {
-        return on(4, Place::Data);
-    }
-    word_step(place, text, marks, bytes, index)
+    other_step(place, text)
 }
 
 fn evidence_step(

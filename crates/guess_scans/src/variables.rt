@@ -9,7 +9,9 @@ use words::Match;
 ghost use mathlib.Core.Path.{_≡_};
 ghost use mathlib.Core.List.{reverse};
 ghost use Prim.Native.Nat.{_+_, _≤_, _<_};
-ghost use lib.ListN.{length, take, drop};
+ghost use mathlib.Core.Bool.{true};
+ghost use lib.ListN.{length, getD, take, drop};
+ghost use Rattle.ascii.specs.Bytes.{isLetter};
 ghost use Rattle.ascii.specs.declared.search.Kind.the-variants.{Space};
 ghost use Rattle.tables.specs.WordsHelpers.{SpellsWords};
 ghost use Rattle.guess_scans.specs.Variables.{afterDim, isName, wordPass, plainPass, passOf, lineNames};
@@ -77,14 +79,11 @@ fn word_pass(line: &[u8], i: usize, marks: &[u8], bytes: &[u8], index: &[u16]) -
     }
 }
 
-// A step outside strings and DATA.
-fn plain_pass(line: &[u8], i: usize, marks: &[u8], bytes: &[u8], index: &[u16]) -> Pass
-    requires { ⌜ SpellsWords (now bytes) (now index) × (i < length (now line)) × MarksOf Space (now line) (now marks) ⌝ }
+// A step at a letter outside strings and DATA.
+fn letter_pass(line: &[u8], i: usize, marks: &[u8], bytes: &[u8], index: &[u16]) -> Pass
+    requires { ⌜ SpellsWords (now bytes) (now index) × (i < length (now line)) × MarksOf Space (now line) (now marks) × (isLetter (getD (now line) i 0) ≡ true) ⌝ }
     ensures { λ r. ⌜ r ≡ plainPass (reverse (take i (now (line .entry)))) (drop i (now (line .entry))) ⌝ }
 {
-    if line[i] == 0x22 {
-        return on(1, Place::Quoted);
-    }
     let text = &line[i..];
     if ahead::begins_rem(text) {
         return Pass::Remark;
@@ -93,6 +92,21 @@ fn plain_pass(line: &[u8], i: usize, marks: &[u8], bytes: &[u8], index: &[u16]) 
         return on(4, Place::Data);
     }
     word_pass(line, i, marks, bytes, index)
+}
+
+// A step outside strings and DATA: no word stands but at a letter.
+fn plain_pass(line: &[u8], i: usize, marks: &[u8], bytes: &[u8], index: &[u16]) -> Pass
+    requires { ⌜ SpellsWords (now bytes) (now index) × (i < length (now line)) × MarksOf Space (now line) (now marks) ⌝ }
+    ensures { λ r. ⌜ r ≡ plainPass (reverse (take i (now (line .entry)))) (drop i (now (line .entry))) ⌝ }
+{
+    let b = line[i];
+    if ascii::is_letter(b) {
+        return letter_pass(line, i, marks, bytes, index);
+    }
+    if b == 0x22 {
+        return on(1, Place::Quoted);
+    }
+    on(1, Place::Within)
 }
 
 fn next_pass(line: &[u8], i: usize, place: Place, marks: &[u8], bytes: &[u8], index: &[u16]) -> Pass

@@ -1,7 +1,7 @@
 -- `guess_scans::evidence::statement_step` meets its contract.
 -- Assumes nothing.
-use Rattle.guess_scans.proofs.Steps.{statement-data, statement-quote, statement-remark, statement-space, statement-word}
-use Rattle.steps.proofs.The.{the}
+use Rattle.guess_scans.proofs.Steps.{statement-space}
+use Rattle.guess_scans.proofs.Words.{letter-told}
 use borrow.Author.Needs.{needs}
 use Rattle.guess_scans.proofs.evidence.statement_step.Statement.{statement}
 use Rattle.guess_scans.proofs.evidence.statement_step.Tie as tie
@@ -9,17 +9,11 @@ use Rattle.guess_scans.proofs.evidence.statement_step.Tie as tie
 returns : tie.Need-returns
 returns c = search statement-space
 
-returns-2 : tie.Need-returns-2
-returns-2 c = search statement-quote
+letter-step-requires : tie.Need-letter-step-requires
+letter-step-requires c κs = search letter-told
 
-returns-3 : tie.Need-returns-3
-returns-3 c = search (statement-remark, the tie.Else2 (search) .if2 .left)
-
-returns-4 : tie.Need-returns-4
-returns-4 c = search (statement-data, the tie.Else2 (search) .if2 .left)
-
-returns-5 : tie.Need-returns-5
-returns-5 c = search (statement-word, the tie.Else2 (search) .if2 .left)
+other-step-requires : tie.Need-other-step-requires
+other-step-requires c κs = search letter-told
 
 pub statement-step-spec : {M : Type 1} → statement M
 statement-step-spec =
@@ -29,11 +23,7 @@ statement-step-spec =
     (λ c κs. search needs)
     returns
     (λ c κs. search needs)
-    returns-2
-    (λ c κs. search needs)
-    returns-3
-    (λ c κs. search needs)
-    (λ c κs. search needs)
-    returns-4
-    (λ c κs. search needs)
-    returns-5)
+    letter-step-requires
+    (λ c. search needs)
+    other-step-requires
+    (λ c. search needs))
