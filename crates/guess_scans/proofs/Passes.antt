@@ -16,7 +16,7 @@ use Rattle.steps.proofs.Nearer.{Nearer, again-on}
 use Rattle.ascii.specs.Bytes.{upper, isLetter}
 use Rattle.ascii.specs.Search.{isWhite, front, past, pastEnd}
 use Rattle.ascii.specs.declared.search.Kind.the-variants.{Space}
-use Rattle.ascii.proofs.Searching.{tail, end-take, end-le}
+use Rattle.ascii.proofs.Searching.{tail, front-le, end-take, end-le}
 use Rattle.words.specs.Compare.{begins}
 use Rattle.words.specs.Find.{wordIn}
 use Rattle.words.specs.declared.Match.{Match}
@@ -26,12 +26,14 @@ use Rattle.tables.specs.Tsb.{tsbWords}
 use Rattle.lines.proofs.Parts.{taken, left, either}
 use Rattle.guess_scans.specs.Ahead.{assigns}
 use Rattle.guess_scans.specs.Places.{isPlain, aside}
+use Rattle.guess_scans.specs.ScanHelpers.{stays}
 use Rattle.guess_scans.specs.Variables.{afterDim, isName, wordPass, plainPass, passOf, NameScan, onBy, namesOn, namesFrom, lineNames}
 use Rattle.guess_scans.specs.declared.place.Place.{Place}
 use Rattle.guess_scans.specs.declared.place.Place.the-variants.{Within, Quoted, Data}
 use Rattle.guess_scans.specs.declared.variables.Pass.{Pass}
 use Rattle.guess_scans.specs.declared.variables.Pass.the-variants.{Remark, On, Name}
 use Rattle.guess_scans.proofs.Behind.{rest, rest-long}
+use Rattle.guess_scans.proofs.Places.{Same, stretch-by}
 use Rattle.guess_scans.proofs.Words.{Bounded, begins-long, word-bounds, no-letter, not-rem, not-data, letter-high}
 
 -- what a line has in front of a place, from the last byte back to the first
@@ -351,10 +353,7 @@ module _ (line : List ℕ) (place : Place) (i : ℕ) {s : Pass} where
     pub pass-fits : Fits w64 (length line) → Fits w64 (i + used)
     pass-fits f = record { fits = omega (arith, f .fits, on-within) }
 
-    pub pass-less : length line - (i + used) < length line - i
-    pass-less = omega (arith, far e q h)
-
-    pub passing-on : {w : List Bool} {size : ℕ} {found : List Bool} → Passing line w size found place i → Passing line w size found next (i + used)
+    passing-on : {w : List Bool} {size : ℕ} {found : List Bool} → Passing line w size found place i → Passing line w size found next (i + used)
     passing-on {w} {size} {found} k =
         record {
           within = on-within;
@@ -385,3 +384,30 @@ module _ (line : List ℕ) (place : Place) (i : ℕ) {s : Pass} where
             sized = length-set found index true ∙ k .sized;
             gives = sym (there found e q h ∙ ap namesFrom (further line i used place Within found (set found index true))) ∙ k .gives;
           }
+
+-- ---- a step, and the bytes of a string or of DATA behind it
+
+same-turn : (line : List ℕ) (place : Place) (j : ℕ) {w : List Bool} {size : ℕ} {found : List Bool} → j < length line → Same place (getD line j 0) → Passing line w size found place j
+    → Passing line w size found place (j + 1)
+unfolding passOf
+same-turn line place j h s k =
+    let q : On 1 place ≡ passOf (passedAt line j) place (drop j line) = sym (left _ _ (s .apart) ∙ ap (On 1) (ap (aside place) (first-at line j) ∙ s .same)) in
+    passing-on line place j {s = On 1 place} refl q h k
+
+module _ (line : List ℕ) (place : Place) (i : ℕ) {s : Pass} {used : ℕ} {next : Place} (e : s ≡ On used next) (q : s ≡ passOf (passedAt line i) place (drop i line)) (h : i < length line) where
+  pub behind-within : i + used ≤ length line
+  behind-within = on-within line place i e q h
+
+  module _ {n : ℕ} (p : n ≡ front (stays next) (rest line (i + used))) where
+    stretch-within : i + used + n ≤ length line
+    stretch-within = omega (arith, front-le (stays next) (rest line (i + used)), rest-long line (i + used), behind-within)
+
+    pub stretch-fits : Fits w64 (length line) → Fits w64 (i + used + n)
+    stretch-fits f = record { fits = omega (arith, f .fits, stretch-within) }
+
+    pub stretch-less : length line - (i + used + n) < length line - i
+    stretch-less = omega (arith, far line place i e q h .0, stretch-within)
+
+    pub passing-stretch : {w : List Bool} {size : ℕ} {found : List Bool} → Passing line w size found place i → Passing line w size found next (i + used + n)
+    passing-stretch {w} {size} {found} k =
+        stretch-by (Passing line w size found next) next line (i + used) (λ j g o. same-turn line next j g o) n (omega (arith, p ∙ ap (front (stays next)) (tail line (i + used)))) (passing-on line place i e q h k)

@@ -4,10 +4,11 @@ use Prim.Native.Nat.{ℕ, suc, _+_, _-_, _≤_, _<_}
 use mathlib.Core.Path.{_≡_, refl, sym, ap, _∙_, subst}
 use mathlib.Core.Bool.{Bool, true, false, not, _&&_, _||_}
 use mathlib.Core.List.{List, [], _∷_}
+use native.Mathlib.Nat.{add-zero}
 use native.Mathlib.Omega.{arith}
 use lib.Dec.{eqb}
 use lib.ListN.{length, getD, take, drop, drop-of-length-le, length-drop}
-use lib.Seq.{drop-drop}
+use lib.Seq.{drop-drop, getD-drop}
 use borrow.Author.Tests.{eq-eqb, ne-eqb}
 use mir.Syntax.{w64}
 use mir.Val.{Fits}
@@ -27,11 +28,13 @@ use Rattle.lines.proofs.Parts.{taken, left, either}
 use Rattle.guess_scans.specs.Ahead.{assigns}
 use Rattle.guess_scans.specs.Evidence.{isElse, assigned, called, proves, wordProves, wordStep, statementStep, evidenceStep, evidenceOn, evidenceFrom, numberLength, lineEvidence}
 use Rattle.guess_scans.specs.Places.{isPlain, isStart, aside}
+use Rattle.guess_scans.specs.ScanHelpers.{stays}
 use Rattle.guess_scans.specs.declared.place.Place.{Place}
 use Rattle.guess_scans.specs.declared.place.Place.the-variants.{Start, Within, Quoted, Data}
 use Rattle.guess_scans.specs.declared.evidence.EvidenceStep.{EvidenceStep}
 use Rattle.guess_scans.specs.declared.evidence.EvidenceStep.the-variants.{Proved, Remark, On}
 use Rattle.guess_scans.proofs.Behind.{rest, rest-long}
+use Rattle.guess_scans.proofs.Places.{Same, stretch-by}
 use Rattle.guess_scans.proofs.Words.{begins-long, word-bounds, no-letter, not-rem, not-data, letter-high, letter-not-white}
 
 -- ---- what a word proves
@@ -302,12 +305,36 @@ module _ (line : List ℕ) (place : Place) (i : ℕ) {s : EvidenceStep} where
     pub on-fits : Fits w64 (length line) → Fits w64 (i + used)
     on-fits f = record { fits = omega (arith, f .fits, far .1) }
 
-    pub on-less : length line - (i + used) < length line - i
-    on-less = omega (arith, far)
-
-    pub scanned-turn : {w : Bool} → Scanned line w place i → Scanned line w next (i + used)
+    scanned-turn : {w : Bool} → Scanned line w place i → Scanned line w next (i + used)
     scanned-turn k =
         record { within = far .1; gives = ap (evidenceFrom next) (sym (drop-drop used i line)) ∙ sym (there e q h) ∙ k .gives }
+
+-- ---- a step, and the bytes of a string or of DATA behind it
+
+same-turn : (line : List ℕ) (place : Place) (j : ℕ) {w : Bool} → j < length line → Same place (getD line j 0) → Scanned line w place j → Scanned line w place (j + 1)
+unfolding evidenceStep
+same-turn line place j h s k =
+    let first : getD (rest line j) 0 0 ≡ getD line j 0 = ap (λ (t : List ℕ). getD t 0 0) (tail line j) ∙ getD-drop j line 0 0 ∙ ap (λ (n : ℕ). getD line n 0) (add-zero j) in
+    let q : On 1 place ≡ evidenceStep place (rest line j) = sym (left _ _ (s .apart) ∙ ap (On 1) (ap (aside place) first ∙ s .same)) in
+    scanned-turn line place j {s = On 1 place} refl q h k
+
+module _ (line : List ℕ) (place : Place) (i : ℕ) {s : EvidenceStep} {used : ℕ} {next : Place} (e : s ≡ On used next) (q : s ≡ evidenceStep place (rest line i)) (h : i < length line) where
+  pub behind-within : i + used ≤ length line
+  behind-within = far line place i e q h .1
+
+  module _ {n : ℕ} (p : n ≡ front (stays next) (rest line (i + used))) where
+    stretch-within : i + used + n ≤ length line
+    stretch-within = omega (arith, front-le (stays next) (rest line (i + used)), rest-long line (i + used), behind-within)
+
+    pub stretch-fits : Fits w64 (length line) → Fits w64 (i + used + n)
+    stretch-fits f = record { fits = omega (arith, f .fits, stretch-within) }
+
+    pub stretch-less : length line - (i + used + n) < length line - i
+    stretch-less = omega (arith, far line place i e q h .0, stretch-within)
+
+    pub scanned-stretch : {w : Bool} → Scanned line w place i → Scanned line w next (i + used + n)
+    scanned-stretch {w} k =
+        stretch-by (Scanned line w next) next line (i + used) (λ j g o. same-turn line next j g o) n (omega (arith, p ∙ ap (front (stays next)) (tail line (i + used)))) (scanned-turn line place i e q h k)
 
 -- ---- a blank in front of a line is passed before the first step
 

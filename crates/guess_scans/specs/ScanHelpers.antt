@@ -2,13 +2,15 @@
 -- Assumes nothing.
 use Prim.Native.Nat.{ℕ, zero, suc, _-_, _*_, _/_, _%_, _^_, _≤_, _<_}
 use mathlib.Core.Path.{_≡_}
-use mathlib.Core.Bool.{Bool, false}
+use mathlib.Core.Bool.{Bool, false, not, _&&_}
 use mathlib.Core.List.{List, [], _∷_}
 use lib.Dec.{eqb}
 use lib.ListN.{length, getD, drop}
 use Rattle.ascii.specs.Search.{ofKind, startsWith, front, past}
 use Rattle.ascii.specs.declared.search.Kind.{Kind}
 use Rattle.guess_scans.specs.Ahead.{closing}
+use Rattle.guess_scans.specs.declared.place.Place.{Place}
+use Rattle.guess_scans.specs.declared.place.Place.the-variants.{Start, Within, Quoted, Data, QuotedData}
 
 -- ---- bits, eight to a byte, the lowest first
 
@@ -46,3 +48,13 @@ Marked blank marks (b ∷ t) = (b ≡ 0x28 → isOn marks (length t) ≡ equalsA
 pub record MarksOf (blank : Kind) (t : List ℕ) (marks : List ℕ) : Type 0 where
   pub room : 0 < length marks → length t ≤ 8 * length marks
   pub right : 0 < length marks → Marked blank marks t
+
+-- ---- stretches
+
+-- a byte of a string or of DATA behind which the scan stands in the same place
+unfoldable pub stays : Place → ℕ → Bool
+stays Start b = false
+stays Within b = false
+stays Quoted b = not (eqb b 0x22)
+stays Data b = not (eqb b 0x22) && not (eqb b 0x3A)
+stays QuotedData b = not (eqb b 0x22)

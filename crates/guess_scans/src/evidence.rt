@@ -186,7 +186,8 @@ fn marked_evidence(line: &[u8], marks: &[u8], bytes: &[u8], index: &[u16]) -> bo
                 return false;
             }
             EvidenceStep::On { used, place: next } => {
-                i += used;
+                let behind = i + used;
+                i = behind + place::stretch(next, &line[behind..]);
                 place = next;
             }
         }

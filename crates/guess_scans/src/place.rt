@@ -1,6 +1,10 @@
 // Where a scan stands in a line.
+use ascii::search;
+use ascii::search::Kind;
 ghost use mathlib.Core.Path.{_≡_};
+ghost use Rattle.ascii.specs.Search.{front};
 ghost use Rattle.guess_scans.specs.Places.{isPlain, isStart, aside as asideOf};
+ghost use Rattle.guess_scans.specs.ScanHelpers.{stays};
 
 pub enum Place {
     // At the start of a statement.
@@ -73,5 +77,36 @@ pub fn aside(place: Place, b: u8) -> Place
                 Place::QuotedData
             }
         }
+    }
+}
+
+// How many bytes of DATA stand in front, outside strings.
+fn data_length(text: &[u8]) -> usize
+    ensures { λ r. ⌜ r ≡ front (stays Place.Data) (now (text .entry)) ⌝ }
+{
+    let mut i: usize = 0;
+    while i < text.len() {
+        let b = text[i];
+        if b == 0x22 {
+            return i;
+        }
+        if b == 0x3A {
+            return i;
+        }
+        i += 1;
+    }
+    i
+}
+
+// How many bytes of a string or of DATA stand in front, behind each of which the place is the same.
+pub fn stretch(place: Place, text: &[u8]) -> usize
+    ensures { λ r. ⌜ r ≡ front (stays place) (now (text .entry)) ⌝ }
+{
+    match place {
+        Place::Start => 0,
+        Place::Within => 0,
+        Place::Quoted => search::before(text, Kind::Is(0x22)),
+        Place::Data => data_length(text),
+        Place::QuotedData => search::before(text, Kind::Is(0x22)),
     }
 }

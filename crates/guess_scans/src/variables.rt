@@ -131,7 +131,8 @@ fn marked_names(line: &[u8], marks: &[u8], bytes: &[u8], index: &[u16], found: &
                 return;
             }
             Pass::On { used, place: next } => {
-                i += used;
+                let behind = i + used;
+                i = behind + place::stretch(next, &line[behind..]);
                 place = next;
             }
             Pass::Name { index: word, used } => {

@@ -3,7 +3,7 @@
 use Prim.Native.Nat.{_-_}
 use lib.ListN.{length}
 use Rattle.guess_scans.specs.Evidence.{lineEvidence}
-use Rattle.guess_scans.proofs.Steps.{Scanned, scanned-start, scanned-proved, scanned-remark, scanned-turn, scanned-end, on-fits, on-less}
+use Rattle.guess_scans.proofs.Steps.{Scanned, scanned-start, scanned-proved, scanned-remark, scanned-stretch, scanned-end, on-fits, behind-within, stretch-fits, stretch-less}
 use Rattle.guess_scans.proofs.Behind.{rest-some}
 use Rattle.guess_scans.proofs.Marks.{marks-rest}
 use borrow.Author.Needs.{needs}
@@ -28,14 +28,23 @@ returns c = search scanned-proved
 returns-2 : tie.Need-returns-2 Inv-loop μ-loop
 returns-2 c = search scanned-remark
 
+add-behind : tie.Need-add-behind Inv-loop μ-loop
+add-behind c = search on-fits
+
+sub-stretch : tie.Need-sub-stretch Inv-loop μ-loop
+sub-stretch c = search behind-within
+
+part-stretch-start : tie.Need-part-stretch-start Inv-loop μ-loop
+part-stretch-start c = search behind-within
+
 add-i : tie.Need-add-i Inv-loop μ-loop
-add-i c = search on-fits
+add-i c = search stretch-fits
 
 loop-less : tie.Need-loop-less Inv-loop μ-loop
-loop-less c = search on-less
+loop-less c = search stretch-less
 
 loop-again : tie.Need-loop-again Inv-loop μ-loop
-loop-again c = search scanned-turn
+loop-again c = search scanned-stretch
 
 returns-3 : tie.Need-returns-3 Inv-loop μ-loop
 returns-3 c = search scanned-end
@@ -57,6 +66,11 @@ marked-evidence-spec =
     (λ c. search needs)
     returns-2
     (λ c. search needs)
+    add-behind
+    sub-stretch
+    part-stretch-start
+    (λ c. search needs)
+    (λ c κs. search needs)
     add-i
     loop-less
     loop-again

@@ -3,7 +3,7 @@
 use Prim.Native.Nat.{_-_}
 use lib.ListN.{length}
 use Rattle.guess_scans.specs.Variables.{lineNames}
-use Rattle.guess_scans.proofs.Passes.{Passing, passing-start, passing-remark, name-place, passing-name, passing-end, name-fits, name-less, pass-fits, pass-less, passing-on}
+use Rattle.guess_scans.proofs.Passes.{Passing, passing-start, passing-remark, name-place, passing-name, passing-end, name-fits, name-less, pass-fits, behind-within, stretch-fits, stretch-less, passing-stretch}
 use borrow.Author.Needs.{needs}
 use Rattle.guess_scans.proofs.variables.marked_names.Statement.{statement}
 use Rattle.guess_scans.proofs.variables.marked_names.Tie as tie
@@ -20,14 +20,23 @@ loop-holds c = search passing-start
 returns : tie.Need-returns Inv-loop μ-loop
 returns c = search passing-remark
 
+add-behind : tie.Need-add-behind Inv-loop μ-loop
+add-behind c = search pass-fits
+
+sub-stretch : tie.Need-sub-stretch Inv-loop μ-loop
+sub-stretch c = search behind-within
+
+part-stretch-start : tie.Need-part-stretch-start Inv-loop μ-loop
+part-stretch-start c = search behind-within
+
 add-i : tie.Need-add-i Inv-loop μ-loop
-add-i c = search pass-fits
+add-i c = search stretch-fits
 
 loop-less : tie.Need-loop-less Inv-loop μ-loop
-loop-less c = search pass-less
+loop-less c = search stretch-less
 
 loop-again : tie.Need-loop-again Inv-loop μ-loop
-loop-again c = search passing-on
+loop-again c = search passing-stretch
 
 slice-write-found : tie.Need-slice-write-found Inv-loop μ-loop
 slice-write-found c = search name-place
@@ -56,6 +65,11 @@ marked-names-spec =
     (λ c. search needs)
     returns
     (λ c. search needs)
+    add-behind
+    sub-stretch
+    part-stretch-start
+    (λ c. search needs)
+    (λ c κs. search needs)
     add-i
     loop-less
     loop-again
