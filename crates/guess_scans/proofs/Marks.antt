@@ -11,7 +11,6 @@ use borrow.Author.Tests.{eqb-true}
 use Rattle.ascii.specs.Search.{ofKind, startsWith, front, past}
 use Rattle.ascii.specs.declared.search.Kind.{Kind}
 use Rattle.ascii.proofs.Searching.{tail, here, starts-long}
-use Rattle.lines.proofs.Parts.{taken, left}
 use Rattle.guess_scans.specs.Ahead.{closing, behindList, assigns}
 use Rattle.guess_scans.specs.ScanHelpers.{isOn, Turned, lastBit, equalsAhead, behindOpen, Marked, MarksOf}
 use Rattle.guess_scans.proofs.Behind.{rest, rest-long, assigns-list, close-last, close-one, open-one, keep}

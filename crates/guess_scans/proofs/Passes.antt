@@ -6,7 +6,7 @@ use mathlib.Core.Bool.{Bool, true, false, _&&_, _||_}
 use mathlib.Core.List.{List, [], _∷_, _++_, reverse, reverse-append, reverse-reverse}
 use native.Mathlib.Nat.{add-zero}
 use native.Mathlib.Omega.{arith}
-use lib.Dec.{eqb, leb}
+use lib.Dec.{eqb}
 use lib.ListN.{length, getD, take, drop, set, drop-of-length-le, length-drop, length-set, length-reverse}
 use lib.Seq.{drop-drop, getD-drop, take-add, take-take, take-all, length-take-le}
 use borrow.Author.Tests.{eq-eqb, ne-eqb, le-leb, lt-leb}
@@ -16,7 +16,7 @@ use Rattle.steps.proofs.Nearer.{Nearer, again-on}
 use Rattle.ascii.specs.Bytes.{upper, isLetter}
 use Rattle.ascii.specs.Search.{isWhite, front, past, pastEnd}
 use Rattle.ascii.specs.declared.search.Kind.the-variants.{Space}
-use Rattle.ascii.proofs.Searching.{tail, front-le, end-take, end-le}
+use Rattle.ascii.proofs.Searching.{tail, end-take, end-le}
 use Rattle.words.specs.Compare.{begins}
 use Rattle.words.specs.Find.{wordIn}
 use Rattle.words.specs.declared.Match.{Match}
@@ -33,7 +33,7 @@ use Rattle.guess_scans.specs.declared.place.Place.the-variants.{Within, 
 use Rattle.guess_scans.specs.declared.variables.Pass.{Pass}
 use Rattle.guess_scans.specs.declared.variables.Pass.the-variants.{Remark, On, Name}
 use Rattle.guess_scans.proofs.Behind.{rest, rest-long}
-use Rattle.guess_scans.proofs.Places.{Same, stretch-by}
+use Rattle.guess_scans.proofs.Places.{Same, stretch}
 use Rattle.guess_scans.proofs.Words.{Bounded, begins-long, word-bounds, no-letter, not-rem, not-data, letter-high}
 
 -- what a line has in front of a place, from the last byte back to the first
@@ -395,19 +395,13 @@ same-turn line place j h s k =
     passing-on line place j {s = On 1 place} refl q h k
 
 module _ (line : List ℕ) (place : Place) (i : ℕ) {s : Pass} {used : ℕ} {next : Place} (e : s ≡ On used next) (q : s ≡ passOf (passedAt line i) place (drop i line)) (h : i < length line) where
+  pub behind-some : 0 < used
+  behind-some = far line place i e q h .0
+
   pub behind-within : i + used ≤ length line
   behind-within = on-within line place i e q h
 
-  module _ {n : ℕ} (p : n ≡ front (stays next) (rest line (i + used))) where
-    stretch-within : i + used + n ≤ length line
-    stretch-within = omega (arith, front-le (stays next) (rest line (i + used)), rest-long line (i + used), behind-within)
-
-    pub stretch-fits : Fits w64 (length line) → Fits w64 (i + used + n)
-    stretch-fits f = record { fits = omega (arith, f .fits, stretch-within) }
-
-    pub stretch-less : length line - (i + used + n) < length line - i
-    stretch-less = omega (arith, far line place i e q h .0, stretch-within)
-
-    pub passing-stretch : {w : List Bool} {size : ℕ} {found : List Bool} → Passing line w size found place i → Passing line w size found next (i + used + n)
-    passing-stretch {w} {size} {found} k =
-        stretch-by (Passing line w size found next) next line (i + used) (λ j g o. same-turn line next j g o) n (omega (arith, p ∙ ap (front (stays next)) (tail line (i + used)))) (passing-on line place i e q h k)
+  pub passing-stretch : {w : List Bool} {size n : ℕ} {found : List Bool} → n ≡ front (stays next) (rest line (i + used)) → Passing line w size found place i
+      → Passing line w size found next (i + used + n)
+  passing-stretch {w} {size} {n} {found} p k =
+      stretch line next i used p behind-within (Passing line w size found next) (λ j g o. same-turn line next j g o) (passing-on line place i e q h k)

@@ -1,6 +1,6 @@
 -- The place behind a byte of a string or of DATA, case by case; and stretches of bytes that leave it as it is.
 -- Assumes nothing.
-use Prim.Native.Nat.{ℕ, zero, suc, _+_, _≤_, _<_}
+use Prim.Native.Nat.{ℕ, zero, suc, _+_, _-_, _≤_, _<_}
 use mathlib.Core.Path.{_≡_, refl, sym, ap, _∙_, subst}
 use mathlib.Core.Bool.{Bool, true, false, not, cond, _&&_, false≢true}
 use mathlib.Core.List.{List, [], _∷_}
@@ -9,12 +9,15 @@ use lib.Dec.{eqb}
 use lib.ListN.{length, getD, drop, length-drop}
 use lib.Seq.{getD-drop}
 use borrow.Author.Tests.{eq-eqb, ne-eqb}
+use mir.Syntax.{w64}
+use mir.Val.{Fits}
 use Rattle.ascii.specs.Search.{equals, front, before}
-use Rattle.ascii.proofs.Searching.{Onward, front-le, front-turn, front-found}
+use Rattle.ascii.proofs.Searching.{Onward, tail, front-le, front-turn, front-found}
 use Rattle.guess_scans.specs.Places.{isPlain, isStart, aside}
 use Rattle.guess_scans.specs.ScanHelpers.{stays}
 use Rattle.guess_scans.specs.declared.place.Place.{Place}
 use Rattle.guess_scans.specs.declared.place.Place.the-variants.{Start, Within, Quoted, Data, QuotedData}
+use Rattle.guess_scans.proofs.Behind.{rest, rest-long}
 
 module _ (b : ℕ) where
   pub data-quote : b ≡ 0x22 → QuotedData ≡ aside Data b
@@ -81,7 +84,7 @@ front-all p (b ∷ t) k h = go (p b) refl k h (front-all p t)
     go false e k g f = absurd (omega arith)
 
 -- what goes on over each such byte goes on over all of them
-pub stretch-by : (P : ℕ → Type 0) (place : Place) (line : List ℕ) (i : ℕ) → ((j : ℕ) → j < length line → Same place (getD line j 0) → P j → P (j + 1)) → (n : ℕ)
+stretch-by : (P : ℕ → Type 0) (place : Place) (line : List ℕ) (i : ℕ) → ((j : ℕ) → j < length line → Same place (getD line j 0) → P j → P (j + 1)) → (n : ℕ)
     → n ≤ front (stays place) (drop i line) → P i → P (i + n)
 stretch-by P place line i f zero h k = let e : i ≡ i + 0 = omega arith in subst P e k
 stretch-by P place line i f (suc n) h k =
@@ -89,6 +92,20 @@ stretch-by P place line i f (suc n) h k =
     let s : stays place (getD line (i + n) 0) ≡ true = ap (stays place) (sym (getD-drop i line n 0)) ∙ front-all (stays place) (drop i line) n (omega arith) in
     let e : i + n + 1 ≡ i + suc n = omega arith in
     subst P e (f (i + n) w (stays-same place (getD line (i + n) 0) s) (stretch-by P place line i f n (omega arith) k))
+
+-- a step, and the bytes of a string or of DATA behind it
+module _ (line : List ℕ) (next : Place) (i used : ℕ) {n : ℕ} (p : n ≡ front (stays next) (rest line (i + used))) (h : i + used ≤ length line) where
+  pub stretch-within : i + used + n ≤ length line
+  stretch-within = omega (arith, front-le (stays next) (rest line (i + used)), rest-long line (i + used))
+
+  pub stretch-fits : Fits w64 (length line) → Fits w64 (i + used + n)
+  stretch-fits f = record { fits = omega (arith, f .fits, stretch-within) }
+
+  pub stretch-less : 0 < used → length line - (i + used + n) < length line - i
+  stretch-less s = omega (arith, stretch-within)
+
+  pub stretch : (P : ℕ → Type 0) → ((j : ℕ) → j < length line → Same next (getD line j 0) → P j → P (j + 1)) → P (i + used) → P (i + used + n)
+  stretch P f k = stretch-by P next line (i + used) f n (omega (arith, p ∙ ap (front (stays next)) (tail line (i + used)))) k
 
 -- the loop over DATA
 module _ {s : List ℕ} {i : ℕ} where

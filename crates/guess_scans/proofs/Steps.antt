@@ -34,7 +34,7 @@ use Rattle.guess_scans.specs.declared.place.Place.the-variants.{Start, W
 use Rattle.guess_scans.specs.declared.evidence.EvidenceStep.{EvidenceStep}
 use Rattle.guess_scans.specs.declared.evidence.EvidenceStep.the-variants.{Proved, Remark, On}
 use Rattle.guess_scans.proofs.Behind.{rest, rest-long}
-use Rattle.guess_scans.proofs.Places.{Same, stretch-by}
+use Rattle.guess_scans.proofs.Places.{Same, stretch}
 use Rattle.guess_scans.proofs.Words.{begins-long, word-bounds, no-letter, not-rem, not-data, letter-high, letter-not-white}
 
 -- ---- what a word proves
@@ -319,22 +319,14 @@ same-turn line place j h s k =
     scanned-turn line place j {s = On 1 place} refl q h k
 
 module _ (line : List ℕ) (place : Place) (i : ℕ) {s : EvidenceStep} {used : ℕ} {next : Place} (e : s ≡ On used next) (q : s ≡ evidenceStep place (rest line i)) (h : i < length line) where
+  pub behind-some : 0 < used
+  behind-some = far line place i e q h .0
+
   pub behind-within : i + used ≤ length line
   behind-within = far line place i e q h .1
 
-  module _ {n : ℕ} (p : n ≡ front (stays next) (rest line (i + used))) where
-    stretch-within : i + used + n ≤ length line
-    stretch-within = omega (arith, front-le (stays next) (rest line (i + used)), rest-long line (i + used), behind-within)
-
-    pub stretch-fits : Fits w64 (length line) → Fits w64 (i + used + n)
-    stretch-fits f = record { fits = omega (arith, f .fits, stretch-within) }
-
-    pub stretch-less : length line - (i + used + n) < length line - i
-    stretch-less = omega (arith, far line place i e q h .0, stretch-within)
-
-    pub scanned-stretch : {w : Bool} → Scanned line w place i → Scanned line w next (i + used + n)
-    scanned-stretch {w} k =
-        stretch-by (Scanned line w next) next line (i + used) (λ j g o. same-turn line next j g o) n (omega (arith, p ∙ ap (front (stays next)) (tail line (i + used)))) (scanned-turn line place i e q h k)
+  pub scanned-stretch : {w : Bool} {n : ℕ} → n ≡ front (stays next) (rest line (i + used)) → Scanned line w place i → Scanned line w next (i + used + n)
+  scanned-stretch {w} p k = stretch line next i used p behind-within (Scanned line w next) (λ j g o. same-turn line next j g o) (scanned-turn line place i e q h k)
 
 -- ---- a blank in front of a line is passed before the first step
 

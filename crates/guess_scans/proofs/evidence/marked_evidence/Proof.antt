@@ -3,9 +3,10 @@
 use Prim.Native.Nat.{_-_}
 use lib.ListN.{length}
 use Rattle.guess_scans.specs.Evidence.{lineEvidence}
-use Rattle.guess_scans.proofs.Steps.{Scanned, scanned-start, scanned-proved, scanned-remark, scanned-stretch, scanned-end, on-fits, behind-within, stretch-fits, stretch-less}
+use Rattle.guess_scans.proofs.Steps.{Scanned, scanned-start, scanned-proved, scanned-remark, scanned-stretch, scanned-end, on-fits, behind-some, behind-within}
 use Rattle.guess_scans.proofs.Behind.{rest-some}
 use Rattle.guess_scans.proofs.Marks.{marks-rest}
+use Rattle.guess_scans.proofs.Places.{stretch-fits, stretch-less}
 use borrow.Author.Needs.{needs}
 use Rattle.guess_scans.proofs.evidence.marked_evidence.Statement.{statement}
 use Rattle.guess_scans.proofs.evidence.marked_evidence.Tie as tie
@@ -38,10 +39,10 @@ part-stretch-start : tie.Need-part-stretch-start Inv-loop μ-loop
 part-stretch-start c = search behind-within
 
 add-i : tie.Need-add-i Inv-loop μ-loop
-add-i c = search stretch-fits
+add-i c = search (stretch-fits, behind-within)
 
 loop-less : tie.Need-loop-less Inv-loop μ-loop
-loop-less c = search stretch-less
+loop-less c = search (stretch-less, behind-some, behind-within)
 
 loop-again : tie.Need-loop-again Inv-loop μ-loop
 loop-again c = search scanned-stretch

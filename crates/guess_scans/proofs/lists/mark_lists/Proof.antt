@@ -1,7 +1,6 @@
 -- `guess_scans::lists::mark_lists` meets its contract.
 -- Assumes nothing.
 use Prim.Native.Nat.{_-_}
-use native.Mathlib.Omega.{arith}
 use lib.ListN.{length}
 use Rattle.guess_scans.proofs.Marks.{Marking, marking-start, marking-close, marking-open, marking-on, marking-end}
 use Rattle.steps.proofs.The.{the}

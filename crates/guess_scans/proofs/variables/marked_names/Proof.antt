@@ -3,7 +3,8 @@
 use Prim.Native.Nat.{_-_}
 use lib.ListN.{length}
 use Rattle.guess_scans.specs.Variables.{lineNames}
-use Rattle.guess_scans.proofs.Passes.{Passing, passing-start, passing-remark, name-place, passing-name, passing-end, name-fits, name-less, pass-fits, behind-within, stretch-fits, stretch-less, passing-stretch}
+use Rattle.guess_scans.proofs.Passes.{Passing, passing-start, passing-remark, name-place, passing-name, passing-end, name-fits, name-less, pass-fits, behind-some, behind-within, passing-stretch}
+use Rattle.guess_scans.proofs.Places.{stretch-fits, stretch-less}
 use borrow.Author.Needs.{needs}
 use Rattle.guess_scans.proofs.variables.marked_names.Statement.{statement}
 use Rattle.guess_scans.proofs.variables.marked_names.Tie as tie
@@ -30,10 +31,10 @@ part-stretch-start : tie.Need-part-stretch-start Inv-loop μ-loop
 part-stretch-start c = search behind-within
 
 add-i : tie.Need-add-i Inv-loop μ-loop
-add-i c = search stretch-fits
+add-i c = search (stretch-fits, behind-within)
 
 loop-less : tie.Need-loop-less Inv-loop μ-loop
-loop-less c = search stretch-less
+loop-less c = search (stretch-less, behind-some, behind-within)
 
 loop-again : tie.Need-loop-again Inv-loop μ-loop
 loop-again c = search passing-stretch
