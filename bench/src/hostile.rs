@@ -34,6 +34,12 @@ pub fn closed_calls(size: usize) -> String {
     filled("10 HIRES 0,1:", "MAP(", 13 + 4 * depth) + &")".repeat(depth) + "=1"
 }
 
+/// Statements in statements, each assigned to.
+pub fn assigned_calls(size: usize) -> String {
+    let depth = (size - 3) / 7;
+    filled("10 ", "MAP(:", 3 + 5 * depth) + &")=".repeat(depth)
+}
+
 /// Statements of a game, all on one line.
 pub fn one_line(size: usize) -> String {
     let mut random = Random::new(1);

@@ -47,6 +47,11 @@ pub fn hostile() -> Vec<Subject> {
         auto("string of {", hostile::braces(60_000)),
         auto("string of { and one }", hostile::closed_braces(4_000)),
         auto("MAP( in MAP(", hostile::nested_calls(20_000)),
+        auto("MAP( in MAP(, closed, and =", hostile::closed_calls(20_000)),
+        auto(
+            "MAP(: in MAP(:, each with =",
+            hostile::assigned_calls(20_000),
+        ),
         auto("a megabyte on one line", hostile::one_line(MEGABYTE)),
         auto("a megabyte of one letter", hostile::one_letter(MEGABYTE)),
         auto("spaces, one line", hostile::spaces(100_000)),
@@ -78,11 +83,6 @@ pub fn further() -> Vec<Subject> {
         of(
             "the last escape of the list",
             hostile::late_escapes(PROGRAM),
-            Dialect::Auto,
-        ),
-        of(
-            "MAP( in MAP(, closed, and =",
-            hostile::closed_calls(20_000),
             Dialect::Auto,
         ),
         of(
@@ -127,6 +127,21 @@ pub fn growing() -> Vec<Growing> {
             "MAP( in MAP(",
             |size| auto(hostile::nested_calls(size)),
             20_000,
+        ),
+        of(
+            "MAP( in MAP(, closed, and =",
+            |size| auto(hostile::closed_calls(size)),
+            20_000,
+        ),
+        of(
+            "MAP(: in MAP(:, each with =",
+            |size| auto(hostile::assigned_calls(size)),
+            20_000,
+        ),
+        of(
+            "MAP(: in MAP(:, to a megabyte",
+            |size| auto(hostile::assigned_calls(size)),
+            MEGABYTE / 2,
         ),
         of(
             "one line, to a megabyte",

@@ -48,6 +48,10 @@ const FORMS: [&str; 37] = [
     "DATA@=1:ELSE:@",
 ];
 
+/// What opens a list behind a TSB word, `@`, and what ends one.
+const OPENINGS: [&str; 8] = ["@(", "@(", ":@(", "@(:", ":@$ (", "@%\t(:", "(", "@(\":"];
+const ENDINGS: [&str; 8] = [")=", ")=", ") =", ")\t=", ")=1:", ")", ")\"", ")=("];
+
 /// Every form with every TSB word, on one line.
 pub fn listed() -> Vec<TextCase> {
     let mut cases = Vec::new();
@@ -57,8 +61,11 @@ pub fn listed() -> Vec<TextCase> {
     cases
 }
 
-/// A few lines of such statements, run together in any way.
+/// A few lines of such statements, run together in any way; or lists in lists.
 pub fn any(random: &mut Random) -> Vec<u8> {
+    if random.one_in(4) {
+        return lists(random);
+    }
     let mut text = String::new();
     for line in 0..random.between(1, 3) {
         text += random.pick(&["", "", " ", "\t", "\x0B"]);
@@ -71,4 +78,24 @@ pub fn any(random: &mut Random) -> Vec<u8> {
         text += random.pick(&["\n", "\n", "\r", "\r\n"]);
     }
     text.into()
+}
+
+/// A line of lists behind lists and in lists, up to some thousand bytes long.
+/// Most are assigned to: the first that is not is evidence, and all behind it
+/// are looked at for variables alone.
+fn lists(random: &mut Random) -> Vec<u8> {
+    let mut text = String::from(random.pick(&["1 ", "1ELSE:", "1A=1:"]));
+    let endings = random.pick(&[1, 2, 4, ENDINGS.len()]);
+    let mut open = 0;
+    for _ in 0..random.between(1, 300) {
+        if open == 0 || random.below(5) < 3 {
+            text += &random.pick(&OPENINGS).replace('@', random.pick(&TSB_WORDS));
+            open += 1;
+        } else {
+            text += random.pick(&ENDINGS[..endings]);
+            open -= 1;
+        }
+    }
+    text += &random.pick(&ENDINGS).repeat(open);
+    words::in_any_case(&text, random).into()
 }

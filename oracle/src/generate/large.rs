@@ -94,7 +94,21 @@ fn text(op: u8, number: usize) -> Option<TextCase> {
         ]
         .concat(),
         15 => return Some(TextCase::under(Dialect::Tsb, b"1 DO:LOOP\n".repeat(5_000))),
-        _ => return repeat(number - 16),
+        // Lists in lists.
+        16 => [
+            &b"1ELSE:"[..],
+            &b"MAP(:".repeat(4_000),
+            &b")=".repeat(4_000),
+        ]
+        .concat(),
+        17 => [
+            b"1HIRES:",
+            &b"MAP(".repeat(4_000)[..],
+            &b") ".repeat(4_000),
+            b":AT(1) =",
+        ]
+        .concat(),
+        _ => return repeat(number - 18),
     };
     Some(TextCase::auto(text))
 }
