@@ -1,20 +1,19 @@
--- A body without } is never longer than its text: each step writes no more bytes than it takes. A TSB word gives two bytes, and has two.
+-- A body in which no } stands behind a * is never longer than its text: each step writes no more bytes than it takes. A TSB word gives
+-- two bytes, and has two; an escape without a count gives one.
 -- Assumes nothing.
-use Prim.Native.Nat.{ℕ, suc, zero, _+_, _≤_, _<_, min}
+use Prim.Native.Nat.{ℕ, suc, zero, _+_, _-_, _≤_, _<_, min}
 use mathlib.Core.Path.{_≡_, refl, sym, ap, _∙_}
 use mathlib.Core.Bool.{Bool, true, false, not, _&&_}
 use mathlib.Core.List.{List, [], _∷_, _++_}
-use native.Mathlib.Decide.{decLt}
+use native.Mathlib.Decide.{decLt, decLe}
 use native.Mathlib.Omega.{arith}
-use lib.Dec.{T, eqb, leb, leb→le}
-use lib.ListN.{length, getD, drop, length-append, length-drop, drop-of-length-le}
+use lib.Dec.{T, eqb, ltb, leb, leb→le}
+use lib.ListN.{length, getD, take, drop, length-append, length-take, length-drop, drop-of-length-le}
 use lib.Seq.{drop-drop}
-use borrow.Author.Tests.{le-ltb}
+use borrow.Author.Tests.{le-ltb, ltb-true, ltb-false}
 use Rattle.ascii.specs.Bytes.{upper}
-use Rattle.ascii.specs.Search.{equals, before, last, front}
-use Rattle.ascii.specs.declared.search.Found.{Found}
-use Rattle.ascii.specs.declared.search.Found.the-variants.{At, Nowhere}
-use Rattle.ascii.proofs.Searching.{none-behind}
+use Rattle.ascii.specs.Search.{equals, other, before, front}
+use Rattle.ascii.proofs.Searching.{tail, before-le, before-take, front-drop}
 use Rattle.words.specs.Find.{Entry, firstThat, wordIn, amongIn}
 use Rattle.words.specs.declared.Match.{Match}
 use Rattle.words.specs.declared.Match.the-variants.{Word, Nothing}
@@ -22,16 +21,20 @@ use Rattle.words.proofs.Search.{and-left, and-right}
 use Rattle.tables.specs.Tsb.{tsbWords}
 use Rattle.tables.specs.Sets.{isDemoted, isLive, liveWord}
 use Rattle.tables.specs.declared.sets.Sets.{Sets}
+use Rattle.escapes.specs.Escape.{escapeOf}
+use Rattle.escapes.specs.declared.Escape.{Escape}
+use Rattle.escapes.specs.declared.Escape.the-variants.{Byte, Unknown}
+use Rattle.escapes.proofs.Once.{Often, given-once}
 use Rattle.body.specs.Body.{written, crunchedFrom, crunchedBody}
-use Rattle.body.specs.BraceHelpers.{behindBrace}
+use Rattle.body.specs.BraceHelpers.{mayRepeat}
 use Rattle.body.specs.Lexicon.{lexicon}
-use Rattle.body.specs.Steps.{first, one, token, opened, otherStep, plainStep, lettered, stringByte, braced, stringStep, dataStep, dataQuoteStep, crunchStep}
+use Rattle.body.specs.Steps.{first, one, token, opened, otherStep, plainStep, lettered, stringByte, escaped, braced, stringStep, dataStep, dataQuoteStep, crunchStep}
 use Rattle.body.specs.declared.moves.Mode.{Mode}
 use Rattle.body.specs.declared.moves.Mode.the-variants.{Plain, String, Remark, Data, DataQuote}
 use Rattle.body.specs.declared.moves.Move.{Move}
 use Rattle.body.proofs.Beginnings.{Takes, document-proper, word-takes, v2-start, operators-start}
 use Rattle.body.proofs.Progress.{step-takes}
-use Rattle.body.proofs.Run.{body-end, body-step}
+use Rattle.body.proofs.Run.{length-written, body-end, body-step}
 
 -- ---- the TSB words
 
@@ -109,23 +112,73 @@ byte-narrow : (b : ℕ) → Narrow (stringByte b)
 unfolding stringByte
 byte-narrow b = by-test (eqb b 0x22) (one 0x22 Plain) (one (lettered b) String) (one-narrow _ _) (one-narrow _ _)
 
--- no } follows: no escape
-unclosed-narrow : (u : List ℕ) → before (equals 0x7D) u ≡ length u → Narrow (braced u (before (equals 0x7D) u))
-unfolding braced
-unclosed-narrow u f =
-    let all : length u ≤ before (equals 0x7D) u = omega (arith, f) in
-    rw (braced, le-ltb _ _ all) (byte-narrow 0x7B)
+-- ---- where no } stands behind a *, no escape has a count
 
-string-narrow : (t : List ℕ) → before (equals 0x7D) t ≡ length t → Narrow (stringStep t)
-unfolding stringStep before front
-string-narrow [] e = byte-narrow 0
-string-narrow (b ∷ u) e = by-test (eqb b 0x7B) (braced u (before (equals 0x7D) u)) (stringByte b) (unclosed-narrow u (behind (eqb b 0x7D) e)) (byte-narrow b)
+-- the same of what is left
+repeat-behind : (b : ℕ) (s : List ℕ) → mayRepeat (b ∷ s) ≡ false → mayRepeat s ≡ false
+unfolding mayRepeat before front
+repeat-behind b s e = go (eqb b 42) e
   where
-    behind : (x : Bool) → elim (not x) [ true ↦ suc (before (equals 0x7D) u) | false ↦ 0 ] ≡ suc (length u) → before (equals 0x7D) u ≡ length u
-    behind true f = absurd (omega arith)
-    behind false f = omega arith
+    star : ℕ
+    star = before (equals 42) s
 
-step-narrow : (s : Sets) (m : Mode) (t : List ℕ) → before (equals 0x7D) t ≡ length t → Narrow (crunchStep (lexicon s) m t)
+    none : suc (length s) ≤ before (equals 0x7D) (b ∷ s) → mayRepeat s ≡ false
+    none h = le-ltb _ _ (rest (eqb b 0x7D) h)
+      where
+        rest : (x : Bool) → suc (length s) ≤ elim (not x) [ true ↦ suc (before (equals 0x7D) s) | false ↦ 0 ] → length (drop star s) ≤ before (equals 0x7D) (drop star s)
+        rest true q = absurd (omega arith)
+        rest false q =
+            omega (arith, length-drop star s, front-drop (other (equals 0x7D)) star s (omega (arith, before-le (equals 42) s)))
+
+    go : (x : Bool)
+        → (let rest = drop (elim (not x) [ true ↦ suc star | false ↦ 0 ]) (b ∷ s) in ltb (before (equals 0x7D) rest) (length rest)) ≡ false → mayRepeat s ≡ false
+    go true f = none (ltb-false _ _ f)
+    go false f = f
+
+repeat-from : (at : ℕ) (s : List ℕ) → mayRepeat s ≡ false → mayRepeat (drop at s) ≡ false
+repeat-from zero s e = e
+repeat-from (suc at) [] e = e
+repeat-from (suc at) (b ∷ s) e = repeat-from at s (repeat-behind b s e)
+
+-- no * stands before the first }
+unstarred : (s : List ℕ) → mayRepeat s ≡ false → before (equals 0x7D) s < length s
+    → before (equals 42) (take (before (equals 0x7D) s) s) ≡ length (take (before (equals 0x7D) s) s)
+unfolding mayRepeat before
+unstarred s e h = go (decLe close star)
+  where
+    close : ℕ
+    close = before (equals 0x7D) s
+
+    star : ℕ
+    star = before (equals 42) s
+
+    go : Dec (close ≤ star) → before (equals 42) (take close s) ≡ length (take close s)
+    go (yes l) = omega (arith, before-take (equals 42) close s, length-take close s)
+    go (no l) =
+        let low : length (drop star s) ≤ before (equals 0x7D) (drop star s) = ltb-false _ _ e in
+        absurd (omega (arith, low, length-drop star s, front-drop (other (equals 0x7D)) star s (omega arith)))
+
+escaped-narrow : (n : ℕ) (x : Escape) → Often 1 x → Narrow (escaped n x)
+unfolding escaped
+escaped-narrow n (Byte b count) e = omega (arith, length-written (escaped n (Byte b count)), e)
+escaped-narrow n Unknown e = byte-narrow 0x7B
+
+braced-narrow : (s : List ℕ) → mayRepeat s ≡ false → Narrow (braced s (before (equals 0x7D) s))
+unfolding braced
+braced-narrow s e = go (ltb (before (equals 0x7D) s) (length s)) refl
+  where
+    go : (x : Bool) → ltb (before (equals 0x7D) s) (length s) ≡ x
+        → Narrow (elim x [ true ↦ escaped (before (equals 0x7D) s) (escapeOf (take (before (equals 0x7D) s) s)) | false ↦ stringByte 0x7B ])
+    go true q = escaped-narrow (before (equals 0x7D) s) (escapeOf (take (before (equals 0x7D) s) s)) (given-once _ (unstarred s e (ltb-true _ _ q)))
+    go false q = byte-narrow 0x7B
+
+string-narrow : (t : List ℕ) → mayRepeat t ≡ false → Narrow (stringStep t)
+unfolding stringStep
+string-narrow [] e = byte-narrow 0
+string-narrow (b ∷ s) e =
+    by-test (eqb b 0x7B) (braced s (before (equals 0x7D) s)) (stringByte b) (braced-narrow s (repeat-behind b s e)) (byte-narrow b)
+
+step-narrow : (s : Sets) (m : Mode) (t : List ℕ) → mayRepeat t ≡ false → Narrow (crunchStep (lexicon s) m t)
 unfolding crunchStep dataStep dataQuoteStep
 step-narrow s Plain t e = plain-narrow s t
 step-narrow s String t e = string-narrow t e
@@ -137,10 +190,7 @@ step-narrow s DataQuote t e = by-test (eqb (first t) 0x22) (one 0x22 Data) (one 
 
 -- ---- the whole body
 
-module _ (w : Sets) (s : List ℕ) (e : last (equals 0x7D) s ≡ Nowhere) where
-  none-from : (at : ℕ) → before (equals 0x7D) (drop at s) ≡ length (drop at s)
-  none-from at = none-behind (equals 0x7D) s at (rw e tt)
-
+module _ (w : Sets) (s : List ℕ) (e : mayRepeat s ≡ false) where
   abbrev Bounded : ℕ → Type 0
   Bounded n = (m : Mode) (at : ℕ) → length (drop at s) ≤ n → length (crunchedFrom (lexicon w) m (drop at s)) ≤ length (drop at s)
 
@@ -160,7 +210,7 @@ module _ (w : Sets) (s : List ℕ) (e : last (equals 0x7D) s ≡ Nowhere) where
         ap length split,
         length-append (written o) (crunchedFrom (lexicon w) (o .mode) (drop (at + o .used) s)),
         more,
-        step-narrow w m (drop at s) (none-from at),
+        step-narrow w m (drop at s) (repeat-from at s e),
         length-drop (at + o .used) s,
         length-drop at s,
         r .most,
@@ -182,14 +232,18 @@ module _ (w : Sets) (s : List ℕ) (e : last (equals 0x7D) s ≡ Nowhere) where
 
 -- ---- as the code asks
 
+module _ (s : List ℕ) {n : ℕ} where
+  pub star-within : n ≡ before (equals 42) s → n ≤ length s
+  star-within e = omega (arith, before-le (equals 42) s)
+
+  pub repeat-told : {r : ℕ} → r ≡ before (equals 0x7D) (take (length s - n) (drop n s)) → n ≡ before (equals 42) s
+      → ltb r (length (take (length s - n) (drop n s))) ≡ mayRepeat s
+  unfolding mayRepeat
+  repeat-told q e = rw (q, tail s n, e)
+
 module _ (w : Sets) (s : List ℕ) where
-  pub bound-text : {n : ℕ} → n ≤ 0 → n ≡ behindBrace s → length s ≤ 65536 → (min (length (crunchedBody (lexicon w) s)) 65536 ≤ length s) × (length s ≤ 65536)
-  unfolding behindBrace
-  bound-text z e h = (omega (arith, body-bound w s (nowhere (last (equals 0x7D) s) (omega (arith, e, z)))), h)
-    where
-      nowhere : (f : Found) → elim f [ At n ↦ suc n | Nowhere ↦ 0 ] ≤ 0 → f ≡ Nowhere
-      nowhere (At n) q = absurd (omega arith)
-      nowhere Nowhere q = refl
+  pub bound-text : {r : Bool} → length s ≤ 65536 → r ≡ false → r ≡ mayRepeat s → (min (length (crunchedBody (lexicon w) s)) 65536 ≤ length s) × (length s ≤ 65536)
+  bound-text h f e = (omega (arith, body-bound w s (sym e ∙ f)), h)
 
   pub bound-measured : {r : ℕ} → r ≡ min (length (crunchedBody (lexicon w) s)) 65536 → (min (length (crunchedBody (lexicon w) s)) 65536 ≤ r) × (r ≤ 65536)
   bound-measured e = (omega (arith, e), omega (arith, e))

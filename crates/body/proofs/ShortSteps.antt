@@ -7,10 +7,11 @@ use mathlib.Core.Bool.{Bool, true, false, cond, not, _&&_, _||_, false≢true, t
 use mathlib.Core.List.{List, [], _∷_}
 use native.Mathlib.Omega.{arith}
 use lib.Dec.{eqb}
-use lib.ListN.{length}
+use lib.ListN.{length, getD, take, drop, length-drop}
 use borrow.Author.Tests.{eq-eqb, ne-eqb, eqb-true}
 use Rattle.ascii.specs.Bytes.{upper, between, isLetter}
 use Rattle.ascii.proofs.Ranges.{between-in, in-between}
+use Rattle.ascii.proofs.Searching.{tail, here as from-here}
 use Rattle.words.specs.Compare.{begins, passes}
 use Rattle.words.specs.Find.{Entry, firstThat, wordIn}
 use Rattle.words.specs.declared.Test.the-variants.{Begins}
@@ -231,29 +232,56 @@ long-step s Remark t e = absurd (true≢false e)
 long-step s Data t e = absurd (true≢false e)
 long-step s DataQuote t e = absurd (true≢false e)
 
-module _ (s : Sets) (t : List ℕ) {r : Move} where
-  pub long-brace : r ≡ stringStep t → first t ≡ 0x7B → r ≡ longStep (lexicon s) t
-  unfolding longStep
-  long-brace q e = rw (longStep, eq-eqb _ _ e) q
+long-other : (s : Sets) (t : List ℕ) {r : Move} → r ≡ plainStep (lexicon s) t → (first t ≡ 0x7B → ⊥) → r ≡ longStep (lexicon s) t
+unfolding longStep
+long-other s t q n = rw (longStep, ne-eqb _ _ n) q
 
-  pub long-letter : r ≡ plainStep (lexicon s) t → (first t ≡ 0x7B → ⊥) → r ≡ longStep (lexicon s) t
-  unfolding longStep
-  long-letter q n = rw (longStep, ne-eqb _ _ n) q
-
-pub long-pi : (s : Sets) (t : List ℕ) {r : Move} → r ≡ otherStep t → 0 < length t → first t ≡ 0xCF → r ≡ longStep (lexicon s) t
+pi-step : (s : Sets) (t : List ℕ) {r : Move} → r ≡ otherStep t → 0 < length t → first t ≡ 0xCF → r ≡ longStep (lexicon s) t
 unfolding operators wordIn upper between
-long-pi s [] q h e = absurd (omega arith)
-long-pi s (b ∷ u) q h e =
+pi-step s [] q h e = absurd (omega arith)
+pi-step s (b ∷ u) q h e =
     let none : Nothing ≡ wordIn operators (b ∷ []) = rw e in
     let letter : false ≡ isLetter b = rw e in
-    long-letter s (b ∷ u)
+    long-other s (b ∷ u)
     (other-none (lexicon s) (b ∷ u) {w = Nothing} q refl (none ∙ sym (operator-alone b u)) refl letter (λ x. absurd (omega (arith, x, e))) (document-proper s))
     (λ x. absurd (omega (arith, x, e)))
 
-pub letter-left : (b : ℕ) → isLong b ≡ true → (b ≡ 0x7B → ⊥) → (b ≡ 0xCF → ⊥) → isLetter b ≡ true
+letter-left : (b : ℕ) → isLong b ≡ true → (b ≡ 0x7B → ⊥) → (b ≡ 0xCF → ⊥) → isLetter b ≡ true
 unfolding isLong
 letter-left b e n p = go (isLetter b) (rw (ne-eqb _ _ n, ne-eqb _ _ p) at e)
   where
     go : (x : Bool) → (x || (false || false)) ≡ true → x ≡ true
     go true f = refl
     go false f = absurd (false≢true f)
+
+-- ---- such a byte at a place of a text, and the text from there on, as it is lent
+
+module _ (t : List ℕ) (at : ℕ) where
+  abbrev rest : List ℕ
+  rest = take (length t - at) (drop at t)
+
+  pub first-at : at < length t → first (drop at t) ≡ getD t at 0
+  first-at h = ap first (from-here t at h)
+
+  pub rest-some : at < length t → 0 < length rest
+  rest-some h = rw (tail t at) (omega (arith, length-drop at t))
+
+  rest-at : at < length t → first rest ≡ getD t at 0
+  rest-at h = ap first (tail t at) ∙ first-at h
+
+  pub rest-pi : getD t at 0 ≡ 0xCF → at < length t → first rest ≡ 0xCF
+  rest-pi e h = rest-at h ∙ e
+
+  pub rest-letter : (getD t at 0 ≡ 0x7B → ⊥) → (getD t at 0 ≡ 0xCF → ⊥) → isLong (getD t at 0) ≡ true → at < length t → isLetter (first rest) ≡ true
+  rest-letter n p e h = rw (rest-at h) (letter-left (getD t at 0) e n p)
+
+  module _ (s : Sets) {r : Move} where
+    pub long-brace : r ≡ stringStep (drop at t) → getD t at 0 ≡ 0x7B → at < length t → r ≡ longStep (lexicon s) (drop at t)
+    unfolding longStep
+    long-brace q e h = rw (longStep, eq-eqb _ _ (first-at h ∙ e)) q
+
+    pub long-pi : r ≡ otherStep rest → getD t at 0 ≡ 0xCF → at < length t → r ≡ longStep (lexicon s) (drop at t)
+    long-pi q e h = rw (← tail t at) (pi-step s rest q (rest-some h) (rest-pi e h))
+
+    pub long-letter : r ≡ plainStep (lexicon s) rest → (getD t at 0 ≡ 0x7B → ⊥) → at < length t → r ≡ longStep (lexicon s) (drop at t)
+    long-letter q n h = rw (← tail t at) (long-other s rest q (λ x. n (sym (rest-at h) ∙ x)))

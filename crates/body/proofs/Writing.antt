@@ -11,7 +11,6 @@ use lib.ListN.{length, getD, take, drop, set, replicate, length-append, length-s
 use lib.Seq.{sets, drop-drop}
 use mir.Syntax.{w64}
 use mir.Val.{Fits}
-use Rattle.ascii.proofs.Searching.{tail, here as from-here}
 use Rattle.lent.specs.Stores.{Room, Put}
 use Rattle.lent.proofs.Storing.{put-long, put-as, room-as, room-first, room-second, put-both, put-none}
 use Rattle.body.specs.Body.{prefixOf, written, crunchedFrom, crunchedBody}
@@ -24,28 +23,21 @@ use Rattle.body.specs.declared.moves.Mode.the-variants.{Plain}
 use Rattle.body.specs.declared.moves.Move.{Move}
 use Rattle.body.proofs.Beginnings.{proper, Takes, document-proper}
 use Rattle.body.proofs.Progress.{step-takes}
-use Rattle.body.proofs.ShortSteps.{short-step, long-known, long-step}
+use Rattle.body.proofs.ShortSteps.{short-step, long-known, long-step, first-at}
 use Rattle.body.proofs.Run.{length-prefix, length-written, body-end, body-step}
 
 -- ---- a step at a place of a body
 
--- the text from a place on, as it is lent
-abbrev pub rest : List ℕ → ℕ → List ℕ
-rest s at = take (length s - at) (drop at s)
-
-module _ (l : Lexicon) (s : List ℕ) (m : Mode) {at : ℕ} {o : Move} (e : o ≡ crunchStep l m (rest s at)) (h : at < length s) (g : T (proper l)) where
-  here : o ≡ crunchStep l m (drop at s)
-  here = e ∙ ap (crunchStep l m) (tail s at)
-
+module _ (l : Lexicon) (s : List ℕ) (m : Mode) {at : ℕ} {o : Move} (e : o ≡ crunchStep l m (drop at s)) (h : at < length s) (g : T (proper l)) where
   some : 0 < length (drop at s)
   some = omega (arith, length-drop at s)
 
   takes : Takes (drop at s) (o .used)
-  takes = rw here (step-takes l g m (drop at s) some)
+  takes = rw e (step-takes l g m (drop at s) some)
 
   -- what is owed at a place, taken apart: the step, and what is owed behind it
   body-at : crunchedFrom l m (drop at s) ≡ written o ++ crunchedFrom l (o .mode) (drop (at + o .used) s)
-  body-at = rw (← drop-drop (o .used) at s) (body-step l g m (drop at s) some here)
+  body-at = rw (← drop-drop (o .used) at s) (body-step l g m (drop at s) some e)
 
   step-within : at + o .used ≤ length s
   step-within = omega (arith, takes .most, length-drop at s)
@@ -56,30 +48,23 @@ module _ (l : Lexicon) (s : List ℕ) (m : Mode) {at : ℕ} {o : Move} (e : o �
   step-fits : Fits w64 (length s) → Fits w64 (at + o .used)
   step-fits f = record { fits = omega (arith, f .fits, step-within) }
 
-pub rest-some : (s : List ℕ) {at : ℕ} → at < length s → 0 < length (rest s at)
-rest-some s {at} h = rw (tail s at) (omega (arith, length-drop at s))
-
 -- ---- the step at a byte that is short, or long, in its mode
 
-module _ (s : List ℕ) {at : ℕ} (h : at < length s) where
-  byte-here : first (rest s at) ≡ getD s at 0
-  byte-here = ap first (tail s at ∙ from-here s at h)
+module _ (s : List ℕ) (at : ℕ) (m : Mode) {x : Bool} (e : x ≡ isShort m (getD s at 0)) where
+  pub long-byte : x ≡ false → isLong (getD s at 0) ≡ true
+  long-byte f = long-known m (getD s at 0) (sym e ∙ f)
 
-  -- the test that is asked for each byte
-  module _ (m : Mode) {x : Bool} (e : x ≡ isShort m (getD s at 0)) where
-    asked : x ≡ isShort m (first (rest s at))
-    asked = e ∙ ap (isShort m) (sym byte-here)
+  module _ (h : at < length s) where
+    asked : x ≡ isShort m (first (drop at s))
+    asked = e ∙ ap (isShort m) (sym (first-at s at h))
 
-    short-here : (w : Sets) → x ≡ true → one (shortByte m (getD s at 0)) (shortMode m (getD s at 0)) ≡ crunchStep (lexicon w) m (rest s at)
+    short-here : (w : Sets) → x ≡ true → one (shortByte m (getD s at 0)) (shortMode m (getD s at 0)) ≡ crunchStep (lexicon w) m (drop at s)
     short-here w t =
-        ap (λ (b : ℕ). one (shortByte m b) (shortMode m b)) (sym byte-here)
-        ∙ short-step w m (rest s at) (rest-some s h) (sym asked ∙ t)
+        ap (λ (b : ℕ). one (shortByte m b) (shortMode m b)) (sym (first-at s at h))
+        ∙ short-step w m (drop at s) (omega (arith, length-drop at s)) (sym asked ∙ t)
 
-    pub long-byte : x ≡ false → isLong (first (rest s at)) ≡ true
-    long-byte f = long-known m (first (rest s at)) (sym asked ∙ f)
-
-    pub long-here : (w : Sets) {o : Move} → o ≡ longStep (lexicon w) (rest s at) → x ≡ false → o ≡ crunchStep (lexicon w) m (rest s at)
-    long-here w q f = q ∙ long-step w m (rest s at) (sym asked ∙ f)
+    pub long-here : (w : Sets) {o : Move} → o ≡ longStep (lexicon w) (drop at s) → x ≡ false → o ≡ crunchStep (lexicon w) m (drop at s)
+    long-here w q f = q ∙ long-step w m (drop at s) (sym asked ∙ f)
 
 pub short-known : {x : Bool} (m : Mode) (b : ℕ) → x ≡ true → x ≡ isShort m b → isShort m b ≡ true
 short-known m b t e = sym e ∙ t
@@ -102,7 +87,7 @@ module _ {l : Lexicon} {s first : List ℕ} {m : Mode} {out : List ℕ} {n at : 
       let none : crunchedFrom l m (drop at s) ≡ [] = rw (drop-of-length-le s h) (body-end l m) in
       k .gives n out (put-as (sym none) (put-none out n))
 
-  module _ {o : Move} (e : o ≡ crunchStep l m (rest s at)) (h : at < length s) (g : T (proper l)) where
+  module _ {o : Move} (e : o ≡ crunchStep l m (drop at s)) (h : at < length s) (g : T (proper l)) where
     owing : Room out n (written o ++ crunchedFrom l (o .mode) (drop (at + o .used) s))
     owing = room-as (sym (body-at l s m e h g)) (k .room)
 
@@ -130,13 +115,13 @@ module _ (w : Sets) {s first : List ℕ} {m : Mode} {out : List ℕ} {n at : ℕ
     (e : x ≡ isShort m (getD s at 0)) where
   pub short-room : n < length out
   unfolding written
-  short-room = omega (arith, owed-room k (short-here s h m e w t) h (document-proper w) .room)
+  short-room = omega (arith, owed-room k (short-here s _ m e h w t) h (document-proper w) .room)
 
   pub short-turn : {b : ℕ} {behind : Mode} → b ≡ shortByte m (getD s at 0) → behind ≡ shortMode m (getD s at 0)
       → Owed (lexicon w) s first behind (set out n b) (n + 1) (at + 1)
   unfolding written
   short-turn p q =
-      rw (p, q) (owed-turn k (short-here s h m e w t) h (document-proper w) (record { ends = omega arith; stored = refl }))
+      rw (p, q) (owed-turn k (short-here s _ m e h w t) h (document-proper w) (record { ends = omega arith; stored = refl }))
 
 -- ---- measuring
 
@@ -155,14 +140,14 @@ module _ {l : Lexicon} {s : List ℕ} {m : Mode} {n at : ℕ} (k : Measured l s 
       let none : crunchedFrom l m (drop at s) ≡ [] = rw (drop-of-length-le s h) (body-end l m) in
       omega (arith, ap length none, k .gives, k .low)
 
-  module _ {o : Move} (e : o ≡ crunchStep l m (rest s at)) (h : at < length s) (g : T (proper l)) where
+  module _ {o : Move} (e : o ≡ crunchStep l m (drop at s)) (h : at < length s) (g : T (proper l)) where
     pub measured-less : length s - (at + o .used) < length s - at
     measured-less = step-less l s m e h g
 
     pub measured-fits : Fits w64 (length s) → Fits w64 (at + o .used)
     measured-fits = step-fits l s m e h g
 
-  module _ {o : Move} {r : ℕ} (q : r ≡ min (n + length (written o)) 65536) (e : o ≡ crunchStep l m (rest s at)) (h : at < length s) (g : T (proper l)) where
+  module _ {o : Move} {r : ℕ} (q : r ≡ min (n + length (written o)) 65536) (e : o ≡ crunchStep l m (drop at s)) (h : at < length s) (g : T (proper l)) where
     parts : length (crunchedFrom l m (drop at s)) ≡ length (written o) + length (crunchedFrom l (o .mode) (drop (at + o .used) s))
     parts = ap length (body-at l s m e h g) ∙ length-append (written o) (crunchedFrom l (o .mode) (drop (at + o .used) s))
 
@@ -180,10 +165,10 @@ module _ (w : Sets) {s : List ℕ} {m : Mode} {n at : ℕ} (k : Measured (lexico
   one-longer = omega (arith, k .low)
 
   pub short-full : n + 1 ≡ 65536 → n + 1 ≡ min (length (crunchedBody (lexicon w) s)) 65536
-  short-full f = measured-full k one-longer (short-here s h m e w t) h (document-proper w) f
+  short-full f = measured-full k one-longer (short-here s _ m e h w t) h (document-proper w) f
 
   pub short-measured : {behind : Mode} → behind ≡ shortMode m (getD s at 0) → (n + 1 ≡ 65536 → ⊥) → Measured (lexicon w) s behind (n + 1) (at + 1)
-  short-measured q f = rw q (measured-turn k one-longer (short-here s h m e w t) h (document-proper w) f)
+  short-measured q f = rw q (measured-turn k one-longer (short-here s _ m e h w t) h (document-proper w) f)
 
 -- a length with what a step writes behind it
 module _ (n : ℕ) {begun : ℕ} where

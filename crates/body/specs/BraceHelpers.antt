@@ -1,19 +1,31 @@
--- For helpers of crunching alone: from where on no } follows in a body, so that a { need not look for one.
+-- For helpers of crunching alone: what the { in front of one } share, and whether an escape of a body can have a count.
 -- Assumes nothing.
-use Prim.Native.Nat.{ℕ, suc}
+use Prim.Native.Nat.{ℕ, _+_, _-_, _≤_, _<_}
 use mathlib.Core.Path.{_≡_}
-use mathlib.Core.Bool.{Bool, true, false}
+use mathlib.Core.Bool.{Bool}
 use mathlib.Core.List.{List}
-use lib.ListN.{length}
-use Rattle.ascii.specs.Search.{equals, before, last}
-use Rattle.ascii.specs.declared.search.Found.the-variants.{At, Nowhere}
+use lib.Dec.{ltb}
+use lib.ListN.{length, getD, take, drop}
+use Rattle.ascii.specs.Search.{equals, before}
+use Rattle.escapes.specs.TailHelpers.{TailOf}
+use Rattle.body.specs.declared.string.Span.{Span}
 
--- the place behind the last }, 0 where there is none
-unfoldable pub behindBrace : List ℕ → ℕ
-unfolding last
-behindBrace t = elim (last (equals 0x7D) t) [ At n ↦ suc n | Nowhere ↦ 0 ]
+-- the span of a place: it begins no later than behind the place, and ends at the first } from there on, or with the text
+pub record SpanOf (t : List ℕ) (at : ℕ) (w : Span) : Type 0 where
+  pub begun : w .from ≤ at + 1
+  pub ahead : at < w .close
+  pub closed : w .close ≡ w .from + before (equals 0x7D) (drop (w .from) t)
+  pub ends : TailOf (take (w .close - w .from) (drop (w .from) t)) (w .tail)
 
--- whoever says that no } follows in a text is right
-abbrev pub Closes : Bool → List ℕ → Type 0
-Closes true t = Unit {0}
-Closes false t = before (equals 0x7D) t ≡ length t
+-- a span that is known at a place: that of each place from there on up to its end
+pub record Spans (t : List ℕ) (at : ℕ) (w : Span) : Type 0 where
+  pub spans : at < w .close → SpanOf t at w
+
+-- the same, and at a { it is that of the {
+pub record Reaches (t : List ℕ) (at : ℕ) (w : Span) : Type 0 where
+  pub known : Spans t at w
+  pub brace : getD t at 0 ≡ 0x7B → SpanOf t at w
+
+-- a } stands behind a *
+unfoldable pub mayRepeat : List ℕ → Bool
+mayRepeat t = let rest = drop (before (equals 42) t) t in ltb (before (equals 0x7D) rest) (length rest)

@@ -2,7 +2,6 @@
 use crate::moves::Mode;
 use crate::moves::Move;
 use ascii::search;
-use ascii::search::Found;
 use ascii::search::Kind;
 use tables::sets::Sets;
 ghost use mathlib.Core.Path.{_≡_};
@@ -12,7 +11,7 @@ ghost use Rattle.lent.specs.Stores.{Room, Put};
 ghost use Rattle.tables.specs.WordsHelpers.{SpellsWords};
 ghost use Rattle.body.specs.Body.{prefixOf, written, crunchedBody};
 ghost use Rattle.body.specs.Lexicon.{lexicon};
-ghost use Rattle.body.specs.BraceHelpers.{behindBrace};
+ghost use Rattle.body.specs.BraceHelpers.{mayRepeat};
 
 pub mod moves;
 mod plain;
@@ -25,7 +24,7 @@ pub fn measure_body(text: &[u8], bytes: &[u8], index: &[u16], sets: Sets) -> usi
     requires { ⌜ SpellsWords (now bytes) (now index) ⌝ }
     ensures { λ r. ⌜ r ≡ min (length (crunchedBody (lexicon sets) (now (text .entry)))) 65536 ⌝ }
 {
-    let last = behind_brace(text);
+    let mut span = string::no_span(text);
     let mut at: usize = 0;
     let mut mode = Mode::Plain;
     let mut n: usize = 0;
@@ -39,7 +38,8 @@ pub fn measure_body(text: &[u8], bytes: &[u8], index: &[u16], sets: Sets) -> usi
                 return n;
             }
         } else {
-            let m = step::step(&text[at..], at < last, bytes, index, sets);
+            span = string::span_at(text, at, span);
+            let m = step::step(text, at, span, bytes, index, sets);
             n = longer(n, m);
             if n == 65536 {
                 return n;
@@ -52,12 +52,12 @@ pub fn measure_body(text: &[u8], bytes: &[u8], index: &[u16], sets: Sets) -> usi
     n
 }
 
-// A length that the body does not pass, or 65,536: that of its text, where there is no } in it.
+// A length that the body does not pass, or 65,536: that of its text, where no } stands behind a *.
 pub fn bound_body(text: &[u8], bytes: &[u8], index: &[u16], sets: Sets) -> usize
     requires { ⌜ SpellsWords (now bytes) (now index) ⌝ }
     ensures { λ r. ⌜ (min (length (crunchedBody (lexicon sets) (now (text .entry)))) 65536 ≤ r) × (r ≤ 65536) ⌝ }
 {
-    if behind_brace(text) > 0 {
+    if may_repeat(text) {
         return measure_body(text, bytes, index, sets);
     }
     if text.len() <= 65536 {
@@ -66,14 +66,13 @@ pub fn bound_body(text: &[u8], bytes: &[u8], index: &[u16], sets: Sets) -> usize
     65536
 }
 
-// The place behind the last }, 0 where there is none.
-fn behind_brace(text: &[u8]) -> usize
-    ensures { λ r. ⌜ r ≡ behindBrace (now (text .entry)) ⌝ }
+// Whether a } stands behind a *: without that no escape has a count.
+fn may_repeat(text: &[u8]) -> bool
+    ensures { λ r. ⌜ r ≡ mayRepeat (now (text .entry)) ⌝ }
 {
-    match search::last(text, Kind::Is(0x7D)) {
-        Found::At(n) => n + 1,
-        Found::Nowhere => 0,
-    }
+    let star = search::before(text, Kind::Is(b'*'));
+    let rest = &text[star..];
+    search::before(rest, Kind::Is(0x7D)) < rest.len()
 }
 
 // A length with what a step writes behind it, up to 65,536.
@@ -105,7 +104,7 @@ pub fn write_body(out: &mut [u8], text: &[u8], bytes: &[u8], index: &[u16], sets
     requires { ⌜ SpellsWords (now bytes) (now index) × Room (now out) 0 (crunchedBody (lexicon sets) (now text)) ⌝ }
     ensures { λ r. ⌜ Put (now (out .entry)) 0 (crunchedBody (lexicon sets) (now (text .entry))) r (now (out .exit)) ⌝ }
 {
-    let last = behind_brace(text);
+    let mut span = string::no_span(text);
     let mut at: usize = 0;
     let mut mode = Mode::Plain;
     let mut n: usize = 0;
@@ -117,7 +116,8 @@ pub fn write_body(out: &mut [u8], text: &[u8], bytes: &[u8], index: &[u16], sets
             at += 1;
             n += 1;
         } else {
-            let m = step::step(&text[at..], at < last, bytes, index, sets);
+            span = string::span_at(text, at, span);
+            let m = step::step(text, at, span, bytes, index, sets);
             n = put_move(out, n, m);
             at += m.used;
             let next = m.mode;

@@ -2,28 +2,28 @@
 use crate::moves::Move;
 use crate::plain;
 use crate::string;
+use crate::string::Span;
 use tables::sets::Sets;
 ghost use mathlib.Core.Path.{_≡_};
 ghost use mathlib.Core.Bool.{true};
 ghost use Prim.Native.Nat.{_<_};
-ghost use lib.ListN.{length};
+ghost use lib.ListN.{length, getD, drop};
 ghost use Rattle.tables.specs.WordsHelpers.{SpellsWords};
-ghost use Rattle.body.specs.BraceHelpers.{Closes};
+ghost use Rattle.body.specs.BraceHelpers.{Reaches};
 ghost use Rattle.body.specs.Lexicon.{lexicon};
 ghost use Rattle.body.specs.ShortHelpers.{isLong, longStep};
-ghost use Rattle.body.specs.Steps.{first};
 
-// A step at the front of a text. Where no } follows, `closes` may be false.
-pub fn step(rest: &[u8], closes: bool, bytes: &[u8], index: &[u16], sets: Sets) -> Move
-    requires { ⌜ (0 < length (now rest)) × (isLong (first (now rest)) ≡ true) × Closes closes (now rest) × SpellsWords (now bytes) (now index) ⌝ }
-    ensures { λ r. ⌜ r ≡ longStep (lexicon sets) (now (rest .entry)) ⌝ }
+// A step at a place of a text. At a { the span is that of its }.
+pub fn step(text: &[u8], at: usize, span: Span, bytes: &[u8], index: &[u16], sets: Sets) -> Move
+    requires { ⌜ (at < length (now text)) × (isLong (getD (now text) at 0) ≡ true) × Reaches (now text) at span × SpellsWords (now bytes) (now index) ⌝ }
+    ensures { λ r. ⌜ r ≡ longStep (lexicon sets) (drop at (now (text .entry))) ⌝ }
 {
-    let b = rest[0];
+    let b = text[at];
     if b == 0x7B {
-        return string::brace_step(rest, closes, bytes, index);
+        return string::brace_step(text, at, span, bytes, index);
     }
     if b == 0xCF {
-        return plain::from_pi(rest);
+        return plain::from_pi(&text[at..]);
     }
-    plain::letter_step(rest, bytes, index, sets)
+    plain::letter_step(&text[at..], bytes, index, sets)
 }

@@ -5,41 +5,72 @@ use crate::moves::Move;
 use ascii::search;
 use ascii::search::Kind;
 use escapes::Escape;
+use escapes::Tail;
 ghost use mathlib.Core.Path.{_≡_};
 ghost use Prim.Native.Nat.{_<_};
-ghost use lib.ListN.{length};
+ghost use lib.ListN.{length, getD, drop};
 ghost use Rattle.tables.specs.WordsHelpers.{SpellsWords};
-ghost use Rattle.body.specs.BraceHelpers.{Closes};
-ghost use Rattle.body.specs.Steps.{first, stringStep};
+ghost use Rattle.body.specs.BraceHelpers.{SpanOf, Spans, Reaches};
+ghost use Rattle.body.specs.Steps.{stringStep};
 
-// A { that no } follows is a byte like others. Where none does, `closes` may be false.
-pub fn brace_step(rest: &[u8], closes: bool, bytes: &[u8], index: &[u16]) -> Move
-    requires { ⌜ (0 < length (now rest)) × (first (now rest) ≡ 0x7B) × Closes closes (now rest) × SpellsWords (now bytes) (now index) ⌝ }
-    ensures { λ r. ⌜ r ≡ stringStep (now (rest .entry)) ⌝ }
+// What the { in front of one } share: a place behind the first of them, the place of the }, or the text's end where none follows, and
+// the tail of the bytes between.
+pub struct Span {
+    pub from: usize,
+    pub close: usize,
+    pub tail: Tail,
+}
+
+// No } was looked for yet.
+pub fn no_span(text: &[u8]) -> Span
+    ensures { λ r. ⌜ Spans (now (text .entry)) 0 r ⌝ }
 {
-    if closes {
-        return escape_step(rest, bytes, index);
+    Span {
+        from: 0,
+        close: 0,
+        tail: escapes::tail_of(&text[..0]),
     }
-    moves::one(0x7B, Mode::String)
+}
+
+// The span at a place, where that of an earlier one is known: it is found anew only at a { behind the known }. So no byte is gone
+// through for two of them.
+pub fn span_at(text: &[u8], at: usize, known: Span) -> Span
+    requires { ⌜ (at < length (now text)) × Spans (now text) at known ⌝ }
+    ensures { λ r. ⌜ Reaches (now (text .entry)) at r ⌝ }
+{
+    if text[at] != 0x7B {
+        return known;
+    }
+    if at < known.close {
+        return known;
+    }
+    let from = at + 1;
+    let close = from + search::before(&text[from..], Kind::Is(0x7D));
+    Span {
+        from,
+        close,
+        tail: escapes::tail_of(&text[from..close]),
+    }
 }
 
 // A known escape between a { and the first } behind it; otherwise the { is a byte like others.
-fn escape_step(rest: &[u8], bytes: &[u8], index: &[u16]) -> Move
-    requires { ⌜ (0 < length (now rest)) × (first (now rest) ≡ 0x7B) × SpellsWords (now bytes) (now index) ⌝ }
-    ensures { λ r. ⌜ r ≡ stringStep (now (rest .entry)) ⌝ }
+pub fn brace_step(text: &[u8], at: usize, span: Span, bytes: &[u8], index: &[u16]) -> Move
+    requires { ⌜ (at < length (now text)) × (getD (now text) at 0 ≡ 0x7B) × SpanOf (now text) at span × SpellsWords (now bytes) (now index) ⌝ }
+    ensures { λ r. ⌜ r ≡ stringStep (drop at (now (text .entry))) ⌝ }
 {
-    let n = search::before(&rest[1..], Kind::Is(0x7D));
-    if rest.len() - 1 <= n {
+    let from = span.from;
+    let close = span.close;
+    if text.len() <= close {
         return moves::one(0x7B, Mode::String);
     }
-    let to = n + 1;
-    match escapes::resolve_petscii_escape(&rest[1..to], bytes, index) {
+    let tail = span.tail;
+    match escapes::escape_from(&text[from..close], at + 1 - from, tail, bytes, index) {
         Escape::Byte { byte, count } => Move {
             prefixed: false,
             byte,
             count,
             mode: Mode::String,
-            used: n + 2,
+            used: close + 1 - at,
         },
         Escape::Unknown => moves::one(0x7B, Mode::String),
     }

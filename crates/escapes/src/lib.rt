@@ -7,10 +7,13 @@ use tables::matching;
 use tables::spellings;
 use words::Match;
 ghost use mathlib.Core.Path.{_≡_};
-ghost use Prim.Native.Nat.{_<_};
-ghost use lib.ListN.{length};
+ghost use Prim.Native.Nat.{_≤_, _<_};
+ghost use lib.ListN.{length, take, drop};
+ghost use Rattle.ascii.specs.Bytes.{isSpace};
+ghost use Rattle.ascii.specs.Search.{past};
 ghost use Rattle.tables.specs.WordsHelpers.{SpellsWords};
-ghost use Rattle.escapes.specs.Escape.{escapeOf, nameEscape, countedEscape, starred};
+ghost use Rattle.escapes.specs.Escape.{escapeOf, nameEscape};
+ghost use Rattle.escapes.specs.TailHelpers.{TailOf, wholeTail, starredTail};
 
 mod keys;
 mod numbers;
@@ -18,6 +21,17 @@ mod numbers;
 pub enum Escape {
     Byte { byte: u8, count: u64 },
     Unknown,
+}
+
+// What a text shares with every end of it, so that many { in front of one } need not look for it each.
+pub struct Tail {
+    // How many bytes are left without the white space at the end.
+    pub end: usize,
+    // The place behind the `*` of a count; 0 where there is no count.
+    pub star: usize,
+    // How many bytes before that `*` are left without the white space in front of it.
+    pub name: usize,
+    pub count: u64,
 }
 
 // The escape between two braces.
@@ -32,32 +46,81 @@ pub fn resolve_petscii_escape(inside: &[u8], bytes: &[u8], index: &[u16]) -> Esc
     requires { ⌜ SpellsWords (now bytes) (now index) ⌝ }
     ensures { λ r. ⌜ r ≡ escapeOf (now (inside .entry)) ⌝ }
 {
-    let text = ascii::trim(inside);
+    escape_from(inside, 0, tail_of(inside), bytes, index)
+}
+
+// The tail of a text. It is gone through for it, and no more for any end of it.
+pub fn tail_of(inside: &[u8]) -> Tail
+    ensures { λ r. ⌜ TailOf (now (inside .entry)) r ⌝ }
+{
+    let end = ascii::solid_length(inside);
+    let text = &inside[..end];
     // A count ends in a digit: most escapes have none, and no `*` is looked for.
     if !numbers::may_end_in_count(text) {
-        return resolve_name(text, 1, bytes, index);
+        return whole(end);
     }
     match search::last(text, Kind::Is(b'*')) {
-        Found::At(star) => resolve_starred(text, star, bytes, index),
-        Found::Nowhere => resolve_name(text, 1, bytes, index),
+        Found::At(star) => starred_tail(text, star),
+        Found::Nowhere => whole(end),
     }
 }
 
-// The escape of a text whose last `*` stands at a place.
-fn resolve_starred(text: &[u8], star: usize, bytes: &[u8], index: &[u16]) -> Escape
-    requires { ⌜ (star < length (now text)) × SpellsWords (now bytes) (now index) ⌝ }
-    ensures { λ r. ⌜ r ≡ countedEscape (starred (now (text .entry)) star) ⌝ }
+// The tail of a text without a count.
+fn whole(end: usize) -> Tail
+    ensures { λ r. ⌜ r ≡ wholeTail end ⌝ }
+{
+    Tail {
+        end,
+        star: 0,
+        name: 0,
+        count: 0,
+    }
+}
+
+// The tail of a text that ends in no white space, and whose last `*` stands at a place.
+fn starred_tail(text: &[u8], star: usize) -> Tail
+    requires { ⌜ star < length (now text) ⌝ }
+    ensures { λ r. ⌜ r ≡ starredTail (now (text .entry)) star ⌝ }
 {
     let from = star + 1;
     match numbers::count_of(ascii::trim(&text[from..])) {
         Number::Value(count) => {
             if count == 0 {
-                return resolve_name(text, 1, bytes, index);
+                return whole(text.len());
             }
-            resolve_name(ascii::trim(&text[..star]), count, bytes, index)
+            Tail {
+                end: text.len(),
+                star: from,
+                name: ascii::solid_length(&text[..star]),
+                count,
+            }
         }
-        Number::Missing => resolve_name(text, 1, bytes, index),
+        Number::Missing => whole(text.len()),
     }
+}
+
+// The escape that a text is from a place on, by the text's tail.
+pub fn escape_from(inside: &[u8], at: usize, tail: Tail, bytes: &[u8], index: &[u16]) -> Escape
+    requires { ⌜ TailOf (now inside) tail × SpellsWords (now bytes) (now index) ⌝ }
+    ensures { λ r. ⌜ r ≡ escapeOf (drop at (now (inside .entry))) ⌝ }
+{
+    if at < tail.star {
+        return resolve_name(part(inside, at, tail.name), tail.count, bytes, index);
+    }
+    resolve_name(part(inside, at, tail.end), 1, bytes, index)
+}
+
+// A text from one place up to another, without the white space in front.
+fn part(text: &[u8], from: usize, to: usize) -> &[u8]
+    requires { ⌜ to ≤ length (now text) ⌝ }
+    ensures { λ r. ⌜ now r ≡ past isSpace (drop from (take to (now (text .entry)))) ⌝ }
+{
+    if to <= from {
+        return &text[..0];
+    }
+    let rest = &text[from..to];
+    let blanks = ascii::leading_space(rest);
+    &rest[blanks..]
 }
 
 // The escape of a name without its count.

@@ -10,7 +10,7 @@ returns : tie.Need-returns
 returns c = search bound-measured
 
 returns-2 : tie.Need-returns-2
-returns-2 c = bound-text _ _ (the tie.Else1 (search) .if1 .left) (the tie.After-behind-brace (search) .behind-brace .ensures) (c .if2 .taken)
+returns-2 c = bound-text _ _ (c .if2 .taken) (the tie.Else1 (search) .if1 .left) (the tie.After-may-repeat (search) .may-repeat .ensures)
 
 returns-3 : tie.Need-returns-3
 returns-3 c = search bound-most

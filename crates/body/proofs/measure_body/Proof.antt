@@ -7,8 +7,9 @@ use mir.Syntax.{w64}
 use mir.Val.{Fits}
 use Rattle.body.specs.Lexicon.{lexicon}
 use Rattle.body.proofs.Beginnings.{document-proper}
-use Rattle.body.proofs.Writing.{Measured, measured-start, measured-full, measured-turn, measured-end, rest-some, measured-fits, measured-less, short-full, short-measured, long-byte, long-here}
-use Rattle.body.proofs.Braces.{closes-known}
+use Rattle.body.proofs.Writing.{Measured, measured-start, measured-full, measured-turn, measured-end, measured-fits, measured-less, short-full, short-measured, long-byte, long-here}
+use Rattle.body.specs.BraceHelpers.{Spans}
+use Rattle.body.proofs.Braces.{spans-on, reaches-on}
 use Rattle.steps.proofs.The.{the}
 use native.Mathlib.Omega.{arith}
 use borrow.Author.Needs.{needs}
@@ -16,10 +17,10 @@ use Rattle.body.proofs.measure_body.Statement.{statement}
 use Rattle.body.proofs.measure_body.Tie as tie
 
 abbrev Inv-loop : tie.InvT-loop
-Inv-loop text bytes index sets last at₀ mode₀ n₀ at mode n = Measured (lexicon sets) text mode n at
+Inv-loop text bytes index sets span₀ at₀ mode₀ n₀ span at mode n = Measured (lexicon sets) text mode n at × Spans text at span
 
 abbrev μ-loop : tie.MeasureT-loop
-μ-loop text bytes index sets last at₀ mode₀ n₀ at mode n = length text - at
+μ-loop text bytes index sets span₀ at₀ mode₀ n₀ span at mode n = length text - at
 
 text-fits : (c : tie.Start Inv-loop μ-loop) → Fits w64 (length (now (c .args .text)))
 text-fits c = record { fits = omega arith }
@@ -34,10 +35,10 @@ returns : tie.Need-returns Inv-loop μ-loop
 returns c = search short-full
 
 loop-again : tie.Need-loop-again Inv-loop μ-loop
-loop-again c = search (short-measured, the (tie.Else2 Inv-loop μ-loop) (search) .if2 .left)
+loop-again c = search (short-measured, spans-on, the (tie.Else2 Inv-loop μ-loop) (search) .if2 .left)
 
 step-requires : tie.Need-step-requires Inv-loop μ-loop
-step-requires c κs = search (rest-some, long-byte, closes-known)
+step-requires c κs = search long-byte
 
 returns-2 : tie.Need-returns-2 Inv-loop μ-loop
 returns-2 c = search (measured-full, document-proper, long-here)
@@ -49,7 +50,7 @@ loop-less-2 : tie.Need-loop-less-2 Inv-loop μ-loop
 loop-less-2 c = search (measured-less, document-proper, long-here)
 
 loop-again-2 : tie.Need-loop-again-2 Inv-loop μ-loop
-loop-again-2 c = search (measured-turn, document-proper, long-here, the (tie.Else3 Inv-loop μ-loop) (search) .if3 .left)
+loop-again-2 c = search (measured-turn, reaches-on, document-proper, long-here, the (tie.Else3 Inv-loop μ-loop) (search) .if3 .left)
 
 returns-3 : tie.Need-returns-3 Inv-loop μ-loop
 returns-3 c = search measured-end
@@ -70,9 +71,7 @@ measure-body-spec =
     returns
     (λ c. search needs)
     loop-again
-    (λ c. search needs)
-    (λ c. search needs)
-    (λ c. search needs)
+    (λ c κs. search needs)
     step-requires
     (λ c κs. search needs)
     returns-2

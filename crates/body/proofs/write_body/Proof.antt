@@ -7,18 +7,19 @@ use mir.Syntax.{w64}
 use mir.Val.{Fits}
 use Rattle.body.specs.Lexicon.{lexicon}
 use Rattle.body.proofs.Beginnings.{document-proper}
-use Rattle.body.proofs.Writing.{Owed, owed-start, owed-room, owed-turn, owed-end, rest-some, owed-fits, owed-less, short-known, short-room, short-turn, long-byte, long-here}
-use Rattle.body.proofs.Braces.{closes-known}
+use Rattle.body.proofs.Writing.{Owed, owed-start, owed-room, owed-turn, owed-end, owed-fits, owed-less, short-known, short-room, short-turn, long-byte, long-here}
+use Rattle.body.specs.BraceHelpers.{Spans}
+use Rattle.body.proofs.Braces.{spans-on, reaches-on}
 use native.Mathlib.Omega.{arith}
 use borrow.Author.Needs.{needs}
 use Rattle.body.proofs.write_body.Statement.{statement}
 use Rattle.body.proofs.write_body.Tie as tie
 
 abbrev Inv-loop : tie.InvT-loop
-Inv-loop out₀ text bytes index sets last at₀ mode₀ n₀ out at mode n = Owed (lexicon sets) text out₀ mode out n at
+Inv-loop out₀ text bytes index sets span₀ at₀ mode₀ n₀ out span at mode n = Owed (lexicon sets) text out₀ mode out n at × Spans text at span
 
 abbrev μ-loop : tie.MeasureT-loop
-μ-loop out₀ text bytes index sets last at₀ mode₀ n₀ out at mode n = length text - at
+μ-loop out₀ text bytes index sets span₀ at₀ mode₀ n₀ out span at mode n = length text - at
 
 text-fits : (c : tie.Start Inv-loop μ-loop) → Fits w64 (length (now (c .args .text)))
 text-fits c = record { fits = omega arith }
@@ -42,10 +43,10 @@ loop-less : tie.Need-loop-less Inv-loop μ-loop
 loop-less c = search needs
 
 loop-again : tie.Need-loop-again Inv-loop μ-loop
-loop-again c = search short-turn
+loop-again c = search (short-turn, spans-on)
 
 step-requires : tie.Need-step-requires Inv-loop μ-loop
-step-requires c κs = search (rest-some, long-byte, closes-known)
+step-requires c κs = search long-byte
 
 put-move-requires : tie.Need-put-move-requires Inv-loop μ-loop
 put-move-requires c κs = search (owed-room, document-proper, long-here)
@@ -57,7 +58,7 @@ loop-less-2 : tie.Need-loop-less-2 Inv-loop μ-loop
 loop-less-2 c = search (owed-less, document-proper, long-here)
 
 loop-again-2 : tie.Need-loop-again-2 Inv-loop μ-loop
-loop-again-2 c = search (owed-turn, document-proper, long-here)
+loop-again-2 c = search (owed-turn, reaches-on, document-proper, long-here)
 
 returns : tie.Need-returns Inv-loop μ-loop
 returns c = search owed-end
@@ -79,9 +80,7 @@ write-body-spec =
     add-n
     loop-less
     loop-again
-    (λ c. search needs)
-    (λ c. search needs)
-    (λ c. search needs)
+    (λ c κs. search needs)
     step-requires
     put-move-requires
     add-at-2

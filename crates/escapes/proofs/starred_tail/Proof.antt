@@ -1,16 +1,17 @@
--- `escapes::resolve_starred` meets its contract.
+-- `escapes::starred_tail` meets its contract.
 -- Assumes nothing.
+use Rattle.escapes.proofs.Resolving.{star-taken}
+use Rattle.escapes.proofs.Tails.{starred-counted, starred-zero, starred-missing}
 use Rattle.steps.proofs.The.{the}
-use Rattle.escapes.proofs.Resolving.{starred-missing, starred-zero, starred-counted, star-taken}
 use borrow.Author.Needs.{needs}
-use Rattle.escapes.proofs.resolve_starred.Statement.{statement}
-use Rattle.escapes.proofs.resolve_starred.Tie as tie
+use Rattle.escapes.proofs.starred_tail.Statement.{statement}
+use Rattle.escapes.proofs.starred_tail.Tie as tie
 
 returns : tie.Need-returns
 returns c = search starred-zero
 
-slice-aggregate-trim : tie.Need-slice-aggregate-trim
-slice-aggregate-trim c = search star-taken
+slice-aggregate-solid-length : tie.Need-slice-aggregate-solid-length
+slice-aggregate-solid-length c = search star-taken
 
 returns-2 : tie.Need-returns-2
 returns-2 c = search (starred-counted, the tie.Else1 (search) .if1 .left)
@@ -18,8 +19,8 @@ returns-2 c = search (starred-counted, the tie.Else1 (search) .if1 .left)
 returns-3 : tie.Need-returns-3
 returns-3 c = search starred-missing
 
-pub resolve-starred-spec : {M : Type 1} → statement M
-resolve-starred-spec =
+pub starred-tail-spec : {M : Type 1} → statement M
+starred-tail-spec =
     tie.close
     (tie.spec
     (λ c. search needs)
@@ -31,8 +32,7 @@ resolve-starred-spec =
     (λ c. search needs)
     (λ c κs. search needs)
     returns
-    slice-aggregate-trim
-    (λ c κs. search needs)
+    slice-aggregate-solid-length
     (λ c κs. search needs)
     (λ c. search needs)
     (λ c κs. search needs)
