@@ -21,7 +21,8 @@ pub fn table() {
     for growing in subjects::growing() {
         let [here, original] = SIDES.map(|side| {
             let short = measured(&growing, side, growing.size);
-            let long = measured(&growing, side, 2 * growing.size);
+            // What was cut off once would be cut off again.
+            let long = short.and_then(|_| measured(&growing, side, 2 * growing.size));
             shown(short, long)
         });
         println!(

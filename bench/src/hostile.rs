@@ -13,6 +13,21 @@ pub fn closed_braces(size: usize) -> String {
     filled("10 \"", "{", size - 1) + "}"
 }
 
+/// The same with a digit in front of the closing brace, where a count could end.
+pub fn digit_braces(size: usize) -> String {
+    filled("10 \"", "{", size - 2) + "5}"
+}
+
+/// Opening braces, and as many spaces in front of the closing one.
+pub fn spaced_braces(size: usize) -> String {
+    filled("10 \"", "{", size / 2) + &" ".repeat(size / 2 - 1) + "}"
+}
+
+/// Opening braces, and a count of as many zeros in front of the closing one.
+pub fn counted_braces(size: usize) -> String {
+    filled("10 \"", "{", size / 2) + "*" + &"0".repeat(size / 2 - 3) + "1}"
+}
+
 /// A string of escapes that have no known name.
 pub fn unknown_escapes(size: usize) -> String {
     lines("\"", "{unheard of}", size)

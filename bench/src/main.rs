@@ -27,8 +27,7 @@ fn main() -> ExitCode {
         [] => {
             let rows = speed::table();
             growth::table();
-            let beyond = speed::further_table();
-            speed::verdict(&rows, &beyond)
+            speed::verdict(&rows)
         }
         // A run of its own, which growth::table can cut off.
         ["once", name, side, size] => growth::once(name, side, size),

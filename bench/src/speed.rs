@@ -32,17 +32,11 @@ impl Row {
 pub fn table() -> Vec<Row> {
     let mut subjects = subjects::tasks();
     subjects.extend(subjects::hostile());
-    rows("task", subjects)
+    rows(subjects)
 }
 
-/// Measures and prints what is outside the verdict.
-pub fn further_table() -> Vec<Row> {
-    println!();
-    rows("further texts, no bar", subjects::further())
-}
-
-fn rows(title: &str, subjects: Vec<Subject>) -> Vec<Row> {
-    println!("| {title} | MB/s here | MB/s Rust | ratio |");
+fn rows(subjects: Vec<Subject>) -> Vec<Row> {
+    println!("| task | MB/s here | MB/s Rust | ratio |");
     println!("|---|---|---|---|");
     let mut rows = Vec::new();
     for subject in &subjects {
@@ -60,15 +54,13 @@ fn rows(title: &str, subjects: Vec<Subject>) -> Vec<Row> {
     rows
 }
 
-/// Whether every row of the first table is as fast as the original, and every
-/// row of both is answered as it answers.
-pub fn verdict(rows: &[Row], beyond: &[Row]) -> ExitCode {
-    let different = rows.iter().chain(beyond).filter(|row| !row.agrees).count();
+/// Whether every row is as fast as the original, and is answered as it answers.
+pub fn verdict(rows: &[Row]) -> ExitCode {
+    let different = rows.iter().filter(|row| !row.agrees).count();
     let slower = rows.iter().filter(|row| row.ratio() < 1.0).count();
     println!(
-        "\n{} rows: {slower} below 1.00; {different} of {} answers differ",
-        rows.len(),
-        rows.len() + beyond.len()
+        "\n{} rows: {slower} below 1.00; {different} answers differ",
+        rows.len()
     );
     if different + slower == 0 {
         ExitCode::SUCCESS

@@ -63,38 +63,28 @@ pub fn hostile() -> Vec<Subject> {
         auto("lines of Q", hostile::no_words(PROGRAM)),
         auto("lines of R", hostile::many_words(PROGRAM)),
         auto("marks", hostile::marks(PROGRAM)),
-        auto("CR for line ends", hostile::carriage_returns(PROGRAM)),
-        list("list, tokens", &[0x99, 0x20, 0xB2]),
-        list("list, codes in braces", &[0x01, 0x9B, 0x22, 0xF0]),
-        list("list, letters", b"HELLO "),
-    ]
-}
-
-/// Texts that no author writes and that no bar stands for: on some of them the
-/// original is faster. Shown, and not part of the verdict.
-pub fn further() -> Vec<Subject> {
-    let of = crunch;
-    vec![
-        of(
+        auto(
             "escapes without a known name",
             hostile::unknown_escapes(PROGRAM),
-            Dialect::Auto,
         ),
-        of(
+        auto(
             "the last escape of the list",
             hostile::late_escapes(PROGRAM),
-            Dialect::Auto,
         ),
-        of(
+        crunch(
             "words cut short, BasicV2",
             hostile::nearly_words(PROGRAM),
             Dialect::BasicV2,
         ),
-        of(
+        crunch(
             "words cut short, Tsb",
             hostile::nearly_words(PROGRAM),
             Dialect::Tsb,
         ),
+        auto("CR for line ends", hostile::carriage_returns(PROGRAM)),
+        list("list, tokens", &[0x99, 0x20, 0xB2]),
+        list("list, codes in braces", &[0x01, 0x9B, 0x22, 0xF0]),
+        list("list, letters", b"HELLO "),
         list("list, TSB words", &[0x64, 0x01, 0x64, 0x76]),
     ]
 }
@@ -121,7 +111,42 @@ pub fn growing() -> Vec<Growing> {
         of(
             "string of { and one }",
             |size| auto(hostile::closed_braces(size)),
-            4_000,
+            20_000,
+        ),
+        of(
+            "string of { and one }, to a megabyte",
+            |size| auto(hostile::closed_braces(size)),
+            MEGABYTE / 2,
+        ),
+        of(
+            "string of { and 5}",
+            |size| auto(hostile::digit_braces(size)),
+            20_000,
+        ),
+        of(
+            "string of { and 5}, to a megabyte",
+            |size| auto(hostile::digit_braces(size)),
+            MEGABYTE / 2,
+        ),
+        of(
+            "{ and as many spaces, then }",
+            |size| auto(hostile::spaced_braces(size)),
+            20_000,
+        ),
+        of(
+            "{ and as many spaces, then }, to a megabyte",
+            |size| auto(hostile::spaced_braces(size)),
+            MEGABYTE / 2,
+        ),
+        of(
+            "{, * and as many zeros, then 1}",
+            |size| auto(hostile::counted_braces(size)),
+            20_000,
+        ),
+        of(
+            "{, * and as many zeros, then 1}, to a megabyte",
+            |size| auto(hostile::counted_braces(size)),
+            MEGABYTE / 2,
         ),
         of(
             "MAP( in MAP(",
