@@ -1,10 +1,13 @@
-/* Crunches two lines, reads the image by its links, lists it, saves it on a disk, and says why there is no room for it elsewhere. */
+/* Crunches two lines, reads the image by its links, lists it, saves it on a disk, says why there is no room for it elsewhere, and
+ * crunches and lists a line for a Plus/4. */
 #include "moldthatch.h"
 
 #include <stdio.h>
 #include <string.h>
 
 static const char text[] = "10 PRINT \"Hi{0}\"\n20 GOTO 10\n";
+
+static const char plus4[] = "10 do:loop until a\n";
 
 /* Writes why there is no result. */
 static void tell(moldthatch_code refusal)
@@ -50,5 +53,10 @@ int main(void)
     moldthatch_code short_of_room =
         moldthatch_crunch((const uint8_t *)text, sizeof text - 1, 0x0801, MOLDTHATCH_AUTO, image, 8);
     tell(short_of_room);
+
+    moldthatch_code own =
+        moldthatch_crunch((const uint8_t *)plus4, sizeof plus4 - 1, 0x1001, MOLDTHATCH_BASIC35, image, sizeof image);
+    moldthatch_code words = moldthatch_list_under(image, own.first, MOLDTHATCH_BASIC35, listing, sizeof listing);
+    fwrite(listing, 1, words.first, stdout);
     return 0;
 }

@@ -64,7 +64,7 @@ enum {
 /* The bytes of a disk image. */
 enum { MOLDTHATCH_DISK_LENGTH = 174848 };
 
-enum { MOLDTHATCH_AUTO = 0, MOLDTHATCH_BASIC_V2 = 1, MOLDTHATCH_TSB = 2 };
+enum { MOLDTHATCH_AUTO = 0, MOLDTHATCH_BASIC_V2 = 1, MOLDTHATCH_TSB = 2, MOLDTHATCH_BASIC35 = 3 };
 
 /* Crunches a text to an image at the start of out: its length. A refusal changes
  * no byte of out, a result only its own. */
@@ -79,6 +79,12 @@ moldthatch_code moldthatch_list(const uint8_t *image, size_t image_length, uint8
 
 /* The room that the listing of an image needs. */
 moldthatch_code moldthatch_list_room(const uint8_t *image, size_t image_length);
+
+/* The same under a dialect. MOLDTHATCH_BASIC35 lists the words of BASIC 3.5 and knows
+ * no TSB words; the other three list as moldthatch_list does. */
+moldthatch_code moldthatch_list_under(const uint8_t *image, size_t image_length, uint8_t dialect,
+                                      uint8_t *out, size_t out_length);
+moldthatch_code moldthatch_list_under_room(const uint8_t *image, size_t image_length, uint8_t dialect);
 
 /* Reads a whole image by its links: its load address and its line count. */
 moldthatch_code moldthatch_check(const uint8_t *image, size_t image_length);

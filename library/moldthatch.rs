@@ -22,6 +22,8 @@ pub enum Dialect {
     Auto,
     BasicV2,
     Tsb,
+    /// The BASIC of the Plus/4, whose programs load at 0x1001.
+    Basic35,
 }
 
 /// Why a call gives no result: a refusal, with what it carries. As text it is a sentence for a person.
@@ -228,6 +230,34 @@ pub fn list_room(image: &[u8]) -> Result<usize, Refusal> {
 pub fn listed(image: &[u8]) -> Result<Vec<u8>, Refusal> {
     let mut out = vec![0; list_room(image)?];
     list(image, &mut out)?;
+    Ok(out)
+}
+
+/// Lists an image under a dialect into the start of a buffer, and answers the listing's length.
+/// Under Basic35 its words are listed; under the others this is `list`.
+pub fn list_under(image: &[u8], dialect: Dialect, out: &mut [u8]) -> Result<usize, Refusal> {
+    // SAFETY: as above.
+    length(unsafe {
+        ffi::moldthatch_list_under(
+            image.as_ptr(),
+            image.len(),
+            dialect as u8,
+            out.as_mut_ptr(),
+            out.len(),
+        )
+    })
+}
+
+/// The room that the listing of an image under a dialect needs.
+pub fn list_under_room(image: &[u8], dialect: Dialect) -> Result<usize, Refusal> {
+    // SAFETY: as above.
+    length(unsafe { ffi::moldthatch_list_under_room(image.as_ptr(), image.len(), dialect as u8) })
+}
+
+/// The listing of an image under a dialect.
+pub fn listed_under(image: &[u8], dialect: Dialect) -> Result<Vec<u8>, Refusal> {
+    let mut out = vec![0; list_under_room(image, dialect)?];
+    list_under(image, dialect, &mut out)?;
     Ok(out)
 }
 
@@ -535,6 +565,18 @@ mod ffi {
             out_length: usize,
         ) -> Code;
         pub fn moldthatch_list_room(image: *const u8, image_length: usize) -> Code;
+        pub fn moldthatch_list_under(
+            image: *const u8,
+            image_length: usize,
+            dialect: u8,
+            out: *mut u8,
+            out_length: usize,
+        ) -> Code;
+        pub fn moldthatch_list_under_room(
+            image: *const u8,
+            image_length: usize,
+            dialect: u8,
+        ) -> Code;
         pub fn moldthatch_check(image: *const u8, image_length: usize) -> Code;
         pub fn moldthatch_index(
             image: *const u8,

@@ -71,6 +71,7 @@ fn named(dialect: Dialect) -> tokens::Dialect {
         Dialect::Auto => tokens::Dialect::Auto,
         Dialect::BasicV2 => tokens::Dialect::BasicV2,
         Dialect::Tsb => tokens::Dialect::Tsb,
+        Dialect::Basic35 => unreachable!("the original has no BASIC 3.5"),
     }
 }
 

@@ -4,8 +4,8 @@
 -- Assumes nothing.
 use Prim.Native.Nat.{ℕ, suc, _≤_, _<_}
 use mathlib.Core.Path.{_≡_, refl, sym, ap, _∙_}
-use mathlib.Core.Bool.{Bool, true, false, not, _&&_, false≢true, true≢false}
-use mathlib.Core.List.{List, [], _∷_}
+use mathlib.Core.Bool.{Bool, true, false, not, cond, _&&_, false≢true, true≢false}
+use mathlib.Core.List.{List, [], _∷_, _++_}
 use native.Mathlib.Omega.{arith}
 use lib.Dec.{T, eqb}
 use lib.ListN.{length}
@@ -19,12 +19,13 @@ use Rattle.words.proofs.Search.{and-left, and-right}
 use Rattle.words.proofs.Sameness.{T-true}
 use Rattle.tables.specs.Rom.{v2Words, operators as operatorWords}
 use Rattle.tables.specs.Tsb.{tsbWords}
-use Rattle.tables.specs.Sets.{isDemoted, isLive, liveWord}
+use Rattle.tables.specs.Basic35.{basic35Words}
+use Rattle.tables.specs.Sets.{isDemoted, isLive, liveWord, plainWords, plainWord}
 use Rattle.tables.specs.declared.sets.Sets.{Sets}
 use Rattle.body.specs.Lexicon.{Lexicon, lexicon}
 use Rattle.body.specs.Steps.{first}
 
--- ---- the rule of a lexicon: each TSB and each V2 word begins with a letter, and no operator does
+-- ---- the rule of a lexicon: each TSB word, each V2 word and each of BASIC 3.5 begins with a letter, and no operator does
 
 -- a word that begins with a letter, or one that begins with another byte
 unfoldable pub startsAs : Bool → List ℕ → Bool
@@ -37,7 +38,7 @@ allStart r [] = true
 allStart r (e ∷ es) = startsAs r (e .word) && allStart r es
 
 unfoldable pub proper : Lexicon → Bool
-proper l = allStart true (l .tsb) && (allStart true (l .v2) && allStart false (l .operators))
+proper l = allStart true (l .tsb) && (allStart true (l .v2) && (allStart true (l .basic35) && allStart false (l .operators)))
 
 -- ---- a word at the front of a text
 
@@ -148,21 +149,48 @@ module _ (r : Bool) (es : List Entry) (a : T (allStart r es)) (t : List ℕ) whe
         go (Word j v c) q = let z : _≡_ {A = ℕ} 0 1 = cc in absurd (omega arith)
         go Nothing q = among-takes (isLive s) q
 
--- ---- document 01's lists
+-- ---- the documents' lists
 
 pub document-proper : (s : Sets) → T (proper (lexicon s))
-unfolding proper allStart startsAs tsbWords v2Words operatorWords upper between
+unfolding proper allStart startsAs tsbWords v2Words basic35Words operatorWords upper between
 document-proper s = tt
+
+start-both : (r : Bool) (xs ys : List Entry) → T (allStart r xs) → T (allStart r ys) → T (allStart r (xs ++ ys))
+unfolding allStart
+start-both r [] ys g h = h
+start-both r (e ∷ xs) ys g h = both-true (startsAs r (e .word)) _ (and-left (startsAs r (e .word)) _ g) (start-both r xs ys (and-right (startsAs r (e .word)) _ g) h)
+  where
+    both-true : (a b : Bool) → T a → T b → T (a && b)
+    both-true true b x y = y
+    both-true false b x y = absurd x
 
 module _ (l : Lexicon) (g : T (proper l)) where
   pub tsb-start : T (allStart true (l .tsb))
   unfolding proper
   tsb-start = and-left (allStart true (l .tsb)) _ g
 
-  pub v2-start : T (allStart true (l .v2))
+  others-start : T (allStart true (l .v2) && (allStart true (l .basic35) && allStart false (l .operators)))
   unfolding proper
-  v2-start = and-left (allStart true (l .v2)) _ (and-right (allStart true (l .tsb)) _ g)
+  others-start = and-right (allStart true (l .tsb)) _ g
+
+  plain-start : T (allStart true (plainWords (l .sets) (l .v2) (l .basic35)))
+  plain-start = go (l .sets .basic35)
+    where
+      v2 : T (allStart true (l .v2))
+      v2 = and-left (allStart true (l .v2)) _ others-start
+
+      go : (own : Bool) → T (allStart true (cond own (l .v2 ++ l .basic35) (l .v2)))
+      go true = start-both true (l .v2) (l .basic35) v2 (and-left (allStart true (l .basic35)) _ (and-right (allStart true (l .v2)) _ others-start))
+      go false = v2
 
   pub operators-start : T (allStart false (l .operators))
-  unfolding proper
-  operators-start = and-right (allStart true (l .v2)) _ (and-right (allStart true (l .tsb)) _ g)
+  operators-start = and-right (allStart true (l .basic35)) _ (and-right (allStart true (l .v2)) _ others-start)
+
+  module _ (t : List ℕ) where
+    pub plain-word-none : isLetter (first t) ≡ false → plainWord (l .sets) (l .v2) (l .basic35) t ≡ Nothing
+    unfolding plainWord
+    plain-word-none n = word-none true (plainWords (l .sets) (l .v2) (l .basic35)) plain-start t n
+
+    pub plain-word-takes : {i u token : ℕ} → plainWord (l .sets) (l .v2) (l .basic35) t ≡ Word i u token → Takes t u
+    unfolding plainWord
+    plain-word-takes e = word-takes true (plainWords (l .sets) (l .v2) (l .basic35)) plain-start t e

@@ -19,7 +19,7 @@ use Rattle.words.specs.declared.Match.{Match}
 use Rattle.words.specs.declared.Match.the-variants.{Word, Nothing}
 use Rattle.words.proofs.Search.{and-left, and-right}
 use Rattle.tables.specs.Tsb.{tsbWords}
-use Rattle.tables.specs.Sets.{isDemoted, isLive, liveWord}
+use Rattle.tables.specs.Sets.{isDemoted, isLive, liveWord, plainWord}
 use Rattle.tables.specs.declared.sets.Sets.{Sets}
 use Rattle.escapes.specs.Escape.{escapeOf}
 use Rattle.escapes.specs.declared.Escape.{Escape}
@@ -32,7 +32,7 @@ use Rattle.body.specs.Steps.{first, one, token, opened, otherStep, plain
 use Rattle.body.specs.declared.moves.Mode.{Mode}
 use Rattle.body.specs.declared.moves.Mode.the-variants.{Plain, String, Remark, Data, DataQuote}
 use Rattle.body.specs.declared.moves.Move.{Move}
-use Rattle.body.proofs.Beginnings.{Takes, document-proper, word-takes, v2-start, operators-start}
+use Rattle.body.proofs.Beginnings.{Takes, document-proper, word-takes, plain-word-takes, operators-start}
 use Rattle.body.proofs.Progress.{step-takes}
 use Rattle.body.proofs.Run.{length-written, body-end, body-step}
 
@@ -103,8 +103,8 @@ module _ (s : Sets) (t : List ℕ) where
   plain-narrow =
       by-test (eqb (first t) 0x22) (one 0x22 String) _ (one-narrow _ _) (
       by-match (liveWord s tsbWords t) (λ u k. token true k Plain u) _ (λ i u k e. tsb-narrow k u (live-long s t e)) (
-      by-match (wordIn (lexicon s .v2) t) (λ u k. token false k (opened k) u) _
-      (λ i u k e. token-narrow k u (opened k) (word-takes true _ (v2-start (lexicon s) (document-proper s)) t e)) (
+      by-match (plainWord s (lexicon s .v2) (lexicon s .basic35) t) (λ u k. token false k (opened k) u) _
+      (λ i u k e. token-narrow k u (opened k) (plain-word-takes (lexicon s) (document-proper s) t e)) (
       by-match (wordIn (lexicon s .operators) t) (λ u k. token false k Plain u) (otherStep t)
       (λ i u k e. token-narrow k u Plain (word-takes false _ (operators-start (lexicon s) (document-proper s)) t e)) (other-narrow t))))
 

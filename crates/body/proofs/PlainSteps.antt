@@ -12,13 +12,13 @@ use Rattle.ascii.specs.Bytes.{upper, between, isLetter}
 use Rattle.words.specs.Find.{wordIn}
 use Rattle.words.specs.declared.Match.{Match}
 use Rattle.words.specs.declared.Match.the-variants.{Word, Nothing}
-use Rattle.tables.specs.Sets.{liveWord}
+use Rattle.tables.specs.Sets.{liveWord, plainWord}
 use Rattle.body.specs.Lexicon.{Lexicon}
 use Rattle.body.specs.Steps.{first, one, token, opened, otherStep, plainStep}
 use Rattle.body.specs.declared.moves.Mode.{Mode}
 use Rattle.body.specs.declared.moves.Mode.the-variants.{Plain, String, Remark, Data}
 use Rattle.body.specs.declared.moves.Move.{Move}
-use Rattle.body.proofs.Beginnings.{proper, word-none, live-none, tsb-start, v2-start, operators-start}
+use Rattle.body.proofs.Beginnings.{proper, word-none, live-none, tsb-start, plain-word-none, operators-start}
 
 -- ---- a byte that begins no word
 
@@ -40,7 +40,7 @@ module _ (t : List ℕ) {r : Move} where
   unfolding otherStep
   other-raised q b e f = rw (otherStep, ne-eqb _ _ e, ne-eqb _ _ f, ← b) q
 
--- ---- the mode behind a V2 word
+-- ---- the mode behind a word
 
 module _ {k : ℕ} where
   pub opened-remark : k ≡ 0x8F → Remark ≡ opened k
@@ -76,18 +76,18 @@ module _ (l : Lexicon) (t : List ℕ) {r : Move} where
   unfolding plainStep
   plain-quote q e = rw (plainStep, eq-eqb _ _ e) (q ∙ ap (λ (b : ℕ). one b String) e)
 
-  -- a letter: m is the live TSB word there, v the V2 word
+  -- a letter: m is the live TSB word there, v the V2 word or that of BASIC 3.5
   module _ {m : Match} where
     pub letter-tsb : {i u k : ℕ} → r ≡ token true k Plain u → m ≡ Word i u k → m ≡ liveWord (l .sets) (l .tsb) t → isLetter (first t) ≡ true → r ≡ plainStep l t
     unfolding plainStep
     letter-tsb q e p a = rw (plainStep, letter-no-quote _ a, sym p ∙ e) q
 
-    pub letter-v2 : {v : Match} {i u k : ℕ} {behind : Mode} → r ≡ token false k behind u → behind ≡ opened k → v ≡ Word i u k → v ≡ wordIn (l .v2) t
+    pub letter-plain : {v : Match} {i u k : ℕ} {behind : Mode} → r ≡ token false k behind u → behind ≡ opened k → v ≡ Word i u k → v ≡ plainWord (l .sets) (l .v2) (l .basic35) t
         → m ≡ Nothing → m ≡ liveWord (l .sets) (l .tsb) t → isLetter (first t) ≡ true → r ≡ plainStep l t
     unfolding plainStep
-    letter-v2 q o e p n live a = rw (plainStep, letter-no-quote _ a, sym live ∙ n, sym p ∙ e, ← o) q
+    letter-plain q o e p n live a = rw (plainStep, letter-no-quote _ a, sym live ∙ n, sym p ∙ e, ← o) q
 
-    pub letter-other : {v : Match} {b : ℕ} → r ≡ one b Plain → b ≡ upper (first t) → v ≡ Nothing → v ≡ wordIn (l .v2) t → m ≡ Nothing → m ≡ liveWord (l .sets) (l .tsb) t → isLetter (first t) ≡ true
+    pub letter-other : {v : Match} {b : ℕ} → r ≡ one b Plain → b ≡ upper (first t) → v ≡ Nothing → v ≡ plainWord (l .sets) (l .v2) (l .basic35) t → m ≡ Nothing → m ≡ liveWord (l .sets) (l .tsb) t → isLetter (first t) ≡ true
         → T (proper l) → r ≡ plainStep l t
     unfolding plainStep
     letter-other q u e p n live a g =
@@ -99,10 +99,10 @@ module _ (l : Lexicon) (t : List ℕ) {r : Move} where
         → (first t ≡ 0x22 → ⊥) → T (proper l) → r ≡ plainStep l t
     unfolding plainStep
     other-operator q e p n i s g =
-        rw (plainStep, ne-eqb _ _ s, no-tsb l t g (sym i ∙ n), word-none true (l .v2) (v2-start l g) t (sym i ∙ n), sym p ∙ e) q
+        rw (plainStep, ne-eqb _ _ s, no-tsb l t g (sym i ∙ n), plain-word-none l g t (sym i ∙ n), sym p ∙ e) q
 
     pub other-none : r ≡ otherStep t → w ≡ Nothing → w ≡ wordIn (l .operators) t → x ≡ false → x ≡ isLetter (first t)
         → (first t ≡ 0x22 → ⊥) → T (proper l) → r ≡ plainStep l t
     unfolding plainStep
     other-none q e p n i s g =
-        rw (plainStep, ne-eqb _ _ s, no-tsb l t g (sym i ∙ n), word-none true (l .v2) (v2-start l g) t (sym i ∙ n), sym p ∙ e) q
+        rw (plainStep, ne-eqb _ _ s, no-tsb l t g (sym i ∙ n), plain-word-none l g t (sym i ∙ n), sym p ∙ e) q

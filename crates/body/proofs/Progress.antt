@@ -17,13 +17,13 @@ use Rattle.escapes.specs.Escape.{escapeOf}
 use Rattle.ascii.specs.Search.{equals, before}
 use Rattle.escapes.specs.declared.Escape.{Escape}
 use Rattle.escapes.specs.declared.Escape.the-variants.{Byte, Unknown}
-use Rattle.tables.specs.Sets.{liveWord}
+use Rattle.tables.specs.Sets.{liveWord, plainWord}
 use Rattle.body.specs.Lexicon.{Lexicon}
 use Rattle.body.specs.Steps.{first, one, token, opened, otherStep, plainStep, lettered, stringByte, escaped, braced, stringStep, dataStep, dataQuoteStep, crunchStep}
 use Rattle.body.specs.declared.moves.Mode.{Mode}
 use Rattle.body.specs.declared.moves.Mode.the-variants.{Plain, String, Remark, Data, DataQuote}
 use Rattle.body.specs.declared.moves.Move.{Move}
-use Rattle.body.proofs.Beginnings.{proper, Takes, word-takes, live-takes, tsb-start, v2-start, operators-start}
+use Rattle.body.proofs.Beginnings.{proper, Takes, word-takes, live-takes, tsb-start, plain-word-takes, operators-start}
 
 -- the move takes text
 abbrev Moves : List ℕ → Move → Type 0
@@ -67,7 +67,7 @@ module _ (t : List ℕ) (h : 0 < length t) where
     plain-takes =
         by-test t (eqb (first t) 0x22) (one 0x22 String) _ (λ _. one-takes) (λ _.
         by-match t (liveWord (l .sets) (l .tsb) t) (λ u k. token true k Plain u) _ (λ i u k e. live-takes true (l .tsb) (tsb-start l g) t (l .sets) e) (λ _.
-        by-match t (wordIn (l .v2) t) (λ u k. token false k (opened k) u) _ (λ i u k e. word-takes true (l .v2) (v2-start l g) t e) (λ _.
+        by-match t (plainWord (l .sets) (l .v2) (l .basic35) t) (λ u k. token false k (opened k) u) _ (λ i u k e. plain-word-takes l g t e) (λ _.
         by-match t (wordIn (l .operators) t) (λ u k. token false k Plain u) (otherStep t)
         (λ i u k e. word-takes false (l .operators) (operators-start l g) t e) (λ _. other-takes))))
 

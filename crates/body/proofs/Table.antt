@@ -14,7 +14,8 @@ use Rattle.words.specs.Spelling.{bytesOf}
 use Rattle.tables.specs.Escapes.{escapeNames}
 use Rattle.keyboard.specs.KeyCodes.{cbmLetters, ctrlDigits}
 use Rattle.tables.specs.Rom.{v2Words, operators}
-use Rattle.tables.specs.Sets.{liveWord}
+use Rattle.tables.specs.Sets.{liveWord, plainWord}
+use Rattle.tables.specs.Basic35.{basic35Words}
 use Rattle.tables.specs.Tsb.{tsbWords}
 use Rattle.escapes.specs.Numbers.{digitOf, numberAfter, numberOf, hexOf, unsigned, countOf}
 use Rattle.escapes.specs.Keys.{keyNames, controlByte, keyWith, keyed, keyEscape}
@@ -24,11 +25,15 @@ use Rattle.body.specs.Lexicon.{Lexicon, lexicon}
 
 -- no TSB word is live
 abbrev pub v2Lexicon : Lexicon
-v2Lexicon = lexicon (record { tsb = false; demoted = [] })
+v2Lexicon = lexicon (record { tsb = false; demoted = []; basic35 = false })
 
 -- every TSB word is live but one, which is demoted
 abbrev pub allBut : List ℕ → Lexicon
-allBut w = lexicon (record { tsb = true; demoted = map (λ e. same w (e .word)) tsbWords })
+allBut w = lexicon (record { tsb = true; demoted = map (λ e. same w (e .word)) tsbWords; basic35 = false })
+
+-- the words of BASIC 3.5, and no TSB word
+abbrev pub basic35Lexicon : Lexicon
+basic35Lexicon = lexicon (record { tsb = false; demoted = []; basic35 = true })
 
 infix 60 _gives_
 abbrev pub _gives_ : String → List ℕ → Type 0
@@ -64,5 +69,10 @@ pub body-table :
     ≡ 0x44 ∷ 0x49 ∷ 0x52 ∷ 0xB2 ∷ 0x35 ∷ 0x3A ∷ 0x64 ∷ 0x01 ∷ 0x20 ∷ 0x30 ∷ 0x2C ∷ 0x31 ∷ [])
     × (crunchedBody (allBut (bytesOf "DO")) (bytesOf "downb:dir") ≡ 0x44 ∷ 0x4F ∷ 0x57 ∷ 0x4E ∷ 0x42 ∷ 0x3A ∷ 0x64 ∷ 0x4A ∷ [])
     × (crunchedBody (allBut []) (bytesOf "do:downb:on key") ≡ 0x64 ∷ 0x22 ∷ 0x3A ∷ 0x64 ∷ 0x15 ∷ 0x3A ∷ 0x64 ∷ 0x37 ∷ [])
-unfolding crunchedFrom liveWord v2Words operators tsbWords nameIn meaning escapeOf countedName starred repeated nameEscape keyEscape keyed keyWith controlByte keyNames countOf unsigned hexOf numberOf numberAfter digitOf escapeNames cbmLetters ctrlDigits last before trim upper between same
-body-table = (refl, refl, refl, refl, refl, refl, refl, refl, refl, refl, refl, refl, refl, refl, refl, refl, refl, refl, refl, refl, refl, refl)
+    -- document 02, No. 5: the words of BASIC 3.5 beside those of V2, and END LOOP and HIRES are no words
+    × (crunchedBody basic35Lexicon (bytesOf "do:end loop") ≡ 0xEB ∷ 0x3A ∷ 0x80 ∷ 0x20 ∷ 0xEC ∷ [])
+    × (crunchedBody basic35Lexicon (bytesOf "hires:rem do") ≡ 0x48 ∷ 0x49 ∷ 0x52 ∷ 0x45 ∷ 0x53 ∷ 0x3A ∷ 0x8F ∷ 0x20 ∷ 0x64 ∷ 0x6F ∷ [])
+    × (crunchedBody basic35Lexicon (bytesOf "?hex$(\"do\")") ≡ 0x99 ∷ 0xD2 ∷ 0x28 ∷ 0x22 ∷ 0x44 ∷ 0x4F ∷ 0x22 ∷ 0x29 ∷ [])
+    × ("do" gives 0x44 ∷ 0x4F ∷ [])
+unfolding crunchedFrom liveWord plainWord v2Words basic35Words operators tsbWords nameIn meaning escapeOf countedName starred repeated nameEscape keyEscape keyed keyWith controlByte keyNames countOf unsigned hexOf numberOf numberAfter digitOf escapeNames cbmLetters ctrlDigits last before trim upper between same
+body-table = (refl, refl, refl, refl, refl, refl, refl, refl, refl, refl, refl, refl, refl, refl, refl, refl, refl, refl, refl, refl, refl, refl, refl, refl, refl, refl)

@@ -1,4 +1,4 @@
--- One step of crunching a body: what the front of the text left gives in each mode (document 01, "Crunching one body").
+-- One step of crunching a body: what the front of the text left gives in each mode (document 01, "Crunching one body"; document 02, No. 5).
 -- Assumes nothing.
 use Prim.Native.Nat.{ℕ, _+_, _-_}
 use mathlib.Core.Bool.{Bool, true, false, cond, _&&_}
@@ -12,7 +12,7 @@ use Rattle.escapes.specs.Escape.{escapeOf}
 use Rattle.ascii.specs.Search.{equals, before}
 use Rattle.escapes.specs.declared.Escape.{Escape}
 use Rattle.escapes.specs.declared.Escape.the-variants.{Byte, Unknown}
-use Rattle.tables.specs.Sets.{liveWord}
+use Rattle.tables.specs.Sets.{liveWord, plainWord}
 use Rattle.body.specs.Lexicon.{Lexicon}
 use Rattle.body.specs.declared.moves.Mode.{Mode}
 use Rattle.body.specs.declared.moves.Mode.the-variants.{Plain, String, Remark, Data, DataQuote}
@@ -32,7 +32,7 @@ token prefixed k m used = record { prefixed = prefixed; byte = k; count = 1; mod
 
 -- ---- plain
 
--- the mode behind a V2 word: 8F opens remark, 83 data
+-- the mode behind a word: 8F opens remark, 83 data
 unfoldable pub opened : ℕ → Mode
 opened k = cond (eqb k 0x8F) Remark (cond (eqb k 0x83) Data Plain)
 
@@ -45,15 +45,15 @@ otherStep t =
       | false ↦ elim (eqb (first t) 0x3F) [ true ↦ one 0x99 Plain | false ↦ one (upper (first t)) Plain ]
     ]
 
--- first that applies: a quote, a live TSB word, a V2 word, an operator, another byte
+-- first that applies: a quote, a live TSB word, a V2 word or one of BASIC 3.5, an operator, another byte
 unfoldable pub plainStep : Lexicon → List ℕ → Move
-unfolding liveWord wordIn opened otherStep
+unfolding liveWord plainWord wordIn opened otherStep
 plainStep l t =
     elim (eqb (first t) 0x22) [
       | true ↦ one 0x22 String
       | false ↦ elim (liveWord (l .sets) (l .tsb) t) [
         | Word i u k ↦ token true k Plain u
-        | Nothing ↦ elim (wordIn (l .v2) t) [
+        | Nothing ↦ elim (plainWord (l .sets) (l .v2) (l .basic35) t) [
           | Word i u k ↦ token false k (opened k) u
           | Nothing ↦ elim (wordIn (l .operators) t) [ Word i u k ↦ token false k Plain u | Nothing ↦ otherStep t ]
         ]

@@ -14,7 +14,7 @@ ghost use Rattle.tables.specs.WordsHelpers.{SpellsWords};
 ghost use Rattle.body.specs.Lexicon.{lexicon};
 ghost use Rattle.body.specs.Steps.{first, opened as openedBy, otherStep, plainStep};
 
-// A letter: a TSB word, a V2 word, or the letter.
+// A letter: a TSB word, a V2 word or one of BASIC 3.5, or the letter.
 pub fn letter_step(rest: &[u8], bytes: &[u8], index: &[u16], sets: Sets) -> Move
     requires { ⌜ (0 < length (now rest)) × (isLetter (first (now rest)) ≡ true) × SpellsWords (now bytes) (now index) ⌝ }
     ensures { λ r. ⌜ r ≡ plainStep (lexicon sets) (now (rest .entry)) ⌝ }
@@ -25,7 +25,7 @@ pub fn letter_step(rest: &[u8], bytes: &[u8], index: &[u16], sets: Sets) -> Move
             used,
             token,
         } => moves::token(true, token, Mode::Plain, used),
-        Match::Nothing => match matching::match_v2(rest, bytes, index) {
+        Match::Nothing => match matching::match_plain(rest, bytes, index, sets) {
             Match::Word {
                 index: _,
                 used,
@@ -36,7 +36,7 @@ pub fn letter_step(rest: &[u8], bytes: &[u8], index: &[u16], sets: Sets) -> Move
     }
 }
 
-// The mode behind a V2 word.
+// The mode behind a word.
 fn opened(token: u8) -> Mode
     ensures { λ r. ⌜ r ≡ openedBy token ⌝ }
 {

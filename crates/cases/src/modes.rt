@@ -1,4 +1,4 @@
-// Ops 16, 17, 30 and 31: the listing under options.
+// Ops 14 to 17, 30 and 31: the listing under options.
 use crate::frames;
 use crate::rooms;
 use dialect::Named;
@@ -10,6 +10,25 @@ use readers::By;
 enum Asked {
     Under(ListOptions),
     Unknown,
+}
+
+// Under a dialect, in the old mode.
+pub fn list_under(payload: &[u8], room: &mut [u8]) -> bool {
+    if payload.len() < 5 {
+        return Answer::malformed().send();
+    }
+    list_asked(
+        asked_for(payload[0], 0, By::Terminators),
+        &payload[1..],
+        room,
+    )
+}
+
+pub fn room_under(payload: &[u8]) -> bool {
+    if payload.len() < 1 {
+        return Answer::malformed().send();
+    }
+    send_room(asked_for(payload[0], 0, By::Terminators), &payload[1..])
 }
 
 // The second mode.

@@ -30,7 +30,7 @@ use Rattle.units.specs.declared.Mode.the-variants.{Plain}
 use Rattle.units.specs.declared.Rules.{Rules}
 use Rattle.units.specs.declared.Taken.{Taken}
 use Rattle.units.specs.declared.Unit.{Unit}
-use Rattle.units.specs.declared.Unit.the-variants.{Char, Token, Pair, Lone, Remarked}
+use Rattle.units.specs.declared.Unit.the-variants.{Char, Token, Token35, Pair, Lone, Remarked}
 use Rattle.units.specs.Units.{unitAt, unitsFrom}
 use Rattle.units.proofs.Walking.{unit-takes, units-none, units-more, by-units, units-end, units-at, unit-some, unit-within}
 use Rattle.counting.specs.Tokens.{countRules, ifWord, countedAs, tokensOf, tokensFrom, tokensIn}
@@ -52,6 +52,7 @@ unit-one (Token b) = go (ltb b 0xCC)
     go : (t : Bool) → length (cond t (b ∷ []) []) ≤ 1
     go true = omega arith
     go false = omega arith
+unit-one (Token35 b) = omega arith
 unit-one (Pair b) = word-one (tsbText b) (tsbId b)
 unit-one Lone = omega arith
 unit-one (Remarked b) = omega arith

@@ -17,7 +17,7 @@ use borrow.Author.Tests.{lt-ltb, le-ltb, ltb-true, ltb-false}
 use Rattle.tables.specs.Tsb.{tsbId, tsbText}
 use Rattle.pieces.proofs.Spelling.{no-word}
 use Rattle.units.specs.declared.Unit.{Unit}
-use Rattle.units.specs.declared.Unit.the-variants.{Char, Token, Pair, Lone, Remarked}
+use Rattle.units.specs.declared.Unit.the-variants.{Char, Token, Token35, Pair, Lone, Remarked}
 use Rattle.counting.specs.Tokens.{ifWord, countedAs}
 use Rattle.counting.specs.Totals.{tally, added, sumBelow, tokensSum}
 use Rattle.counting.specs.TallyHelpers.{only, Raisable, Small}
@@ -67,6 +67,10 @@ module _ {u : Unit} where
   pub token-itself : {b : ℕ} → u ≡ Token b → only b ≡ countedAs u
   unfolding only countedAs
   token-itself is = rw is
+
+  pub token35-none : {b : ℕ} → u ≡ Token35 b → only 0xFF ≡ countedAs u
+  unfolding only countedAs
+  token35-none is = rw is
 
   pub lone-none : u ≡ Lone → only 0xFF ≡ countedAs u
   unfolding only countedAs

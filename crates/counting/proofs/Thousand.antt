@@ -23,7 +23,7 @@ use Rattle.readers.proofs.Steps.{by-sound}
 use Rattle.tables.specs.Tsb.{tsbId, tsbText}
 use Rattle.pieces.proofs.Spelling.{no-word}
 use Rattle.units.specs.declared.Unit.{Unit}
-use Rattle.units.specs.declared.Unit.the-variants.{Char, Token, Pair, Lone, Remarked}
+use Rattle.units.specs.declared.Unit.the-variants.{Char, Token, Token35, Pair, Lone, Remarked}
 use Rattle.units.specs.Units.{unitsOf}
 use Rattle.counting.specs.Tokens.{countRules, ifWord, countedAs, tokensOf, tokensFrom, tokensIn}
 use Rattle.counting.specs.Totals.{occurrences, tally, imageMarks, totalsOf, added, sumBelow, tokensSum, imagesTaken, imagesRefused}
@@ -49,6 +49,7 @@ module _ (k : ℕ) (h : 0xCC ≤ k) where
       go : (t : Bool) → ltb b 0xCC ≡ t → occurrences k (cond t (b ∷ []) []) ≡ 0
       go true e = other b (ltb-true b 0xCC e)
       go false e = refl
+  unit-low (Token35 b) = refl
   unit-low (Pair b) = go (tsbText b) refl (below-or-not (tsbId b) 0x80)
     where
       go : (w : List ℕ) → tsbText b ≡ w → (tsbId b < 0x80) ⊎ (0x80 ≤ tsbId b) → occurrences k (ifWord w (tsbId b)) ≡ 0

@@ -13,12 +13,12 @@ use Rattle.readers.specs.Readers.{stepBy}
 use Rattle.tables.specs.Tsb.{tsbId, tsbText}
 use Rattle.units.specs.declared.Rules.{Rules}
 use Rattle.units.specs.declared.Unit.{Unit}
-use Rattle.units.specs.declared.Unit.the-variants.{Char, Token, Pair, Lone, Remarked}
+use Rattle.units.specs.declared.Unit.the-variants.{Char, Token, Token35, Pair, Lone, Remarked}
 use Rattle.units.specs.Units.{unitsFrom, unitsOf}
 
 -- 64 is a prefix, a remark runs to the body's end, and DATA is like the rest
 abbrev pub countRules : Rules
-countRules = record { prefix = true; remarks = true; items = false }
+countRules = record { prefix = true; remarks = true; items = false; basic35 = false }
 
 -- a token, if it has a word
 abbrev pub ifWord : List ℕ → ℕ → List ℕ
@@ -30,6 +30,7 @@ unfoldable pub countedAs : Unit → List ℕ
 unfolding tsbText tsbId
 countedAs (Char b) = []
 countedAs (Token b) = cond (ltb b 0xCC) (b ∷ []) []
+countedAs (Token35 b) = []
 countedAs (Pair b) = ifWord (tsbText b) (tsbId b)
 countedAs Lone = []
 countedAs (Remarked b) = []

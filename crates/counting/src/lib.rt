@@ -229,6 +229,7 @@ fn count_rules() -> Rules
         prefix: true,
         remarks: true,
         items: false,
+        basic35: false,
     }
 }
 
@@ -251,6 +252,7 @@ fn token_of(bytes: &[u8], starts: &[u16], unit: Unit) -> u8
     match unit {
         Unit::Char(_) => 0xFF,
         Unit::Token(b) => b,
+        Unit::Token35(_) => 0xFF,
         Unit::Pair(b) => {
             if pieces::tsb_word(bytes, starts, b).len() > 0 {
                 return pieces::tsb_id(b);

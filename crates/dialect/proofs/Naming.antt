@@ -18,12 +18,13 @@ use Rattle.refusals.specs.Answer.{done, refused}
 use Rattle.dialect.specs.declared.Dialect.the-variants.{Auto}
 use Rattle.dialect.specs.Dialects.{byNumber, dialectNames, dialectFound, named}
 
-pub by-other : (n : ℕ) → (n ≡ 0 → ⊥) → (n ≡ 1 → ⊥) → (n ≡ 2 → ⊥) → refused unknownDialect ≡ byNumber n
+pub by-other : (n : ℕ) → (n ≡ 0 → ⊥) → (n ≡ 1 → ⊥) → (n ≡ 2 → ⊥) → (n ≡ 3 → ⊥) → refused unknownDialect ≡ byNumber n
 unfolding byNumber
-by-other zero a b c = absurd (a refl)
-by-other (suc zero) a b c = absurd (b refl)
-by-other (suc (suc zero)) a b c = absurd (c refl)
-by-other (suc (suc (suc n))) a b c = refl
+by-other zero a b c d = absurd (a refl)
+by-other (suc zero) a b c d = absurd (b refl)
+by-other (suc (suc zero)) a b c d = absurd (c refl)
+by-other (suc (suc (suc zero))) a b c d = absurd (d refl)
+by-other (suc (suc (suc (suc n)))) a b c d = refl
 
 module _ (w : List ℕ) where
   pub named-long : 64 < length w → refused unknownDialect ≡ named w
@@ -40,13 +41,13 @@ module _ (w : List ℕ) where
 
   -- a name that is found among those stored, and one that is not
   module _ (b s : List ℕ) {r : ℕ} {n : List ℕ} {a : Bool} where
-    pub named-known : r < 8 → r ≡ firstFrom (passesAt Alike n b s) 0 (8 - 0) → n ≡ trim w → not a ≡ false → a ≡ isAscii w → length w ≤ 64 → T (spellsNames b s 0 dialectNames)
+    pub named-known : r < 9 → r ≡ firstFrom (passesAt Alike n b s) 0 (9 - 0) → n ≡ trim w → not a ≡ false → a ≡ isAscii w → length w ≤ 64 → T (spellsNames b s 0 dialectNames)
         → done (getD (map (λ d. d .means) dialectNames) r Auto) ≡ named w
     unfolding dialectNames
     named-known h f e k g l spelt =
         ap dialectFound (name-means b s n dialectNames spelt f Auto h) ∙ ap (λ (x : List ℕ). dialectFound (meaning dialectNames x)) e ∙ named-found l (sym g ∙ not-false a k)
 
-    pub named-unknown : 8 ≤ r → r ≡ firstFrom (passesAt Alike n b s) 0 (8 - 0) → n ≡ trim w → not a ≡ false → a ≡ isAscii w → length w ≤ 64 → T (spellsNames b s 0 dialectNames)
+    pub named-unknown : 9 ≤ r → r ≡ firstFrom (passesAt Alike n b s) 0 (9 - 0) → n ≡ trim w → not a ≡ false → a ≡ isAscii w → length w ≤ 64 → T (spellsNames b s 0 dialectNames)
         → refused unknownDialect ≡ named w
     unfolding dialectNames
     named-unknown h f e k g l spelt =

@@ -1,8 +1,9 @@
 -- The names of dialects (document 01, "What the build covers": "A word given as a dialect has at most 64 bytes, each below 0x80;
--- a longer word or another byte is 14. Trimmed and without regard to case, ..").
+-- a longer word or another byte is 14. Trimmed and without regard to case, .."), and document 02, No. 5: "a fourth dialect", "14 no longer
+-- covers the word `basic35`", "the default load address 0x1001".
 -- Assumes nothing.
 use Prim.Native.Nat.{ℕ, zero, suc}
-use mathlib.Core.Bool.{cond, _&&_}
+use mathlib.Core.Bool.{Bool, true, false, cond, _&&_}
 use mathlib.Core.List.{List, [], _∷_}
 use mathlib.Core.Option.{Option, none, some}
 use lib.Dec.{leb}
@@ -14,16 +15,17 @@ use Rattle.refusals.specs.Numbers.{unknownDialect}
 use Rattle.refusals.specs.Answer.{Answer, done, refused, numbered}
 use Rattle.words.specs.Spelling.{_means_}
 use Rattle.dialect.specs.declared.Dialect.{Dialect}
-use Rattle.dialect.specs.declared.Dialect.the-variants.{Auto, BasicV2, Tsb}
+use Rattle.dialect.specs.declared.Dialect.the-variants.{Auto, BasicV2, Tsb, Basic35}
 use Rattle.dialect.specs.declared.Named.{Named}
 use Rattle.dialect.specs.declared.Named.the-variants.{Known, Refused}
 
--- the dialect of a number: there are three
+-- the dialect of a number: there are four
 unfoldable pub byNumber : ℕ → Answer Dialect
 byNumber zero = done Auto
 byNumber (suc zero) = done BasicV2
 byNumber (suc (suc zero)) = done Tsb
-byNumber (suc (suc (suc n))) = refused unknownDialect
+byNumber (suc (suc (suc zero))) = done Basic35
+byNumber (suc (suc (suc (suc n)))) = refused unknownDialect
 
 unfoldable pub dialectNames : List (Name Dialect)
 dialectNames =
@@ -35,6 +37,7 @@ dialectNames =
     "tsb" means Tsb ∷
     "simons" means Tsb ∷
     "ext" means Tsb ∷
+    "basic35" means Basic35 ∷
     []
 
 -- a name that is none of these is unknown
@@ -51,3 +54,13 @@ named w = cond (leb (length w) 64 && isAscii w) (dialectFound (meaning dialectNa
 abbrev pub namedAnswer : Named → Answer Dialect
 namedAnswer (Known d) = done d
 namedAnswer (Refused r) = refused (numbered r)
+
+abbrev pub isBasic35 : Dialect → Bool
+isBasic35 Auto = false
+isBasic35 BasicV2 = false
+isBasic35 Tsb = false
+isBasic35 Basic35 = true
+
+-- the load address of a dialect where no other is asked for
+abbrev pub defaultLoad : Dialect → ℕ
+defaultLoad d = cond (isBasic35 d) 0x1001 0x0801

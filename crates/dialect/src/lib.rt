@@ -3,7 +3,7 @@ use refusals::Refusal;
 use words::Section;
 use words::Test;
 ghost use mathlib.Core.Path.{_≡_};
-ghost use Rattle.dialect.specs.Dialects.{byNumber, named, namedAnswer};
+ghost use Rattle.dialect.specs.Dialects.{byNumber, named, namedAnswer, isBasic35, defaultLoad};
 
 pub enum Dialect {
     // Decide by the program.
@@ -12,6 +12,8 @@ pub enum Dialect {
     BasicV2,
     // TSB words are keywords everywhere.
     Tsb,
+    // The BASIC of the Plus/4; TSB words are variables.
+    Basic35,
 }
 
 pub enum Named {
@@ -19,11 +21,11 @@ pub enum Named {
     Refused(Refusal),
 }
 
-const NAME_BYTES: [u8; 39] = *b"AUTOBASIC2BASICV2V2BASIC-V2TSBSIMONSEXT";
+const NAME_BYTES: [u8; 46] = *b"AUTOBASIC2BASICV2V2BASIC-V2TSBSIMONSEXTBASIC35";
 
-const NAME_STARTS: [u16; 9] = [0, 4, 10, 17, 19, 27, 30, 36, 39];
+const NAME_STARTS: [u16; 10] = [0, 4, 10, 17, 19, 27, 30, 36, 39, 46];
 
-const NAME_DIALECTS: [Dialect; 8] = [
+const NAME_DIALECTS: [Dialect; 9] = [
     Dialect::Auto,
     Dialect::BasicV2,
     Dialect::BasicV2,
@@ -32,6 +34,7 @@ const NAME_DIALECTS: [Dialect; 8] = [
     Dialect::Tsb,
     Dialect::Tsb,
     Dialect::Tsb,
+    Dialect::Basic35,
 ];
 
 // The dialect of a number, as callers in other languages give it.
@@ -42,6 +45,7 @@ pub fn dialect_by_number(number: u8) -> Named
         0 => Named::Known(Dialect::Auto),
         1 => Named::Known(Dialect::BasicV2),
         2 => Named::Known(Dialect::Tsb),
+        3 => Named::Known(Dialect::Basic35),
         _ => Named::Refused(Refusal::UnknownDialect),
     }
 }
@@ -62,11 +66,32 @@ pub fn dialect_by_name(word: &[u8]) -> Named
         name,
         &NAME_BYTES,
         &NAME_STARTS,
-        Section { from: 0, to: 8 },
+        Section { from: 0, to: 9 },
         0,
     );
-    if k < 8 {
+    if k < 9 {
         return Named::Known(NAME_DIALECTS[k]);
     }
     Named::Refused(Refusal::UnknownDialect)
+}
+
+pub fn is_basic35(dialect: Dialect) -> bool
+    ensures { λ r. ⌜ r ≡ isBasic35 dialect ⌝ }
+{
+    match dialect {
+        Dialect::Auto => false,
+        Dialect::BasicV2 => false,
+        Dialect::Tsb => false,
+        Dialect::Basic35 => true,
+    }
+}
+
+// The address that programs of a dialect are loaded at where no other is asked for.
+pub fn default_load(dialect: Dialect) -> u16
+    ensures { λ r. ⌜ r ≡ defaultLoad dialect ⌝ }
+{
+    if is_basic35(dialect) {
+        return 0x1001;
+    }
+    0x0801
 }

@@ -1,3 +1,4 @@
+pub mod Basic35
 pub mod Table
 pub mod Texts
 pub mod Tight

@@ -8,8 +8,9 @@ use native.Mathlib.Omega.{arith}
 use lib.ListN.{length, take, drop}
 use Rattle.refusals.specs.Answer.{Answer, done, refused, numbered}
 use Rattle.refusals.specs.declared.Refusal.{Refusal}
+use Rattle.dialect.specs.Dialects.{isBasic35}
 use Rattle.dialect.specs.declared.Dialect.{Dialect}
-use Rattle.dialect.specs.declared.Dialect.the-variants.{Auto, BasicV2, Tsb}
+use Rattle.dialect.specs.declared.Dialect.the-variants.{Auto, BasicV2, Tsb, Basic35}
 use Rattle.lines.specs.Domain.{checkedText, textCheckAnswer}
 use Rattle.lines.specs.SplitHelpers.{lineFrom}
 use Rattle.lines.specs.TextLines.{textLines}
@@ -104,6 +105,10 @@ module _ {d : Dialect} (t : List ℕ) where
   unfolding guessedDialect
   as-tsb e = rw e
 
+  pub as-basic35 : d ≡ Basic35 → Basic35 ≡ guessedDialect d t
+  unfolding guessedDialect
+  as-basic35 e = rw e
+
 module _ (d : Dialect) (t : List ℕ) {c : TextCheck} where
   pub resolved-fine : {r : Dialect} → r ≡ guessedDialect d t → c ≡ Fine → textCheckAnswer c ≡ checkedText t → done r ≡ resolved d t
   unfolding resolved
@@ -115,24 +120,28 @@ module _ (d : Dialect) (t : List ℕ) {c : TextCheck} where
 
 -- ---- the words that are live, and those that are demoted
 
-module _ (t : List ℕ) {d : Dialect} where
-  pub sets-v2 : d ≡ BasicV2 → record { tsb = false; demoted = noneDemoted } ≡ wordSets d t
+module _ (t : List ℕ) {d : Dialect} {own : Bool} (o : own ≡ isBasic35 d) where
+  pub sets-v2 : d ≡ BasicV2 → record { tsb = false; demoted = noneDemoted; basic35 = own } ≡ wordSets d t
   unfolding wordSets
-  sets-v2 e = rw e
+  sets-v2 e = rw (o, e)
 
-  pub sets-tsb : d ≡ Tsb → record { tsb = true; demoted = noneDemoted } ≡ wordSets d t
+  pub sets-tsb : d ≡ Tsb → record { tsb = true; demoted = noneDemoted; basic35 = own } ≡ wordSets d t
   unfolding wordSets
-  sets-tsb e = rw e
+  sets-tsb e = rw (o, e)
+
+  pub sets-basic35 : d ≡ Basic35 → record { tsb = false; demoted = noneDemoted; basic35 = own } ≡ wordSets d t
+  unfolding wordSets
+  sets-basic35 e = rw (o, e)
 
   module _ {x : Bool} where
-    pub sets-quiet : x ≡ false → x ≡ evidence AfterCr t → d ≡ Auto → record { tsb = false; demoted = noneDemoted } ≡ wordSets d t
+    pub sets-quiet : x ≡ false → x ≡ evidence AfterCr t → d ≡ Auto → record { tsb = false; demoted = noneDemoted; basic35 = own } ≡ wordSets d t
     unfolding wordSets
-    sets-quiet f r e = rw e (sym (left _ _ (sym r ∙ f)))
+    sets-quiet f r e = rw (o, e) (sym (left _ _ (sym r ∙ f)))
 
     pub sets-guessed : {m : List Bool} → m ≡ allNames (textLines AfterCr t) noneDemoted → x ≡ true → x ≡ evidence AfterCr t → d ≡ Auto
-        → record { tsb = true; demoted = m } ≡ wordSets d t
+        → record { tsb = true; demoted = m; basic35 = own } ≡ wordSets d t
     unfolding wordSets names
-    sets-guessed q f r e = rw e (ap (λ (s : List Bool). record { tsb = true; demoted = s }) q ∙ sym (taken _ _ (sym r ∙ f)))
+    sets-guessed q f r e = rw (o, e) (ap (λ (s : List Bool). record { tsb = true; demoted = s; basic35 = false }) q ∙ sym (taken _ _ (sym r ∙ f)))
 
 -- ---- the lines of a text, one after the other
 

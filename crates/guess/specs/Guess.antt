@@ -1,4 +1,5 @@
--- The dialect of a text and the TSB words that are live in it (document 01, "Guessing the dialect").
+-- The dialect of a text and the TSB words that are live in it (document 01, "Guessing the dialect"; document 02, No. 5: "Auto never guesses
+-- it", "No TSB word is live under it").
 -- Assumes nothing.
 use Prim.Native.Nat.{ℕ}
 use mathlib.Core.Path.{_≡_}
@@ -7,7 +8,7 @@ use mathlib.Core.List.{List, [], _∷_}
 use lib.ListN.{replicate}
 use Rattle.refusals.specs.Answer.{Answer, done, refused, numbered, andThen}
 use Rattle.dialect.specs.declared.Dialect.{Dialect}
-use Rattle.dialect.specs.declared.Dialect.the-variants.{Auto, BasicV2, Tsb}
+use Rattle.dialect.specs.declared.Dialect.the-variants.{Auto, BasicV2, Tsb, Basic35}
 use Rattle.tables.specs.declared.sets.Sets.{Sets}
 use Rattle.lines.specs.Domain.{checkedText}
 use Rattle.lines.specs.TextLines.{textLines}
@@ -51,6 +52,7 @@ unfolding evidence
 guessedDialect Auto t = elim (evidence AsGiven t) [ true ↦ Tsb | false ↦ BasicV2 ]
 guessedDialect BasicV2 t = BasicV2
 guessedDialect Tsb t = Tsb
+guessedDialect Basic35 t = Basic35
 
 unfoldable pub resolved : Dialect → List ℕ → Answer Dialect
 unfolding checkedText guessedDialect
@@ -66,10 +68,11 @@ resolvedAnswer (Refused r) = refused (numbered r)
 
 unfoldable pub wordSets : Dialect → List ℕ → Sets
 unfolding evidence names
-wordSets Tsb t = record { tsb = true; demoted = noneDemoted }
-wordSets BasicV2 t = record { tsb = false; demoted = noneDemoted }
+wordSets Tsb t = record { tsb = true; demoted = noneDemoted; basic35 = false }
+wordSets BasicV2 t = record { tsb = false; demoted = noneDemoted; basic35 = false }
+wordSets Basic35 t = record { tsb = false; demoted = noneDemoted; basic35 = true }
 wordSets Auto t =
     elim (evidence AfterCr t) [
-      | true ↦ record { tsb = true; demoted = names AfterCr t }
-      | false ↦ record { tsb = false; demoted = noneDemoted }
+      | true ↦ record { tsb = true; demoted = names AfterCr t; basic35 = false }
+      | false ↦ record { tsb = false; demoted = noneDemoted; basic35 = false }
     ]

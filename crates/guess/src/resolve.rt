@@ -73,6 +73,7 @@ fn guessed(text: &[u8], dialect: Dialect) -> Dialect
         }
         Dialect::BasicV2 => Dialect::BasicV2,
         Dialect::Tsb => Dialect::Tsb,
+        Dialect::Basic35 => Dialect::Basic35,
     }
 }
 
@@ -86,26 +87,42 @@ pub fn resolved_dialect(text: &[u8], dialect: Dialect) -> Resolved
     }
 }
 
-// The TSB words that are live when a text is crunched, and those that are demoted.
+// The TSB words that are live when a text is crunched, those that are demoted, and whether the words of BASIC 3.5 are looked for.
 pub fn word_sets(text: &[u8], dialect: Dialect, bytes: &[u8], index: &[u16]) -> Sets
     requires { ⌜ SpellsWords (now bytes) (now index) ⌝ }
     ensures { λ r. ⌜ r ≡ wordSets dialect (now (text .entry)) ⌝ }
 {
+    let basic35 = dialect::is_basic35(dialect);
     let mut demoted = [false; 123];
     match dialect {
         Dialect::BasicV2 => Sets {
             tsb: false,
             demoted,
+            basic35,
         },
-        Dialect::Tsb => Sets { tsb: true, demoted },
+        Dialect::Tsb => Sets {
+            tsb: true,
+            demoted,
+            basic35,
+        },
+        Dialect::Basic35 => Sets {
+            tsb: false,
+            demoted,
+            basic35,
+        },
         Dialect::Auto => {
             if text_evidence(text, LineRule::AfterCr, bytes, index) {
                 text_names(text, LineRule::AfterCr, bytes, index, &mut demoted);
-                return Sets { tsb: true, demoted };
+                return Sets {
+                    tsb: true,
+                    demoted,
+                    basic35,
+                };
             }
             Sets {
                 tsb: false,
                 demoted,
+                basic35,
             }
         }
     }

@@ -70,7 +70,7 @@ openedList QuotedData b rest = []
 
 -- 64 takes the next byte with it, a remark runs to the body's end, DATA to an unquoted colon
 abbrev pub heeded : Rules
-heeded = record { prefix = true; remarks = true; items = true }
+heeded = record { prefix = true; remarks = true; items = true; basic35 = false }
 
 -- the targets of the list that the first unit opens, and what f gives behind that unit: the bytes of a list open none themselves
 abbrev pub jumpsOn : (Mode × List ℕ → List ℕ) → Mode → List ℕ → List ℕ

@@ -197,6 +197,7 @@ fn heed() -> Rules
         prefix: true,
         remarks: true,
         items: true,
+        basic35: false,
     }
 }
 

@@ -1,9 +1,10 @@
--- What the options' listings have in common (document 02, No. 6): the old mode is the original's listing under each dialect, Auto lists as Tsb,
+-- What the options' listings have in common (document 02, No. 6): the old mode is the original's listing under each dialect of document 01, Auto lists as
+-- Tsb,
 -- and "Where no body holds 64 and no byte 61 to 7A or of 80 and above follows an unquoted 8F, the two modes are proved to agree".
 -- Assumes nothing.
 use Prim.Native.Nat.{ℕ, _≤_, _<_}
 use mathlib.Core.Path.{_≡_, refl, sym, ap, _∙_}
-use mathlib.Core.Bool.{Bool, true, false, not, cond, _&&_, _||_}
+use mathlib.Core.Bool.{Bool, true, false, not, cond, _&&_, _||_, false≢true}
 use mathlib.Core.List.{List, [], _∷_, _++_}
 use native.Mathlib.Omega.{arith}
 use lib.Dec.{eqb, leb}
@@ -12,8 +13,9 @@ use borrow.Author.Tests.{eqb-true, ne-eqb, leb-false, ltb-false}
 use Rattle.refusals.specs.Answer.{Answer, done, refused, mapDone}
 use Rattle.ascii.specs.Bytes.{between}
 use Rattle.petscii.specs.ByteTexts.{byteText, remarkText}
+use Rattle.dialect.specs.Dialects.{isBasic35}
 use Rattle.dialect.specs.declared.Dialect.{Dialect}
-use Rattle.dialect.specs.declared.Dialect.the-variants.{Auto, BasicV2, Tsb}
+use Rattle.dialect.specs.declared.Dialect.the-variants.{Auto, BasicV2, Tsb, Basic35}
 use Rattle.readers.specs.declared.By.{By}
 use Rattle.readers.specs.declared.By.the-variants.{Terminators, Links}
 use Rattle.readers.specs.NumberedBody.{NumberedBody}
@@ -23,8 +25,8 @@ use Rattle.units.specs.declared.Mode.{Mode}
 use Rattle.units.specs.declared.Mode.the-variants.{Plain, Quoted, Remark}
 use Rattle.units.specs.declared.Rules.{Rules}
 use Rattle.units.specs.declared.Unit.{Unit}
-use Rattle.units.specs.declared.Unit.the-variants.{Char, Token, Remarked}
-use Rattle.units.specs.Units.{modeBehind, toggledMode, oneUnit, unquotedUnit, quotedUnit, unitAt, unitsFrom}
+use Rattle.units.specs.declared.Unit.the-variants.{Char, Remarked}
+use Rattle.units.specs.Units.{modeBehind, toggledMode, oneUnit, tokenUnit, unquotedUnit, quotedUnit, unitAt, unitsFrom}
 use Rattle.units.proofs.Walking.{units-none, units-more}
 use Rattle.pieces.specs.Pieces.{unitText, spelt}
 use Rattle.layout.specs.Each.{Each}
@@ -34,11 +36,12 @@ use Rattle.listing.specs.Modes.{heedsPrefix, rulesUnder, listingUnder, b
 
 -- ---- the old mode, and Auto
 
-pub old-mode : (d : Dialect) (image : List ℕ) → listingUnder (record { dialect = d; remarks = false; by = Terminators }) image ≡ listing image
+pub old-mode : (d : Dialect) (image : List ℕ) → isBasic35 d ≡ false → listingUnder (record { dialect = d; remarks = false; by = Terminators }) image ≡ listing image
 unfolding listingUnder listing heedsPrefix
-old-mode Auto image = refl
-old-mode BasicV2 image = refl
-old-mode Tsb image = refl
+old-mode Auto image n = refl
+old-mode BasicV2 image n = refl
+old-mode Tsb image n = refl
+old-mode Basic35 image n = absurd (false≢true (sym n))
 
 pub auto-as-tsb : (remarks : Bool) (by : By) (image : List ℕ)
     → listingUnder (record { dialect = Auto; remarks = remarks; by = by }) image ≡ listingUnder (record { dialect = Tsb; remarks = remarks; by = by }) image
@@ -69,7 +72,7 @@ module _ (rules : Rules) (b : ℕ) (rest : List ℕ) where
   unfolding unitAt quotedUnit
   quoted-unit q = simp q
 
-  remark-unit : eqb b 0x8F ≡ true → unitAt rules Plain b rest ≡ oneUnit (Token b) (cond (rules .remarks) Remark Plain)
+  remark-unit : eqb b 0x8F ≡ true → unitAt rules Plain b rest ≡ oneUnit (tokenUnit rules b) (cond (rules .remarks) Remark Plain)
   unfolding unitAt unquotedUnit modeBehind
   remark-unit r = rw (eqb-true b 0x8F r)
 
@@ -79,7 +82,7 @@ module _ (rules : Rules) (b : ℕ) (rest : List ℕ) where
 
   module _ (e : eqb b 0x64 ≡ false) where
     -- an unquoted byte that is no quote and opens no remark
-    plain-unit : rules .items ≡ false → eqb b 0x22 ≡ false → eqb b 0x8F ≡ false → unitAt rules Plain b rest ≡ oneUnit (cond (leb 0x80 b) (Token b) (Char b)) Plain
+    plain-unit : rules .items ≡ false → eqb b 0x22 ≡ false → eqb b 0x8F ≡ false → unitAt rules Plain b rest ≡ oneUnit (cond (leb 0x80 b) (tokenUnit rules b) (Char b)) Plain
     unfolding unitAt unquotedUnit modeBehind
     plain-unit i q r = simp (e, q, r, i, alike (eqb b 0x83) Plain)
 
@@ -118,13 +121,13 @@ remarked-text b e = simp e
 abbrev Mild : List ℕ → Type 0
 Mild = Each (λ b. listsApart b ≡ false)
 
--- rules of either mode: remarks heeded or not, whatever the prefix
-module _ (p q : Bool) where
+-- rules of either mode: remarks heeded or not, whatever the prefix and the words
+module _ (p q own : Bool) where
   abbrev old : Rules
-  old = record { prefix = p; remarks = false; items = false }
+  old = record { prefix = p; remarks = false; items = false; basic35 = own }
 
   abbrev new : Rules
-  new = record { prefix = q; remarks = true; items = false }
+  new = record { prefix = q; remarks = true; items = false; basic35 = own }
 
   abbrev Same : Mode → Mode → List ℕ → Type 0
   Same m n s = spelt (unitsFrom new m s) ≡ spelt (unitsFrom old n s)
@@ -174,8 +177,8 @@ unfolding listingUnder listingBy
 modes-agree d by image h = go (bodiesOf (stepBy by) image) h
   where
     go : (a : Answer (List NumberedBody)) → ((ls : List NumberedBody) → a ≡ done ls → Each (λ l. ListsAlike (l .body)) ls)
-        → mapDone (linesListing (new (heedsPrefix d false) (heedsPrefix d true))) a ≡ mapDone (linesListing (old (heedsPrefix d false) (heedsPrefix d true))) a
-    go (done ls) k = ap done (lines-alike (heedsPrefix d false) (heedsPrefix d true) ls (k ls refl))
+        → mapDone (linesListing (new (heedsPrefix d false) (heedsPrefix d true) (isBasic35 d))) a ≡ mapDone (linesListing (old (heedsPrefix d false) (heedsPrefix d true) (isBasic35 d))) a
+    go (done ls) k = ap done (lines-alike (heedsPrefix d false) (heedsPrefix d true) (isBasic35 d) ls (k ls refl))
     go (refused n) k = refl
 
 -- where both readers read the same lines, both list the same

@@ -1,4 +1,5 @@
--- What the two modes make of a body, worked out from the definitions (document 02, No. 6: "`10 rem do` lists as `10 REM TEXT`").
+-- What the two modes make of a body, worked out from the definitions (document 02, No. 6: "`10 rem do` lists as `10 REM TEXT`"), and BASIC 3.5
+-- (No. 5).
 -- Assumes nothing.
 use Prim.Native.Nat.{ℕ}
 use mathlib.Core.Path.{_≡_, refl}
@@ -9,10 +10,11 @@ use Rattle.ascii.specs.Bytes.{between}
 use Rattle.tables.specs.Rom.{romWords}
 use Rattle.words.specs.Spelling.{bytesOf}
 use Rattle.petscii.specs.ByteTexts.{hexByte, hexDigits, byteText, remarkText}
-use Rattle.texts.specs.Texts.{tokenText, textOf}
+use Rattle.texts.specs.Texts.{tokenText, textOf, textOf35}
+use Rattle.tables.specs.Basic35.{basic35Spellings}
 use Rattle.tables.specs.Tsb.{tsbWords, withToken, tsbId, tsbText}
 use Rattle.dialect.specs.declared.Dialect.{Dialect}
-use Rattle.dialect.specs.declared.Dialect.the-variants.{Auto, BasicV2, Tsb}
+use Rattle.dialect.specs.declared.Dialect.the-variants.{Auto, BasicV2, Tsb, Basic35}
 use Rattle.readers.specs.declared.By.the-variants.{Terminators, Links}
 use Rattle.readers.specs.Bodies.{bodiesFrom}
 use Rattle.readers.specs.Readers.{stepBy}
@@ -28,6 +30,10 @@ use Rattle.listing.specs.Modes.{heedsPrefix, rulesUnder, listingUnder}
 -- a body in the second mode
 abbrev second : Dialect → List ℕ → List ℕ
 second d body = bodyListing (rulesUnder (record { dialect = d; remarks = true; by = Terminators })) body
+
+-- a body in the old mode under BASIC 3.5
+abbrev under35 : List ℕ → List ℕ
+under35 body = bodyListing (rulesUnder (record { dialect = Basic35; remarks = false; by = Terminators })) body
 
 -- the image of `10 PRINT "{0}"` at 0801
 abbrev holdsZero : List ℕ
@@ -45,7 +51,12 @@ pub examples :
     × (second Tsb (0x83 ∷ 0x8F ∷ 0x64 ∷ []) ≡ bytesOf "DATAREMd")
     -- 64 is no prefix under BasicV2
     × (second BasicV2 (0x64 ∷ 0x6F ∷ []) ≡ bytesOf "{$64}{$6F}")
+    -- BASIC 3.5: CC to FD are words, FE and FF are not, and 64 takes no byte with it; quoted bytes and remarks are as elsewhere
+    × (under35 (0xEB ∷ 0x3A ∷ 0xEC ∷ 0xFD ∷ 0xFE ∷ 0xFF ∷ 0xCB ∷ []) ≡ bytesOf "DO:LOOPWHILE{FE}{PI}GO")
+    × (under35 (0x64 ∷ 0xCC ∷ 0x22 ∷ 0xCC ∷ 0x22 ∷ 0x64 ∷ []) ≡ bytesOf "{$64}RGR\"L\"{$64}")
+    × (second Basic35 (0xEE ∷ 0x3A ∷ 0x8F ∷ 0x64 ∷ 0xEE ∷ []) ≡ bytesOf "DIRECTORY:REMd{$EE}")
+    × (bodyListing originalRules (0xEB ∷ []) ≡ bytesOf "{EB}")
     -- a 00 in a body: the lines by terminators and by links
     × (listingUnder (record { dialect = Auto; remarks = true; by = Links }) holdsZero ≡ done (bytesOf "10 PRINT \"{null}\"" ++ 0x0A ∷ []))
-unfolding bodyListing listingUnder listingBy heedsPrefix unitsFrom spelt unitText pairText unknownPair textOf tokenText byteText remarkText hexByte hexDigits romWords tsbWords withToken tsbId tsbText between decimal bodiesFrom stepBy linkStep terminatorStep beforeZero
-examples = (refl, refl, refl, refl, refl, refl, refl, refl)
+unfolding bodyListing listingUnder listingBy heedsPrefix unitsFrom spelt unitText pairText unknownPair textOf textOf35 basic35Spellings tokenText byteText remarkText hexByte hexDigits romWords tsbWords withToken tsbId tsbText between decimal bodiesFrom stepBy linkStep terminatorStep beforeZero
+examples = (refl, refl, refl, refl, refl, refl, refl, refl, refl, refl, refl, refl)

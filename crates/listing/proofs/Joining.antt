@@ -1,4 +1,4 @@
--- The stretches of a line joined, and the lines joined, are the listing; and a room of eight bytes always brings a line nearer to its end.
+-- The stretches of a line joined, and the lines joined, are the listing; and a room of nine bytes always brings a line nearer to its end.
 -- Assumes nothing.
 use Prim.Native.Nat.{ℕ, suc, _+_, _-_, _≤_, _<_}
 use mathlib.Core.Path.{_≡_, refl, sym, ap, _∙_, subst}
@@ -117,7 +117,7 @@ listing-joined o image e s = ap (mapDone (linesListing (rulesUnder o))) e ∙ ap
 -- ---- always nearer
 
 module _ (rules : Rules) (body : List ℕ) where
-  run-takes : (room at : ℕ) (mode : Mode) → 8 ≤ room → at < length body → 1 ≤ runFrom rules room mode (drop at body) .taken
+  run-takes : (room at : ℕ) (mode : Mode) → 9 ≤ room → at < length body → 1 ≤ runFrom rules room mode (drop at body) .taken
   run-takes room at mode big h =
       let t = unitAt rules mode (getD body at 0) (drop (at + 1) body) in
       let fits : length (unitText (unitAt rules mode (getD body at 0) (drop (at + 1) body) .unit)) ≤ room = omega (arith, unit-short (t .unit)) in
@@ -139,7 +139,7 @@ module _ (rules : Rules) (body : List ℕ) where
   ended-most true at r = omega arith
   ended-most false at r = omega arith
 
-  body-nearer : (room at : ℕ) (mode : Mode) → 8 ≤ room → placeLeft body (bodyStretch rules body room at mode .place) < placeLeft body (Body at mode)
+  body-nearer : (room at : ℕ) (mode : Mode) → 9 ≤ room → placeLeft body (bodyStretch rules body room at mode .place) < placeLeft body (Body at mode)
   unfolding bodyStretch placeLeft
   body-nearer room at mode big = go (leb (length body) at) refl
     where
@@ -154,11 +154,11 @@ module _ (rules : Rules) (body : List ℕ) where
           let r : Run = runFrom rules room mode (drop at body) in
           ended-nearer (leb (length body) (at + r .taken) && ltb (length (r .text)) room) at (runFrom rules room mode (drop at body)) h (run-takes room at mode big h)
 
-  place-nearer : (room at : ℕ) (mode : Mode) → 8 ≤ room → placeLeft body (stretchOf rules body room (Body at mode) .place) < placeLeft body (Body at mode)
+  place-nearer : (room at : ℕ) (mode : Mode) → 9 ≤ room → placeLeft body (stretchOf rules body room (Body at mode) .place) < placeLeft body (Body at mode)
   unfolding stretchOf
   place-nearer = body-nearer
 
-  number-nearer : (room n : ℕ) → n < 65536 → 8 ≤ room → placeLeft body (stretchOf rules body room (Number n) .place) < placeLeft body (Number n)
+  number-nearer : (room n : ℕ) → n < 65536 → 9 ≤ room → placeLeft body (stretchOf rules body room (Number n) .place) < placeLeft body (Number n)
   unfolding stretchOf bodyStretch placeLeft
   number-nearer room n small big =
       let fits : length (headListing n) ≤ room = omega (arith, head-long n, places-most n small) in
@@ -225,7 +225,7 @@ module _ (rules : Rules) (body : List ℕ) where
 -- ---- what a call answers
 
 module _ (o : ListOptions) (body : List ℕ) (room : ℕ) (place : Place) {r : Stretch} (is : r ≡ stretchAnswer (stretchOf (rulesUnder o) body room place)) where
-  pub stretch-nearer : 8 ≤ room → SmallNumber place → (place ≡ Over → ⊥) → placeLeft body (r .place) < placeLeft body place
+  pub stretch-nearer : 9 ≤ room → SmallNumber place → (place ≡ Over → ⊥) → placeLeft body (r .place) < placeLeft body place
   stretch-nearer big small left = rw is (go place small left)
     where
       go : (q : Place) → SmallNumber q → (q ≡ Over → ⊥) → placeLeft body (stretchOf (rulesUnder o) body room q .place) < placeLeft body q

@@ -23,7 +23,7 @@ unfolding lineListing
 line-long rules number body =
     omega (arith, length-append (decimal number) (0x20 ∷ (bodyListing rules body ++ (0x0A ∷ []))), length-append (bodyListing rules body) (0x0A ∷ []))
 
-pub line-short : (rules : Rules) (number : ℕ) (body : List ℕ) → number < 65536 → length (lineListing rules number body) ≤ 7 + 8 * length body
+pub line-short : (rules : Rules) (number : ℕ) (body : List ℕ) → number < 65536 → length (lineListing rules number body) ≤ 7 + 9 * length body
 line-short rules number body small = omega (arith, line-long rules number body, places-most number small, body-short rules body)
 
 module _ (rules : Rules) (number : ℕ) (body : List ℕ) {k m : ℕ} (small : Fits w16 number) (places : k ≡ length (decimal number)) (rest : m ≡ length (bodyListing rules body)) where

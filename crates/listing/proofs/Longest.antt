@@ -1,5 +1,4 @@
--- A listing is at most eight times as long as its image of bytes. So in 65,536 bytes every image of 8,192 has room, and the program `list`
--- never answers 6.
+-- A listing is at most nine times as long as its image of bytes.
 -- Assumes nothing.
 use Prim.Native.Nat.{ℕ, _+_, _*_, _-_, _≤_, _<_}
 use mathlib.Core.Path.{_≡_, refl, sym, ap, _∙_, subst}
@@ -25,9 +24,9 @@ module _ (by : By) (rules : Rules) (image : List ℕ) (bytes : (i : ℕ) → get
   abbrev from : ℕ → Answer (List NumberedBody)
   from p = bodiesFrom (stepBy by) image p
 
-  -- the lines from p on list as at most eight times what is left of the image
+  -- the lines from p on list as at most nine times what is left of the image
   abbrev Short : ℕ → Answer (List NumberedBody) → Type 0
-  Short p (done bs) = length (linesListing rules bs) ≤ 8 * (length image - p)
+  Short p (done bs) = length (linesListing rules bs) ≤ 9 * (length image - p)
   Short p (refused n) = Unit {0}
 
   one-more : (p : ℕ) (l : Line) → LiesAt image p l → (a : Answer (List NumberedBody)) → Short (l .next) a → Short p (mapDone (λ bs. numberedBody image l ∷ bs) a)
@@ -50,10 +49,10 @@ module _ (by : By) (rules : Rules) (image : List ℕ) (bytes : (i : ℕ) → get
   short-from : (p : ℕ) → Short p (from p)
   short-from = by-lines (by-sound by) image (λ p. Short p (from p)) (λ p h. short-at p h (stepBy by image p) refl)
 
-  pub listing-short : {text : List ℕ} → listingBy by rules image ≡ done text → length text ≤ 8 * length image
+  pub listing-short : {text : List ℕ} → listingBy by rules image ≡ done text → length text ≤ 9 * length image
   unfolding listingBy
   listing-short {text} e = go (from 2) e (short-from 2)
     where
-      go : (a : Answer (List NumberedBody)) → mapDone (linesListing rules) a ≡ done text → Short 2 a → length text ≤ 8 * length image
+      go : (a : Answer (List NumberedBody)) → mapDone (linesListing rules) a ≡ done text → Short 2 a → length text ≤ 9 * length image
       go (done bs) q h = let s : linesListing rules bs ≡ text = cc in omega (arith, ap length s)
       go (refused n) q h = let z : _≡_ {A = ℕ} 0 1 = cc in absurd (omega arith)

@@ -41,7 +41,7 @@ module _ (rules : Rules) (mode : Mode) (body : List ℕ) (i : ℕ) {t : Taken} (
 -- i bytes of the body are counted, and quoting is as the mode says there
 pub record BodyCounted (rules : Rules) (body : List ℕ) (i : ℕ) (mode : Mode) (n : ℕ) : Type 0 where
   pub within : i ≤ length body
-  pub short : n ≤ 8 * i
+  pub short : n ≤ 9 * i
   pub gives : n + length (leftAt rules mode body i) ≡ length (bodyListing rules body)
 
 pub counted-start : (rules : Rules) (body : List ℕ) → BodyCounted rules body 0 Plain 0
@@ -102,7 +102,7 @@ module _ {rules : Rules} {body buffer : List ℕ} {at : ℕ} {out : List ℕ} {i
 
 module _ (rules : Rules) where
   Short : Mode → List ℕ → Type 0
-  Short mode s = length (spelt (unitsFrom rules mode s)) ≤ 8 * length s
+  Short mode s = length (spelt (unitsFrom rules mode s)) ≤ 9 * length s
 
   short-none : (mode : Mode) → Short mode []
   unfolding Short spelt
@@ -116,6 +116,6 @@ module _ (rules : Rules) where
       omega
       (arith, ap (λ us. length (spelt us)) (units-more rules mode b rest), length-append (unitText (t .unit)) left, unit-short (t .unit), length-drop (t .used) (b ∷ rest), unit-takes rules mode b rest)
 
-  pub body-short : (body : List ℕ) → length (bodyListing rules body) ≤ 8 * length body
+  pub body-short : (body : List ℕ) → length (bodyListing rules body) ≤ 9 * length body
   unfolding bodyListing Short
   body-short body = by-units rules Short short-none short-more Plain body

@@ -43,7 +43,7 @@ and-false false = refl
 
 -- ---- whether a unit fits
 
-pub any-fits : (u : Unit) (room : ℕ) → 8 ≤ room → true ≡ leb (length (unitText u)) room
+pub any-fits : (u : Unit) (room : ℕ) → 9 ≤ room → true ≡ leb (length (unitText u)) room
 any-fits u room h = let s : length (unitText u) ≤ room = omega (arith, unit-short u) in sym (le-leb _ _ s)
 
 pub measured-fits : (u : Unit) (room : ℕ) {n : ℕ} → n ≡ length (unitText u) → leb n room ≡ leb (length (unitText u)) room

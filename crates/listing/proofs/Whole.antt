@@ -30,6 +30,7 @@ use Rattle.readers.proofs.Reading.{bodies-line, bodies-end, bodies-refused, bod
 use Rattle.readers.proofs.Steps.{by-sound, found-lies}
 use Rattle.units.specs.declared.Rules.{Rules}
 use Rattle.pieces.proofs.Owed.{Owed, owed-start, owed-room, owed-turn, owed-end}
+use Rattle.dialect.specs.Dialects.{isBasic35}
 use Rattle.listing.specs.Body.{lineListing}
 use Rattle.listing.specs.LineHelpers.{headListing, restListing, LineLength}
 use Rattle.listing.specs.Listing.{linesListing, listingBy, listing}
@@ -72,7 +73,7 @@ found-short by s p {r} {l} is e =
 
 -- n bytes are listed before p, and with what is left they make the listing
 pub record LinesCounted (by : By) (rules : Rules) (image : List ℕ) (p n : ℕ) : Type 0 where
-  pub short : n ≤ 8 * p
+  pub short : n ≤ 9 * p
   pub gives : mapDone (λ rest. n + length rest) (leftFrom by rules image p) ≡ roomFor (listingBy by rules image)
 
 pub counted-start : (by : By) (rules : Rules) (image : List ℕ) → LinesCounted by rules image 2 0
@@ -194,8 +195,9 @@ module _ (by : By) (rules : Rules) (image buffer : List ℕ) {r : Outcome} (e : 
 
 -- ---- as the options ask for it
 
-pub rules-are : (o : ListOptions) {p : Bool} → p ≡ heedsPrefix (o .dialect) (o .remarks) → _≡_ {A = Rules} (record { prefix = p; remarks = o .remarks; items = false }) (rulesUnder o)
-rules-are o e = rw e
+pub rules-are : (o : ListOptions) {p own : Bool} → p ≡ heedsPrefix (o .dialect) (o .remarks) → own ≡ isBasic35 (o .dialect)
+    → _≡_ {A = Rules} (record { prefix = p; remarks = o .remarks; items = false; basic35 = own }) (rulesUnder o)
+rules-are o e f = rw (e, f)
 
 module _ (o : ListOptions) (image : List ℕ) {rules : Rules} (is : rules ≡ rulesUnder o) where
   pub room-under : {a : Answer ℕ} → a ≡ roomFor (listingBy (o .by) rules image) → a ≡ roomFor (listingUnder o image)

@@ -21,4 +21,4 @@ restListing rules body = bodyListing rules body ++ (0x0A ∷ [])
 -- n is the length of a line's listing, and not too long
 pub record LineLength (rules : Rules) (number : ℕ) (body : List ℕ) (n : ℕ) : Type 0 where
   pub is : n ≡ length (lineListing rules number body)
-  pub short : n ≤ 7 + 8 * length body
+  pub short : n ≤ 7 + 9 * length body

@@ -25,7 +25,7 @@ listingBy by rules image = mapDone (linesListing rules) (bodiesOf (stepBy by) im
 
 -- 64 is a prefix; remarks and DATA are bytes like others
 abbrev pub originalRules : Rules
-originalRules = record { prefix = true; remarks = false; items = false }
+originalRules = record { prefix = true; remarks = false; items = false; basic35 = false }
 
 -- the listing of the original: the lines by terminators
 unfoldable pub listing : List ℕ → Answer (List ℕ)

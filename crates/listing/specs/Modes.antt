@@ -1,7 +1,8 @@
 -- The two modes of a listing (document 02, No. 6: "Add a second listing mode that is given the dialect. After an unquoted 8F that isn't the
 -- second byte of a TSB pair it treats no byte as a prefix or a token and lists 61 to 7A as themselves; under BasicV2 it treats 64 as a prefix
 -- nowhere, and Auto lists as Tsb. The old mode stays equal to the Rust"). Each mode is rules for the one walk; an 8F behind DATA opens a remark
--- too. Beyond the request, either mode also lists the lines that links lead to.
+-- too. Beyond the request, either mode also lists the lines that links lead to. Under BASIC 3.5 its words are listed, and 64 is no prefix
+-- (document 02, No. 5: "The listing of an image under this dialect shows its words instead of `{CC}` to `{FD}`, and 64 is no prefix there").
 -- Assumes nothing.
 use Prim.Native.Nat.{ℕ}
 use mathlib.Core.Bool.{Bool, true, false, not, cond, _&&_, _||_}
@@ -10,8 +11,9 @@ use mathlib.Core.List.{List, [], _∷_}
 use lib.Dec.{eqb, leb}
 use Rattle.refusals.specs.Answer.{Answer}
 use Rattle.ascii.specs.Bytes.{between}
+use Rattle.dialect.specs.Dialects.{isBasic35}
 use Rattle.dialect.specs.declared.Dialect.{Dialect}
-use Rattle.dialect.specs.declared.Dialect.the-variants.{Auto, BasicV2, Tsb}
+use Rattle.dialect.specs.declared.Dialect.the-variants.{Auto, BasicV2, Tsb, Basic35}
 use Rattle.readers.specs.declared.By.the-variants.{Terminators}
 use Rattle.units.specs.declared.Rules.{Rules}
 use Rattle.layout.specs.Each.{Each}
@@ -23,16 +25,17 @@ unfoldable pub heedsPrefix : Dialect → Bool → Bool
 heedsPrefix Auto remarks = true
 heedsPrefix BasicV2 remarks = not remarks
 heedsPrefix Tsb remarks = true
+heedsPrefix Basic35 remarks = false
 
 -- what the walk over a body heeds
 abbrev pub rulesUnder : ListOptions → Rules
-rulesUnder o = record { prefix = heedsPrefix (o .dialect) (o .remarks); remarks = o .remarks; items = false }
+rulesUnder o = record { prefix = heedsPrefix (o .dialect) (o .remarks); remarks = o .remarks; items = false; basic35 = isBasic35 (o .dialect) }
 
 unfoldable pub listingUnder : ListOptions → List ℕ → Answer (List ℕ)
 unfolding listingBy heedsPrefix
 listingUnder o image = listingBy (o .by) (rulesUnder o) image
 
--- the old mode (`old-mode`, proofs/Agreeing.antt: under each dialect it is `listing`)
+-- the old mode (`old-mode`, proofs/Agreeing.antt: under each dialect of document 01 it is `listing`)
 abbrev pub originalOptions : ListOptions
 originalOptions = record { dialect = Auto; remarks = false; by = Terminators }
 

@@ -1,6 +1,6 @@
 -- A line's listing in stretches (document 02, No. 10: "writing the listing out line by line and each long body in stretches"): what a room holds
 -- of what is left of a line, in whole pieces. A piece is the number with its space, a unit's text, or the line's end; none is longer than
--- eight bytes, so a room of eight always holds one (proofs/Stretches.antt).
+-- nine bytes, so a room of nine always holds one (proofs/Stretches.antt).
 -- Assumes nothing.
 use Prim.Native.Nat.{ℕ, suc, _+_, _-_}
 use mathlib.Core.Bool.{cond, _&&_}

@@ -87,10 +87,11 @@ fn rules_under(options: ListOptions) -> Rules
         prefix: heeds_prefix(dialect, options.remarks),
         remarks: options.remarks,
         items: false,
+        basic35: dialect::is_basic35(dialect),
     }
 }
 
-// Whether 64 is a prefix: not in the second mode under BasicV2.
+// Whether 64 is a prefix: not in the second mode under BasicV2, nor under BASIC 3.5.
 fn heeds_prefix(dialect: Dialect, remarks: bool) -> bool
     ensures { λ r. ⌜ r ≡ heedsPrefix dialect remarks ⌝ }
 {
@@ -98,6 +99,7 @@ fn heeds_prefix(dialect: Dialect, remarks: bool) -> bool
         Dialect::Auto => true,
         Dialect::BasicV2 => !remarks,
         Dialect::Tsb => true,
+        Dialect::Basic35 => false,
     }
 }
 

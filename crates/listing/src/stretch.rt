@@ -36,7 +36,7 @@ struct Spot {
     mode: Mode,
 }
 
-// Stores at a buffer's start what it holds of a line from a place on, in whole pieces. A buffer of eight bytes or more always holds one.
+// Stores at a buffer's start what it holds of a line from a place on, in whole pieces. A buffer of nine bytes or more always holds one.
 pub fn list_stretch(body: &[u8], options: ListOptions, place: Place, out: &mut [u8]) -> Stretch
     ensures { λ r. ⌜ (r ≡ stretchAnswer (stretchOf (rulesUnder options) (now (body .entry)) (length (now (out .entry))) place))
         × (now (out .exit) ≡ sets (now (out .entry)) 0 (stretchOf (rulesUnder options) (now (body .entry)) (length (now (out .entry))) place .text)) ⌝ }
@@ -142,12 +142,12 @@ fn put_run(
     Spot { to, at, mode }
 }
 
-// Whether a room holds a unit's text: eight bytes hold any.
+// Whether a room holds a unit's text: nine bytes hold any.
 fn fits(bytes: &[u8], starts: &[u16], unit: Unit, room: usize) -> bool
     requires { ⌜ SpellsTexts (now bytes) (now starts) ⌝ }
     ensures { λ r. ⌜ r ≡ leb (length (unitText unit)) room ⌝ }
 {
-    if room >= 8 {
+    if room >= 9 {
         return true;
     }
     pieces::unit_length(bytes, starts, unit) <= room

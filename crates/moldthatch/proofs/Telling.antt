@@ -13,6 +13,8 @@ use Rattle.dialect.specs.Dialects.{byNumber, namedAnswer}
 use Rattle.dialect.specs.declared.Dialect.{Dialect}
 use Rattle.dialect.specs.declared.Named.{Named}
 use Rattle.dialect.specs.declared.Named.the-variants.{Known, Refused}
+use Rattle.listing.specs.declared.ListOptions.{ListOptions}
+use Rattle.listing.specs.Modes.{listingUnder}
 use Rattle.image.specs.Crunched.{crunched}
 use Rattle.d64.specs.Calls.{Holding, After, changedAnswer, diskAnswer, leaving}
 use Rattle.d64.specs.declared.Changed.{Changed}
@@ -24,7 +26,7 @@ use Rattle.relink.specs.declared.Relinked.the-variants.{Changed as Relinked·Ch
 use Rattle.counting.specs.Carried.{Kept, carriedAnswer, carried}
 use Rattle.counting.specs.declared.Carried.{Carried}
 use Rattle.counting.specs.declared.Carried.the-variants.{Apart}
-use Rattle.moldthatch.specs.Told.{Told, toldCode, crunchedBy, bareCode, toldDisk, holdingCode, heldCode, relinkingCode, fateCode, toldTotals}
+use Rattle.moldthatch.specs.Told.{Told, toldCode, crunchedBy, oldMode, listedBy, bareCode, toldDisk, holdingCode, heldCode, relinkingCode, fateCode, toldTotals}
 
 module _ (o : Outcome) {c : Code} (code : c ≡ lengthCode (outcomeAnswer o)) where
   pub tells : {b : List ℕ} {l : Lent} → left o b ≡ l → _≡_ {A = Told} (record { code = c; buffer = b }) (toldCode l)
@@ -54,6 +56,29 @@ module _ (number load : ℕ) (text : List ℕ) {n : Named} (answer : namedAnswer
 
     pub tells-unknown-room : c ≡ lengthCode (roomFor (crunchedBy number load text))
     tells-unknown-room = code ∙ ap (λ (a : Answer (List ℕ)). lengthCode (roomFor a)) (crunched-with e)
+
+-- the same of a listing
+module _ (number : ℕ) (image : List ℕ) {n : Named} (answer : namedAnswer n ≡ byNumber number) where
+  listed-with : {m : Named} → n ≡ m → andThen (namedAnswer m) (λ d. listingUnder (oldMode d) image) ≡ listedBy number image
+  listed-with e = ap (λ (a : Answer Dialect). andThen a (λ d. listingUnder (oldMode d) image)) (ap namedAnswer (sym e) ∙ answer)
+
+  module _ {d : Dialect} (e : n ≡ Known d) {p : ListOptions} (is : p ≡ oldMode d) (o : Outcome) {c : Code} (code : c ≡ lengthCode (outcomeAnswer o)) where
+    pub tells-listing : (buffer : List ℕ) {b : List ℕ} → left o b ≡ intoBuffer (listingUnder p image) buffer
+        → _≡_ {A = Told} (record { code = c; buffer = b }) (toldCode (intoBuffer (listedBy number image) buffer))
+    tells-listing buffer {b} q = tells o code (q ∙ ap (λ (a : Answer (List ℕ)). intoBuffer a buffer) (ap (λ (x : ListOptions). listingUnder x image) is ∙ listed-with e))
+
+    pub tells-listing-room : outcomeAnswer o ≡ roomFor (listingUnder p image) → c ≡ lengthCode (roomFor (listedBy number image))
+    tells-listing-room q = tells-room o code (q ∙ ap roomFor (ap (λ (x : ListOptions). listingUnder x image) is ∙ listed-with e))
+
+  module _ {r : Refusal} (e : n ≡ Refused r) {c : Code} (code : c ≡ codeOf (numbered r)) where
+    pub tells-unlisted : (buffer : List ℕ) → _≡_ {A = Told} (record { code = c; buffer = buffer }) (toldCode (intoBuffer (listedBy number image) buffer))
+    unfolding intoBuffer
+    tells-unlisted buffer =
+        ap (λ (x : Code). record { code = x; buffer = buffer }) code
+        ∙ ap (λ (a : Answer (List ℕ)). toldCode (intoBuffer a buffer)) (listed-with e)
+
+    pub tells-unlisted-room : c ≡ lengthCode (roomFor (listedBy number image))
+    tells-unlisted-room = code ∙ ap (λ (a : Answer (List ℕ)). lengthCode (roomFor a)) (listed-with e)
 
 -- ---- disks
 

@@ -1,13 +1,18 @@
 -- What callers in other languages are told: each answer as one code (crates/refusals/specs/Code.antt), a dialect by its number.
 -- Assumes nothing.
 use Prim.Native.Nat.{ℕ}
+use mathlib.Core.Bool.{false}
 use mathlib.Core.List.{List, [], _∷_}
 use Rattle.refusals.specs.Answer.{Answer, done, refused, andThen}
 use Rattle.refusals.specs.Code.{answerCode, lengthCode}
 use Rattle.lent.specs.Lent.{Lent}
 use Rattle.refusals.specs.declared.Code.{Code}
 use Rattle.dialect.specs.Dialects.{byNumber}
+use Rattle.dialect.specs.declared.Dialect.{Dialect}
 use Rattle.readers.specs.Lines.{Overview}
+use Rattle.readers.specs.declared.By.the-variants.{Terminators}
+use Rattle.listing.specs.declared.ListOptions.{ListOptions}
+use Rattle.listing.specs.Modes.{listingUnder}
 use Rattle.image.specs.Crunched.{crunched}
 use Rattle.d64.specs.Calls.{Holding, After}
 use Rattle.index_entries.specs.declared.Held.{Held}
@@ -26,6 +31,13 @@ toldCode l = record { code = lengthCode (l .answer); buffer = l .buffer }
 -- the image of a text, the dialect given by its number
 abbrev pub crunchedBy : ℕ → ℕ → List ℕ → Answer (List ℕ)
 crunchedBy dialect load text = andThen (byNumber dialect) (λ d. crunched (record { load = load; dialect = d }) text)
+
+-- the listing of an image under a dialect, as document 02, No. 5, has it: remarks are bytes like others
+abbrev pub oldMode : Dialect → ListOptions
+oldMode d = record { dialect = d; remarks = false; by = Terminators }
+
+abbrev pub listedBy : ℕ → List ℕ → Answer (List ℕ)
+listedBy dialect image = andThen (byNumber dialect) (λ d. listingUnder (oldMode d) image)
 
 -- the load address and the line count
 abbrev pub overviewCode : Answer Overview → Code

@@ -1,6 +1,10 @@
-// The library for C and for Rust: its calls take and give numbers and slices. A dialect is 0 for Auto, 1 for BASIC V2, 2 for TSB.
+// The library for C and for Rust: its calls take and give numbers and slices. A dialect is 0 for Auto, 1 for BASIC V2, 2 for TSB,
+// 3 for BASIC 3.5.
+use dialect::Dialect;
 use dialect::Named;
 use image::Options;
+use listing::ListOptions;
+use readers::By;
 use readers::Checked;
 use readers::links;
 use refusals::Code;
@@ -13,7 +17,7 @@ ghost use Rattle.readers.specs.Links.{linkStep};
 ghost use Rattle.listing.specs.Listing.{listing};
 ghost use Rattle.sentences.specs.Clipped.{Clipped};
 ghost use Rattle.sentences.specs.Sentence.{sentence};
-ghost use Rattle.moldthatch.specs.Told.{crunchedBy, toldCode, overviewCode};
+ghost use Rattle.moldthatch.specs.Told.{crunchedBy, listedBy, oldMode, toldCode, overviewCode};
 
 pub mod counts;
 pub mod disks;
@@ -70,6 +74,30 @@ pub extern "C" fn moldthatch_list_room(image: &[u8]) -> Code
     lent::outcome_code(listing::room(image))
 }
 
+// Lists an image under a dialect into the start of a buffer: the listing's length.
+#[no_mangle]
+pub extern "C" fn moldthatch_list_under(image: &[u8], dialect: u8, out: &mut [u8]) -> Code
+    ensures { λ r. ⌜ record { code = r; buffer = now (out .exit) } ≡ toldCode (intoBuffer (listedBy dialect (now (image .entry))) (now (out .entry))) ⌝ }
+{
+    match dialect::dialect_by_number(dialect) {
+        Named::Known(known) => {
+            lent::outcome_code(listing::list_under(image, old_mode(known), out))
+        }
+        Named::Refused(refusal) => refusals::refusal_code(refusal),
+    }
+}
+
+// The room that the listing of an image under a dialect needs.
+#[no_mangle]
+pub extern "C" fn moldthatch_list_under_room(image: &[u8], dialect: u8) -> Code
+    ensures { λ r. ⌜ r ≡ lengthCode (roomFor (listedBy dialect (now (image .entry)))) ⌝ }
+{
+    match dialect::dialect_by_number(dialect) {
+        Named::Known(known) => lent::outcome_code(listing::room_under(image, old_mode(known))),
+        Named::Refused(refusal) => refusals::refusal_code(refusal),
+    }
+}
+
 // Reads a whole image by its links: its load address and how many lines it has.
 #[no_mangle]
 pub extern "C" fn moldthatch_check(image: &[u8]) -> Code
@@ -97,6 +125,17 @@ pub extern "C" fn moldthatch_sentence(
         },
         out,
     )
+}
+
+// The listing of a dialect: remarks are bytes like others, lines are read by terminators.
+fn old_mode(dialect: Dialect) -> ListOptions
+    ensures { λ r. ⌜ r ≡ oldMode dialect ⌝ }
+{
+    ListOptions {
+        dialect,
+        remarks: false,
+        by: By::Terminators,
+    }
 }
 
 fn checked_code(checked: Checked) -> Code

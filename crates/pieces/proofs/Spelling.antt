@@ -17,12 +17,12 @@ use Rattle.lent.specs.Stores.{Room, Put}
 use Rattle.words.specs.Spelling.{bytesOf}
 use Rattle.petscii.specs.ByteTexts.{hexDigits, byteText, hexByte, remarkText}
 use Rattle.petscii.specs.HeldHelpers.{held}
-use Rattle.texts.specs.Texts.{textOf}
+use Rattle.texts.specs.Texts.{textOf, textOf35}
 use Rattle.tables.specs.Tsb.{tsbWords, withToken, tsbId, tsbText}
 use Rattle.petscii.proofs.ByteTexts.{hex-digits}
 use Rattle.petscii.specs.declared.ByteText.{ByteText}
 use Rattle.units.specs.declared.Unit.{Unit}
-use Rattle.units.specs.declared.Unit.the-variants.{Char, Token, Pair, Lone, Remarked}
+use Rattle.units.specs.declared.Unit.the-variants.{Char, Token, Token35, Pair, Lone, Remarked}
 use Rattle.pieces.specs.Pieces.{unknownPair, orUnknown, pairText, unitText}
 use Rattle.pieces.proofs.Held.{held-length, held-text, byte-text-short, remark-text-short}
 
@@ -68,6 +68,10 @@ module _ {unit : Unit} where
   pub token-text : {b : ℕ} {t : List ℕ} → unit ≡ Token b → t ≡ textOf b → t ≡ unitText unit
   unfolding unitText
   token-text is e = rw is e
+
+  pub token35-text : {b : ℕ} {t : List ℕ} → unit ≡ Token35 b → t ≡ textOf35 b → t ≡ unitText unit
+  unfolding unitText
+  token35-text is e = rw is e
 
   pub pair-word : {b : ℕ} {w : List ℕ} → unit ≡ Pair b → 0 < length w → w ≡ tsbText b → w ≡ unitText unit
   unfolding unitText pairText

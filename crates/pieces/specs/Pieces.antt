@@ -1,14 +1,14 @@
 -- How the units of a body are spelt (document 01, "Reading and listing": "Unquoted 64 and a next byte, even a quote, are a TSB word ..
--- or, if unknown, `{64}{XX}`; a last 64 is `{64}`. Unquoted 80 and above is from the 128 texts in tokens.rs").
+-- or, if unknown, `{64}{XX}`; a last 64 is `{64}`. Unquoted 80 and above is from the 128 texts in tokens.rs"; document 02, No. 5).
 -- Assumes nothing.
 use Prim.Native.Nat.{ℕ}
 use mathlib.Core.List.{List, [], _∷_, _++_}
 use Rattle.words.specs.Spelling.{bytesOf}
 use Rattle.petscii.specs.ByteTexts.{byteText, hexByte, remarkText}
-use Rattle.texts.specs.Texts.{textOf}
+use Rattle.texts.specs.Texts.{textOf, textOf35}
 use Rattle.tables.specs.Tsb.{tsbText}
 use Rattle.units.specs.declared.Unit.{Unit}
-use Rattle.units.specs.declared.Unit.the-variants.{Char, Token, Pair, Lone, Remarked}
+use Rattle.units.specs.declared.Unit.the-variants.{Char, Token, Token35, Pair, Lone, Remarked}
 
 -- 64 and a byte that is no TSB token
 unfoldable pub unknownPair : ℕ → List ℕ
@@ -27,9 +27,10 @@ pairText b = orUnknown b (tsbText b)
 
 -- a unit
 unfoldable pub unitText : Unit → List ℕ
-unfolding byteText textOf pairText remarkText
+unfolding byteText textOf textOf35 pairText remarkText
 unitText (Char b) = byteText b
 unitText (Token b) = textOf b
+unitText (Token35 b) = textOf35 b
 unitText (Pair b) = pairText b
 unitText Lone = bytesOf "{64}"
 unitText (Remarked b) = remarkText b

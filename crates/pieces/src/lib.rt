@@ -16,6 +16,7 @@ pub fn unit_length(bytes: &[u8], starts: &[u16], unit: Unit) -> usize
     match unit {
         Unit::Char(b) => petscii::byte_to_string(b).len,
         Unit::Token(b) => texts::text_at(bytes, starts, b).len(),
+        Unit::Token35(b) => texts::text35_at(bytes, starts, b).len(),
         Unit::Pair(b) => {
             let n = tsb_word(bytes, starts, b).len();
             if n > 0 {
@@ -41,6 +42,7 @@ pub fn put_unit(out: &mut [u8], at: usize, bytes: &[u8], starts: &[u16], unit: U
             put(out, at, &held[..n])
         }
         Unit::Token(b) => put(out, at, texts::text_at(bytes, starts, b)),
+        Unit::Token35(b) => put(out, at, texts::text35_at(bytes, starts, b)),
         Unit::Pair(b) => {
             let word = tsb_word(bytes, starts, b);
             if word.len() > 0 {

@@ -1,16 +1,23 @@
-// Prints the ROM's word table as the tables have it, a row a token: the token that crunching gives the text, in hexadecimal, and the
-// text that listing gives the token. What it must print is the published table, facts/rom-words.tsv.
+// Prints the word tables of BASIC V2 and BASIC 3.5 as the tables have them, a row a token: the token that crunching gives the text under BASIC
+// 3.5, in hexadecimal, and the text that listing gives the token there. What it must print are the published tables, facts/rom-words.tsv and
+// facts/basic35-words.tsv.
 use libc::STDOUT_FILENO;
 use tables::matching;
+use tables::sets::Sets;
 use tables::spellings;
 use words::Match;
 ghost use Rattle.tables.specs.WordsHelpers.{SpellsWords};
 
-// The token of a V2 word or an operator, or 0.
+// The token of a word or an operator, or 0.
 fn token_of(text: &[u8], bytes: &[u8], index: &[u16]) -> u8
     requires { ⌜ SpellsWords (now bytes) (now index) ⌝ }
 {
-    match matching::match_v2(text, bytes, index) {
+    let sets = Sets {
+        tsb: false,
+        demoted: [false; 123],
+        basic35: true,
+    };
+    match matching::match_plain(text, bytes, index, sets) {
         Match::Word {
             index: _,
             used: _,
@@ -30,7 +37,7 @@ fn token_of(text: &[u8], bytes: &[u8], index: &[u16]) -> u8
 // Whether the row was written.
 fn print_row(k: u8) -> bool {
     let text_bytes = texts::TEXT_BYTES;
-    let text = texts::text_at(&text_bytes, &texts::TEXT_STARTS, k);
+    let text = texts::text35_at(&text_bytes, &texts::TEXT_STARTS, k);
     let token = token_of(text, &spellings::WORD_BYTES, &spellings::WORD_INDEX);
     let head = [
         petscii::hex_digit(token / 16),
@@ -44,7 +51,7 @@ fn print_row(k: u8) -> bool {
 
 fn main() {
     let mut k: u8 = 0x80;
-    while k < 0xCC {
+    while k < 0xFE {
         if !print_row(k) {
             return;
         }

@@ -131,7 +131,7 @@ none-grouped b o (e ∷ es) k r = go (eqb (initial (e .word)) b) refl (none-grou
 
 module _ (bytes index : List ℕ) where
   abbrev pub storedAt : ℕ → Placed
-  storedAt i = record { place = getD index (312 + i) 0; word = wordOf bytes index i; token = getD bytes (1482 + i) 0 }
+  storedAt i = record { place = getD index (362 + i) 0; word = wordOf bytes index i; token = getD bytes (1727 + i) 0 }
 
   pub good-at : (b m : ℕ) (n i : ℕ) → T (allGood b m (storedWords bytes index i n)) → (k : ℕ) → i ≤ k → k < i + n → T (good b m (storedAt k))
   unfolding allGood storedWords
@@ -145,7 +145,7 @@ module _ (bytes index : List ℕ) where
   module _ (p : ℕ → List ℕ → Bool) where
     -- the test of stored word j
     abbrev pub passesPlaced : ℕ → Bool
-    passesPlaced j = p (getD index (312 + j) 0) (wordOf bytes index j)
+    passesPlaced j = p (getD index (362 + j) 0) (wordOf bytes index j)
 
     -- what is found at place r of those up to an end
     abbrev pub answer : ℕ → ℕ → Match
@@ -154,7 +154,7 @@ module _ (bytes index : List ℕ) where
     pub first-stored : (n i : ℕ) → firstPlaced p (storedWords bytes index i n) ≡ answer (i + n) (firstFrom passesPlaced i n)
     unfolding firstPlaced storedWords firstFrom
     first-stored zero i = rw (answer, le-ltb i (i + 0) (omega arith))
-    first-stored (suc n) i = go (p (getD index (312 + i) 0) (wordOf bytes index i)) (first-stored n (suc i))
+    first-stored (suc n) i = go (p (getD index (362 + i) 0) (wordOf bytes index i)) (first-stored n (suc i))
       where
         end : suc i + n ≡ i + suc n
         end = omega arith

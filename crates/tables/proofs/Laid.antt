@@ -17,9 +17,10 @@ use Rattle.words.proofs.Runs.{joined, starts, length-starts, part, run-lies, ru
 use Rattle.tables.specs.Rom.{v2Words, operators}
 use Rattle.tables.specs.Tsb.{tsbWords}
 use Rattle.tables.specs.Escapes.{escapeNames}
+use Rattle.tables.specs.Basic35.{basic35Words}
 use Rattle.tables.specs.WordsHelpers.{Placed, capitals, grouped, storedWords, groupsOf, groupAt, wordsOf, SpellsWords}
 use Rattle.tables.specs.declared.matching.WordList.{WordList}
-use Rattle.tables.specs.declared.matching.WordList.the-variants.{V2, Operators, Tsb, Escapes}
+use Rattle.tables.specs.declared.matching.WordList.the-variants.{V2, Operators, Tsb, Escapes, Basic35}
 use Rattle.tables.proofs.Groups.{none-grouped}
 use Rattle.tables.proofs.Storage.{ranged-list, groups-within}
 
@@ -45,58 +46,58 @@ module _ (gs : List (List Placed)) where
   unfolding joined starts
   indexLaid = starts 0 spelt ++ (places ++ starts 0 gs)
 
-  -- 311 words of 1482 bytes in 256 groups
-  module _ (many : length (joined gs) ≡ 311) (long : length (joined spelt) ≡ 1482) (all : length gs ≡ 256) where
-    spelt-many : length spelt ≡ 311
+  -- 361 words of 1727 bytes in 320 groups
+  module _ (many : length (joined gs) ≡ 361) (long : length (joined spelt) ≡ 1727) (all : length gs ≡ 320) where
+    spelt-many : length spelt ≡ 361
     spelt-many = length-map (joined gs) (λ x. x .word) ∙ many
 
-    places-many : length places ≡ 311
+    places-many : length places ≡ 361
     places-many = length-map (joined gs) (λ x. x .place) ∙ many
 
-    starts-many : length (starts 0 spelt) ≡ 312
+    starts-many : length (starts 0 spelt) ≡ 362
     starts-many = length-starts 0 spelt ∙ ap (λ (n : ℕ). n + 1) spelt-many
 
-    pub bytes-long : 1793 ≤ length bytesLaid
+    pub bytes-long : 2088 ≤ length bytesLaid
     unfolding bytesLaid
     bytes-long = omega (arith, length-append (joined spelt) tokens, long, length-map (joined gs) (λ x. x .token), many)
 
-    pub index-long : 880 ≤ length indexLaid
+    pub index-long : 1044 ≤ length indexLaid
     unfolding indexLaid
     index-long =
         omega (arith, length-append (starts 0 spelt) (places ++ starts 0 gs), length-append places (starts 0 gs), starts-many, places-many, length-starts 0 gs, all)
 
-    pub words-lie : (k : ℕ) → k < 311 → Lies bytesLaid indexLaid k
+    pub words-lie : (k : ℕ) → k < 361 → Lies bytesLaid indexLaid k
     unfolding bytesLaid indexLaid
     words-lie k h = run-lies spelt tokens (places ++ starts 0 gs) k (omega (arith, spelt-many))
 
     no-word : Placed
     no-word = record { place = 0; word = []; token = 0 }
 
-    module _ (i : ℕ) (h : i < 311) where
+    module _ (i : ℕ) (h : i < 361) where
       word-is : wordOf bytesLaid indexLaid i ≡ getD (joined gs) i no-word .word
       unfolding bytesLaid indexLaid no-word
       word-is = run-word spelt tokens (places ++ starts 0 gs) i (omega (arith, spelt-many)) ∙ List·getD-map (λ x. x .word) (joined gs) i no-word
 
-      token-is : getD bytesLaid (1482 + i) 0 ≡ getD (joined gs) i no-word .token
+      token-is : getD bytesLaid (1727 + i) 0 ≡ getD (joined gs) i no-word .token
       unfolding bytesLaid no-word
       token-is = rw (← long) (getD-append-add (joined spelt) tokens i 0) ∙ List·getD-map (λ x. x .token) (joined gs) i no-word
 
-      place-is : getD indexLaid (312 + i) 0 ≡ getD (joined gs) i no-word .place
+      place-is : getD indexLaid (362 + i) 0 ≡ getD (joined gs) i no-word .place
       unfolding indexLaid no-word
       place-is =
           rw (← starts-many) (getD-append-add (starts 0 spelt) (places ++ starts 0 gs) i 0)
           ∙ List·getD-append places (starts 0 gs) 0 i (omega (arith, places-many)) ∙ List·getD-map (λ x. x .place) (joined gs) i no-word
 
-    stored-is : (n i : ℕ) → i + n ≤ 311 → storedWords bytesLaid indexLaid i n ≡ take n (drop i (joined gs))
+    stored-is : (n i : ℕ) → i + n ≤ 361 → storedWords bytesLaid indexLaid i n ≡ take n (drop i (joined gs))
     unfolding storedWords
     stored-is zero i h = refl
     stored-is (suc n) i h =
-        let l : i < 311 = omega arith in
+        let l : i < 361 = omega arith in
         let rest : storedWords bytesLaid indexLaid (suc i) n ≡ take n (drop (suc i) (joined gs)) = stored-is n (suc i) (omega arith) in
         let d : drop i (joined gs) ≡ getD (joined gs) i no-word ∷ drop (suc i) (joined gs) = drop-cons (joined gs) i no-word (omega (arith, many)) in
         rw (d, word-is i l, token-is i l, place-is i l, rest)
 
-    start-is : (m : ℕ) {n : ℕ} → n ≡ 623 + m → getD indexLaid n 0 ≡ getD (starts 0 gs) m 0
+    start-is : (m : ℕ) {n : ℕ} → n ≡ 723 + m → getD indexLaid n 0 ≡ getD (starts 0 gs) m 0
     unfolding indexLaid
     start-is m {n} e =
         let f : n ≡ length (starts 0 spelt) + (length places + m) = omega (arith, starts-many, places-many) in
@@ -105,10 +106,10 @@ module _ (gs : List (List Placed)) where
     -- group m lies between two starts that stand side by side in the index
     pub record Lying (m from to : ℕ) : Type 0 where
       pub up : from ≤ to
-      pub end : to ≤ 311
+      pub end : to ≤ 361
       pub is : storedWords bytesLaid indexLaid from (to - from) ≡ getD gs m []
 
-    pub lying : (m n : ℕ) → m < 256 → n ≡ 623 + m → Lying m (getD indexLaid n 0) (getD indexLaid (n + 1) 0)
+    pub lying : (m n : ℕ) → m < 320 → n ≡ 723 + m → Lying m (getD indexLaid n 0) (getD indexLaid (n + 1) 0)
     lying m n h e =
         let p = part 0 gs m (omega (arith, all)) in
         let s : ℕ = getD (starts 0 gs) m 0 in
@@ -159,41 +160,45 @@ group-in (l ∷ ls) (suc j) i m e h k =
     let f : m ≡ length gs + (64 * j + i) = omega (arith, groups-many (capitals (wordsOf l)) 64 32) in
     ap (λ (n : ℕ). getD (gs ++ groupsIn ls) n []) f ∙ getD-append-add gs (groupsIn ls) (64 * j + i) [] ∙ group-in ls j i (64 * j + i) refl h (le-of-suc-le-suc k)
 
+abbrev lists : List WordList
+lists = V2 ∷ Operators ∷ Tsb ∷ Escapes ∷ Basic35 ∷ []
+
 abbrev pub allGroups : List (List Placed)
-allGroups = groupsIn (V2 ∷ Operators ∷ Tsb ∷ Escapes ∷ [])
+allGroups = groupsIn lists
 
 -- group i of a list is group m of all
-among-all : (l : WordList) (i m : ℕ) → i < 64 → 623 + m ≡ groupsOf l + i → getD allGroups m [] ≡ getD (groupsFrom 32 64 (capitals (wordsOf l))) i []
-among-all V2 i m h e = group-in (V2 ∷ Operators ∷ Tsb ∷ Escapes ∷ []) 0 i m (omega arith) h (omega arith)
-among-all Operators i m h e = group-in (V2 ∷ Operators ∷ Tsb ∷ Escapes ∷ []) 1 i m (omega arith) h (omega arith)
-among-all Tsb i m h e = group-in (V2 ∷ Operators ∷ Tsb ∷ Escapes ∷ []) 2 i m (omega arith) h (omega arith)
-among-all Escapes i m h e = group-in (V2 ∷ Operators ∷ Tsb ∷ Escapes ∷ []) 3 i m (omega arith) h (omega arith)
+among-all : (l : WordList) (i m : ℕ) → i < 64 → 723 + m ≡ groupsOf l + i → getD allGroups m [] ≡ getD (groupsFrom 32 64 (capitals (wordsOf l))) i []
+among-all V2 i m h e = group-in lists 0 i m (omega arith) h (omega arith)
+among-all Operators i m h e = group-in lists 1 i m (omega arith) h (omega arith)
+among-all Tsb i m h e = group-in lists 2 i m (omega arith) h (omega arith)
+among-all Escapes i m h e = group-in lists 3 i m (omega arith) h (omega arith)
+among-all Basic35 i m h e = group-in lists 4 i m (omega arith) h (omega arith)
 
 -- ---- the tables
 
 unfoldable pub wordBytes : List ℕ
-unfolding bytesLaid groupsFrom capitals v2Words operators tsbWords escapeNames
+unfolding bytesLaid groupsFrom capitals v2Words operators tsbWords escapeNames basic35Words
 wordBytes = bytesLaid allGroups
 
 unfoldable pub wordIndex : List ℕ
-unfolding indexLaid groupsFrom capitals v2Words operators tsbWords escapeNames
+unfolding indexLaid groupsFrom capitals v2Words operators tsbWords escapeNames basic35Words
 wordIndex = indexLaid allGroups
 
-many : length (joined allGroups) ≡ 311
+many : length (joined allGroups) ≡ 361
 unfolding wordBytes
 many = refl
 
-long : length (joined (spelt allGroups)) ≡ 1482
+long : length (joined (spelt allGroups)) ≡ 1727
 unfolding wordBytes
 long = refl
 
-all : length allGroups ≡ 256
+all : length allGroups ≡ 320
 unfolding wordBytes
 all = refl
 
 record Group (l : WordList) (b : ℕ) : Type 0 where
   pub up : groupAt (indexLaid allGroups) l b .from ≤ groupAt (indexLaid allGroups) l b .to
-  pub end : groupAt (indexLaid allGroups) l b .to ≤ 311
+  pub end : groupAt (indexLaid allGroups) l b .to ≤ 361
   pub spells : storedWords (bytesLaid allGroups) (indexLaid allGroups) (groupAt (indexLaid allGroups) l b .from) (groupAt (indexLaid allGroups) l b .to - groupAt (indexLaid allGroups) l b .from)
       ≡ grouped b 0 (capitals (wordsOf l))
 
@@ -209,7 +214,7 @@ each-group l b = go (between 32 95 b) refl
     }
     go true e =
         let w = between-in 32 95 b e in
-        let m : ℕ = groupsOf l + (b - 32) - 623 in
+        let m : ℕ = groupsOf l + (b - 32) - 723 in
         let g = lying allGroups many long all m (groupsOf l + (b - 32)) (omega (arith, w, groups-within l)) (omega (arith, groups-within l)) in
         record {
           up = rw (groupAt, e) (g .up);

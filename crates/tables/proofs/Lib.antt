@@ -1,3 +1,4 @@
+pub mod Both
 pub mod Groups
 pub mod Laid
 pub mod Lists

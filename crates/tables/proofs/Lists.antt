@@ -1,8 +1,9 @@
--- The V2 and the TSB list keep the rule that no word stands behind a beginning of itself; so in each the first match is the longest
--- (document 01, "Crunching one body").
+-- The V2 list, the TSB list, that of BASIC 3.5, and it together with the V2 list keep the rule that no word stands behind a beginning of
+-- itself; so in each the first match is the longest (document 01, "Crunching one body"; document 02, No. 5).
 -- Assumes nothing.
 use Prim.Native.Nat.{ℕ}
-use mathlib.Core.List.{List}
+use mathlib.Core.Bool.{Bool, true, false, cond}
+use mathlib.Core.List.{List, _++_}
 use lib.Dec.{T}
 use Rattle.ascii.specs.Bytes.{between, upper}
 use Rattle.words.specs.Compare.{begins}
@@ -11,6 +12,9 @@ use Rattle.words.specs.Order.{beginsNone, ordered, Longest}
 use Rattle.words.proofs.Order.{longest-in}
 use Rattle.tables.specs.Rom.{v2Words}
 use Rattle.tables.specs.Tsb.{tsbWords}
+use Rattle.tables.specs.Basic35.{basic35Words}
+use Rattle.tables.specs.Sets.{plainWords, plainWord}
+use Rattle.tables.specs.declared.sets.Sets.{Sets}
 
 pub v2-ordered : T (ordered v2Words)
 unfolding ordered beginsNone begins upper between v2Words
@@ -20,8 +24,28 @@ pub tsb-ordered : T (ordered tsbWords)
 unfolding ordered beginsNone begins upper between tsbWords
 tsb-ordered = tt
 
+pub basic35-ordered : T (ordered basic35Words)
+unfolding ordered beginsNone begins upper between basic35Words
+basic35-ordered = tt
+
+pub both-ordered : T (ordered (v2Words ++ basic35Words))
+unfolding ordered beginsNone begins upper between v2Words basic35Words
+both-ordered = tt
+
 pub v2-longest : (text : List ℕ) → Longest v2Words text (wordIn v2Words text)
 v2-longest = longest-in v2Words v2-ordered
 
 pub tsb-longest : (text : List ℕ) → Longest tsbWords text (wordIn tsbWords text)
 tsb-longest = longest-in tsbWords tsb-ordered
+
+pub basic35-longest : (text : List ℕ) → Longest basic35Words text (wordIn basic35Words text)
+basic35-longest = longest-in basic35Words basic35-ordered
+
+-- what is taken in plain mode: of all words of the V2 list, and under BASIC 3.5 of both lists, that the text begins with, none is longer
+pub plain-longest : (s : Sets) (text : List ℕ) → Longest (plainWords s v2Words basic35Words) text (plainWord s v2Words basic35Words text)
+unfolding plainWord
+plain-longest s text = longest-in (plainWords s v2Words basic35Words) (keeps (s .basic35)) text
+  where
+    keeps : (own : Bool) → T (ordered (cond own (v2Words ++ basic35Words) v2Words))
+    keeps true = both-ordered
+    keeps false = v2-ordered

@@ -90,7 +90,7 @@ module _ (s : Sets) (t bytes index : List ℕ) where
 
   -- stored word j is demoted, and the text begins with it
   unfoldable pub demotedAt : ℕ → Bool
-  demotedAt j = isDemoted s (getD index (312 + j) 0) && begins (wordOf bytes index j) t
+  demotedAt j = isDemoted s (getD index (362 + j) 0) && begins (wordOf bytes index j) t
 
   and-off : (a b : Bool) → b ≡ false → (a && b) ≡ false
   and-off true b e = e
@@ -98,7 +98,7 @@ module _ (s : Sets) (t bytes index : List ℕ) where
 
   stricter : (k : ℕ) → passesAt Begins t bytes index k ≡ false → demotedAt k ≡ false
   unfolding demotedAt passesAt passes
-  stricter k e = and-off (isDemoted s (getD index (312 + k) 0)) _ e
+  stricter k e = and-off (isDemoted s (getD index (362 + k) 0)) _ e
 
   -- i is a place that the text begins with, or the end; among those before it none is demoted
   pub record Living (i : ℕ) : Type 0 where
@@ -125,14 +125,14 @@ module _ (s : Sets) (t bytes index : List ℕ) where
   living-start e q sp = next (g .from) _ (omega arith) (sp .up Tsb (initial t)) (rw q at e) refl
 
   module _ {x : Section} {i : ℕ} where
-    pub living-turn : {j k : ℕ} → getD (s .demoted) k false ≡ false → k ≡ getD index (312 + i) 0 → j ≡ firstFrom (passesAt Begins t bytes index) (i + 1) (x .to - (i + 1))
+    pub living-turn : {j k : ℕ} → getD (s .demoted) k false ≡ false → k ≡ getD index (362 + i) 0 → j ≡ firstFrom (passesAt Begins t bytes index) (i + 1) (x .to - (i + 1))
         → i < x .to → x ≡ groupAt index Tsb (initial t) → Living i → Living j
     unfolding demotedAt isDemoted
     living-turn d p e h q v =
         let l : i < g .to = rw q at h in
         next (i + 1) _ (omega (arith, v .up)) (omega arith) (rw q at e) (sym (first-next demotedAt i (g .to) l (rw (← p, d))) ∙ v .gives)
 
-    pub living-demoted : {k : ℕ} → getD (s .demoted) k false ≡ true → k ≡ getD index (312 + i) 0 → i < x .to → x ≡ groupAt index Tsb (initial t) → Living i → SpellsWords bytes index
+    pub living-demoted : {k : ℕ} → getD (s .demoted) k false ≡ true → k ≡ getD index (362 + i) 0 → i < x .to → x ≡ groupAt index Tsb (initial t) → Living i → SpellsWords bytes index
         → Nothing ≡ liveWord s tsbWords t
     unfolding demotedAt isDemoted passesAt passes
     living-demoted d p h q v sp =
@@ -148,10 +148,10 @@ module _ (s : Sets) (t bytes index : List ℕ) where
     held : i < x .to → x ≡ groupAt index Tsb (initial t) → g .from ≤ i → SpellsWords bytes index → Held bytes index i
     held h q a sp = held-stored sp Tsb (initial t) i a (rw q at h)
 
-    pub living-placed : i < x .to → x ≡ groupAt index Tsb (initial t) → Living i → SpellsWords bytes index → 312 + i < length index
+    pub living-placed : i < x .to → x ≡ groupAt index Tsb (initial t) → Living i → SpellsWords bytes index → 362 + i < length index
     living-placed h q v sp = held h q (v .up) sp .place
 
-    pub living-place : {k : ℕ} → k ≡ getD index (312 + i) 0 → i < x .to → x ≡ groupAt index Tsb (initial t) → Living i → SpellsWords bytes index → k < 123
+    pub living-place : {k : ℕ} → k ≡ getD index (362 + i) 0 → i < x .to → x ≡ groupAt index Tsb (initial t) → Living i → SpellsWords bytes index → k < 123
     living-place p h q v sp = omega (arith, place-stored sp Tsb (initial t) i (v .up) (rw q at h), tsb-long)
 
     pub living-next : i < x .to → x ≡ groupAt index Tsb (initial t) → SpellsWords bytes index → Fits w64 (i + 1)
@@ -181,5 +181,5 @@ module _ (s : Sets) (t bytes index : List ℕ) where
     pub living-none : {first : ℕ} → x .to ≤ first → first ≡ firstFrom (passesAt Begins t bytes index) (x .from) (x .to - x .from) → Nothing ≡ liveWord s tsbWords t
     living-none l f = end (match-none Begins t bytes index Tsb l f q sp)
 
-pub index-long : {bytes index : List ℕ} → SpellsWords bytes index → 880 ≤ length index
+pub index-long : {bytes index : List ℕ} → SpellsWords bytes index → 1044 ≤ length index
 index-long sp = sp .indexLong

@@ -1,4 +1,4 @@
--- The search in the stored words is the search in document 01's lists.
+-- The search in the stored words is the search in the documents' lists.
 -- Assumes nothing.
 use Prim.Native.Nat.{ℕ, suc, _+_, _-_, _≤_, _<_}
 use mathlib.Core.Path.{_≡_, refl, sym, ap, _∙_, subst}
@@ -25,18 +25,20 @@ use Rattle.words.proofs.Search.{and-left, and-right, first-from}
 use Rattle.tables.specs.Rom.{v2Words, operators}
 use Rattle.tables.specs.Tsb.{tsbWords}
 use Rattle.tables.specs.Escapes.{escapeNames}
+use Rattle.tables.specs.Basic35.{basic35Words}
 use Rattle.tables.specs.WordsHelpers.{Placed, capitals, initial, groupsOf, groupAt, wordFound, Held, wordsOf, SpellsWords}
 use Rattle.tables.specs.declared.matching.WordList.{WordList}
-use Rattle.tables.specs.declared.matching.WordList.the-variants.{V2, Operators, Tsb, Escapes}
+use Rattle.tables.specs.declared.matching.WordList.the-variants.{V2, Operators, Tsb, Escapes, Basic35}
 use Rattle.tables.proofs.Groups.{firstPlaced, ranged, Confined, first-grouped, confined-test, good, allGood, grouped-good, storedAt, good-at, passesPlaced, answer, first-stored, ready-word}
 
 -- each list keeps the rule of groups: its words begin with bytes from 20 to 5F
 pub ranged-list : (l : WordList) → T (ranged (capitals (wordsOf l)))
-unfolding ranged capitals v2Words operators tsbWords escapeNames
+unfolding ranged capitals v2Words operators tsbWords escapeNames basic35Words
 ranged-list V2 = tt
 ranged-list Operators = tt
 ranged-list Tsb = tt
 ranged-list Escapes = tt
+ranged-list Basic35 = tt
 
 -- ---- the search of a list, with a test of places and words that only words of the text's group pass
 
@@ -72,11 +74,11 @@ module _ {bytes index : List ℕ} (sp : SpellsWords bytes index) (l : WordList) 
   unfolding good
   capital-stored = and-left (raised (wordOf bytes index k)) _ good-stored
 
-  rest-stored : T (eqb (initial (wordOf bytes index k)) b && (between 32 95 (initial (wordOf bytes index k)) && ltb (getD index (312 + k) 0) (length (wordsOf l))))
+  rest-stored : T (eqb (initial (wordOf bytes index k)) b && (between 32 95 (initial (wordOf bytes index k)) && ltb (getD index (362 + k) 0) (length (wordsOf l))))
   unfolding good
   rest-stored = and-right (raised (wordOf bytes index k)) _ good-stored
 
-  pub place-stored : getD index (312 + k) 0 < length (wordsOf l)
+  pub place-stored : getD index (362 + k) 0 < length (wordsOf l)
   place-stored =
       ltb→lt _ _ (and-right (between 32 95 (initial (wordOf bytes index k))) _ (and-right (eqb (initial (wordOf bytes index k)) b) _ rest-stored))
 
@@ -103,11 +105,12 @@ part-stored text l from a b sp = record {
 
 -- ---- the look-up of a group
 
-pub groups-within : (l : WordList) → (623 ≤ groupsOf l) × (groupsOf l ≤ 815)
+pub groups-within : (l : WordList) → (723 ≤ groupsOf l) × (groupsOf l ≤ 979)
 groups-within V2 = (omega arith, omega arith)
 groups-within Operators = (omega arith, omega arith)
 groups-within Tsb = (omega arith, omega arith)
 groups-within Escapes = (omega arith, omega arith)
+groups-within Basic35 = (omega arith, omega arith)
 
 initial-first : (t : List ℕ) → (length t ≡ 0 → ⊥) → initial t ≡ upper (getD t 0 0)
 unfolding initial
@@ -141,15 +144,15 @@ module _ (u : ℕ) {r : Bool} where
   pub group-fits : (l : WordList) {g w : ℕ} → w ≡ u - 32 → g ≡ groupsOf l → not r ≡ false → r ≡ between 32 95 u → Fits w64 (g + w)
   group-fits l d k n e = record { fits = omega (arith, groups-within l, between-in 32 95 u (sym e ∙ not-false r n)) }
 
-  pub group-within : (l : WordList) (index : List ℕ) {g w : ℕ} → w ≡ u - 32 → g ≡ groupsOf l → not r ≡ false → r ≡ between 32 95 u → 880 ≤ length index → g + w + 1 < length index
+  pub group-within : (l : WordList) (index : List ℕ) {g w : ℕ} → w ≡ u - 32 → g ≡ groupsOf l → not r ≡ false → r ≡ between 32 95 u → 1044 ≤ length index → g + w + 1 < length index
   group-within l index d k n e s = omega (arith, groups-within l, between-in 32 95 u (sym e ∙ not-false r n))
 
 pub section-read : (index : List ℕ) (at : ℕ) {from to : ℕ} → from ≡ getD index at 0 → to ≡ getD index (at + 1) 0
     → _≡_ {A = Section} (record { from = from; to = to }) (record { from = getD index at 0; to = getD index (at + 1) 0 })
 section-read index at e f = rw (e, f)
 
-pub found-read : (bytes index : List ℕ) (i : ℕ) {place : ℕ} {word : List ℕ} → place ≡ getD index (312 + i) 0 → word ≡ wordOf bytes index i
-    → Word place (length word) (getD bytes (1482 + i) 0) ≡ wordFound bytes index i
+pub found-read : (bytes index : List ℕ) (i : ℕ) {place : ℕ} {word : List ℕ} → place ≡ getD index (362 + i) 0 → word ≡ wordOf bytes index i
+    → Word place (length word) (getD bytes (1727 + i) 0) ≡ wordFound bytes index i
 found-read bytes index i e f = rw (e, f)
 
 -- ---- `match_in`

@@ -1,3 +1,4 @@
+pub mod Basic35
 pub mod Escapes
 pub mod Rom
 pub mod Sets

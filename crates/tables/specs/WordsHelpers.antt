@@ -1,4 +1,4 @@
--- For the helpers that are lent the two tables of words, and for no promise of a public call: what makes the tables document 01's lists,
+-- For the helpers that are lent the two tables of words, and for no promise of a public call: what makes the tables the documents' lists,
 -- grouped by first byte (document 02, No. 11: "grouped by first byte, keeping the old order within a group").
 -- Assumes nothing.
 use Prim.Native.Nat.{ℕ, zero, suc, _+_, _-_, _≤_, _<_}
@@ -16,8 +16,9 @@ use Rattle.words.specs.declared.Section.{Section}
 use Rattle.tables.specs.Rom.{v2Words, operators}
 use Rattle.tables.specs.Tsb.{tsbWords}
 use Rattle.tables.specs.Escapes.{escapeNames}
+use Rattle.tables.specs.Basic35.{basic35Words}
 use Rattle.tables.specs.declared.matching.WordList.{WordList}
-use Rattle.tables.specs.declared.matching.WordList.the-variants.{V2, Operators, Tsb, Escapes}
+use Rattle.tables.specs.declared.matching.WordList.the-variants.{V2, Operators, Tsb, Escapes, Basic35}
 
 -- ---- the lists
 
@@ -26,6 +27,7 @@ wordsOf V2 = v2Words
 wordsOf Operators = operators
 wordsOf Tsb = tsbWords
 wordsOf Escapes = escapeNames
+wordsOf Basic35 = basic35Words
 
 -- a list with its words in capitals, as they are stored
 unfoldable pub capitals : List Entry → List Entry
@@ -62,14 +64,15 @@ unfoldable pub storedWords : List ℕ → List ℕ → ℕ → ℕ → List Plac
 unfolding wordOf
 storedWords bytes index i zero = []
 storedWords bytes index i (suc n) =
-    record { place = getD index (312 + i) 0; word = wordOf bytes index i; token = getD bytes (1482 + i) 0 } ∷ storedWords bytes index (suc i) n
+    record { place = getD index (362 + i) 0; word = wordOf bytes index i; token = getD bytes (1727 + i) 0 } ∷ storedWords bytes index (suc i) n
 
 -- where the groups of a list begin in the index
 abbrev pub groupsOf : WordList → ℕ
-groupsOf V2 = 623
-groupsOf Operators = 687
-groupsOf Tsb = 751
-groupsOf Escapes = 815
+groupsOf V2 = 723
+groupsOf Operators = 787
+groupsOf Tsb = 851
+groupsOf Escapes = 915
+groupsOf Basic35 = 979
 
 -- the group of a byte; a byte that is none of 20 to 5F begins no word
 unfoldable pub groupAt : List ℕ → WordList → ℕ → Section
@@ -82,19 +85,19 @@ groupAt index l b =
 
 -- stored word i, as the search of its list answers it
 abbrev pub wordFound : List ℕ → List ℕ → ℕ → Match
-wordFound bytes index i = Word (getD index (312 + i) 0) (length (wordOf bytes index i)) (getD bytes (1482 + i) 0)
+wordFound bytes index i = Word (getD index (362 + i) 0) (length (wordOf bytes index i)) (getD bytes (1727 + i) 0)
 
 -- stored word i lies in the tables with its place and its token
 pub record Held (bytes index : List ℕ) (i : ℕ) : Type 0 where
-  pub token : 1482 + i < length bytes
-  pub place : 312 + i < length index
+  pub token : 1727 + i < length bytes
+  pub place : 362 + i < length index
   pub lies : Lies bytes index i
 
 -- the tables spell the lists, group by group
 pub record SpellsWords (bytes index : List ℕ) : Type 0 where
-  pub bytesLong : 1793 ≤ length bytes
-  pub indexLong : 880 ≤ length index
-  pub lie : (k : ℕ) → k < 311 → Lies bytes index k
+  pub bytesLong : 2088 ≤ length bytes
+  pub indexLong : 1044 ≤ length index
+  pub lie : (k : ℕ) → k < 361 → Lies bytes index k
   pub up : (l : WordList) (b : ℕ) → groupAt index l b .from ≤ groupAt index l b .to
-  pub end : (l : WordList) (b : ℕ) → groupAt index l b .to ≤ 311
+  pub end : (l : WordList) (b : ℕ) → groupAt index l b .to ≤ 361
   pub spells : (l : WordList) (b : ℕ) → storedWords bytes index (groupAt index l b .from) (groupAt index l b .to - groupAt index l b .from) ≡ grouped b 0 (capitals (wordsOf l))

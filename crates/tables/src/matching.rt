@@ -11,7 +11,8 @@ ghost use Rattle.words.specs.Find.{matchIn, wordIn, nameIn};
 ghost use Rattle.tables.specs.Rom.{v2Words, operators};
 ghost use Rattle.tables.specs.Tsb.{tsbWords};
 ghost use Rattle.tables.specs.Escapes.{escapeNames};
-ghost use Rattle.tables.specs.Sets.{liveWord};
+ghost use Rattle.tables.specs.Basic35.{basic35Words};
+ghost use Rattle.tables.specs.Sets.{liveWord, plainWord};
 ghost use Rattle.tables.specs.WordsHelpers.{SpellsWords, Held, wordsOf, capitals, initial, groupsOf, groupAt, wordFound};
 
 pub enum WordList {
@@ -19,6 +20,7 @@ pub enum WordList {
     Operators,
     Tsb,
     Escapes,
+    Basic35,
 }
 
 // Where the groups of a list begin in the index.
@@ -30,12 +32,13 @@ fn groups_of(list: WordList) -> usize
         WordList::Operators => spellings::GROUPS + 64,
         WordList::Tsb => spellings::GROUPS + 128,
         WordList::Escapes => spellings::GROUPS + 192,
+        WordList::Basic35 => spellings::GROUPS + 256,
     }
 }
 
 // The words of a list that begin as the text does.
 fn group_of(list: WordList, text: &[u8], index: &[u16]) -> Section
-    requires { ⌜ 880 ≤ length (now index) ⌝ }
+    requires { ⌜ 1044 ≤ length (now index) ⌝ }
     ensures { λ r. ⌜ r ≡ groupAt (now (index .entry)) list (initial (now (text .entry))) ⌝ }
 {
     if text.len() == 0 {
@@ -61,8 +64,8 @@ fn section_at(index: &[u16], at: usize) -> Section
 
 // The place of stored word i in its list.
 fn place_of(index: &[u16], i: usize) -> usize
-    requires { ⌜ 312 + i < length (now index) ⌝ }
-    ensures { λ r. ⌜ r ≡ getD (now (index .entry)) (312 + i) 0 ⌝ }
+    requires { ⌜ 362 + i < length (now index) ⌝ }
+    ensures { λ r. ⌜ r ≡ getD (now (index .entry)) (362 + i) 0 ⌝ }
 {
     let at = spellings::PLACES + i;
     ascii::wide16(index[at])
@@ -102,6 +105,45 @@ pub fn match_v2(text: &[u8], bytes: &[u8], index: &[u16]) -> Match
     ensures { λ r. ⌜ r ≡ wordIn v2Words (now (text .entry)) ⌝ }
 {
     match_in(WordList::V2, Test::Begins, text, bytes, index)
+}
+
+// The word of BASIC 3.5 that the text begins with.
+fn match_basic35(text: &[u8], bytes: &[u8], index: &[u16]) -> Match
+    requires { ⌜ SpellsWords (now bytes) (now index) ⌝ }
+    ensures { λ r. ⌜ r ≡ wordIn basic35Words (now (text .entry)) ⌝ }
+{
+    match_in(WordList::Basic35, Test::Begins, text, bytes, index)
+}
+
+// The word that the text begins with: a V2 word, or under BASIC 3.5 one of its own, which stand behind the V2 words in the list of both.
+// No V2 word begins one of these, so the first is the longest.
+pub fn match_plain(text: &[u8], bytes: &[u8], index: &[u16], sets: Sets) -> Match
+    requires { ⌜ SpellsWords (now bytes) (now index) ⌝ }
+    ensures { λ r. ⌜ r ≡ plainWord sets v2Words basic35Words (now (text .entry)) ⌝ }
+{
+    let v2 = match_v2(text, bytes, index);
+    if !sets.basic35 {
+        return v2;
+    }
+    match v2 {
+        Match::Word {
+            index: _,
+            used: _,
+            token: _,
+        } => v2,
+        Match::Nothing => match match_basic35(text, bytes, index) {
+            Match::Word {
+                index: place,
+                used,
+                token,
+            } => Match::Word {
+                index: spellings::V2_WORDS + place,
+                used,
+                token,
+            },
+            Match::Nothing => Match::Nothing,
+        },
+    }
 }
 
 // The operator that the text begins with.

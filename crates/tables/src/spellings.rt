@@ -1,20 +1,23 @@
 // The words of crunching, as two tables that are lent together: the bytes of all words, in capitals, with a token for each behind them; and
-// an index with the start of each word, its place in the order of source.rs, and where each group of words begins.
-// The V2 words, the operators, the TSB words and the escape names stand one list behind the other. Within a list the words that begin
-// with one byte stand together, in the order of source.rs; the groups stand in the order of these bytes, 20 to 5F.
+// an index with the start of each word, its place in its list, and where each group of words begins.
+// The V2 words, the operators, the TSB words, the escape names and the words of BASIC 3.5 stand one list behind the other. Within a list
+// the words that begin with one byte stand together, in the list's order; the groups stand in the order of these bytes, 20 to 5F.
+
+// How many V2 words there are.
+pub const V2_WORDS: usize = 68;
 
 // Where the tokens begin behind the bytes of the words.
-pub const TOKENS: usize = 1482;
+pub const TOKENS: usize = 1727;
 
 // Where the places begin in the index.
-pub const PLACES: usize = 312;
+pub const PLACES: usize = 362;
 
 // Where the groups begin in the index: for each list one for each byte from 20 to 5F, and at last the end of all words.
-pub const GROUPS: usize = 623;
+pub const GROUPS: usize = 723;
 
-// The words, and behind them for each word an operator's or a V2 word's token, the byte behind 64 of a TSB word, or the code of an escape
-// name.
-pub const WORD_BYTES: [u8; 1793] = *b"\
+// The words, and behind them for each word the token of an operator or of a word of V2 or BASIC 3.5, the byte behind 64 of a TSB word, or
+// the code of an escape name.
+pub const WORD_BYTES: [u8; 2088] = *b"\
     ANDABSATNASCCONTCLRCMDCLOSECOSCHR$DATADIMDEFENDEXPFORFNFREGOTOGOSUBGETGOINPUT#INPUTIFINTLETLOAD\
     LISTLOGLENLEFT$MID$NEXTNEWNOTONOPENORPOKEPRINT#PRINTPOSPEEKREADRUNRESTORERETURNREMRNDRIGHT$STOP\
     SAVESYSSPC(STEPSGNSQRSINSTR$TAB(TOTHENTANUSRVERIFYVALWAIT\
@@ -34,6 +37,9 @@ pub const WORD_BYTES: [u8; 1793] = *b"\
     SH ASTERISKSH *SHIFT ASTERISKSHIFT *SH +SH -SH /SH @SH POUNDSH SPACESHIFT SPACESH CURSOR DOWN\
     SH CURSOR UPSH CURSOR LEFTSH CURSOR RIGHTSH UPSH DOWNSH LEFTSH RIGHTSH HOMESH RETURNUPWHITEWHT\
     YELLOWYEL\
+    AUTOBOXBACKUPCHARCIRCLECOLORCOLLECTCOPYDECDRAWDODIRECTORYDSAVEDLOADDELETEERR$ELSEEXITGRAPHIC\
+    GSHAPEHEX$HELPHEADERINSTRJOYKEYLOCATELOOPMONITORPUDEFPAINTRGRRCLRRLUMRDOTRESUMERENAMERENUMBER\
+    SOUNDSSHAPESCNCLRSCALESCRATCHTRAPTRONTROFFUSINGUNTILVOLWHILE\
     \xAF\xB6\xC1\xC6\x9A\x9C\x9D\xA0\xBE\xC7\x83\x86\x96\x80\xBD\x81\xA5\xB8\x89\x8D\xA1\xCB\x84\x85\
     \x8B\xB5\x88\x93\x9B\xBC\xC3\xC8\xCA\x82\xA2\xA8\x91\x9F\xB0\x97\x98\x99\xB9\xC2\x87\x8A\x8C\x8E\
     \x8F\xBB\xC9\x90\x94\x9E\xA6\xA9\xB4\xBA\xBF\xC4\xA3\xA4\xA7\xC0\xB7\x95\xC5\x92\
@@ -48,9 +54,12 @@ pub const WORD_BYTES: [u8; 1793] = *b"\
     \x14\x14\x1B\x85\x89\x86\x8A\x87\x8B\x88\x8C\x1E\x1E\x97\x97\x98\x98\x98\x98\x9B\x9B\x13\x94\x94\
     \x96\x96\x99\x99\x99\x9A\x9A\x9A\x9B\x9B\x9B\x9B\x9D\x0A\x9C\x98\x98\x81\x81\x9C\x9C\x96\x5C\xFF\
     \x1C\x1D\x0D\x12\x12\x12\x12\x92\x92\x92\x92\x83\x20\x03\xC0\xC0\xC0\xC0\xDB\xDD\xDF\xBA\xA9\xA0\
-    \xA0\x91\x11\x1D\x9D\x91\x11\x1D\x9D\x93\x8D\x91\x05\x05\x9E\x9E";
+    \xA0\x91\x11\x1D\x9D\x91\x11\x1D\x9D\x93\x8D\x91\x05\x05\x9E\x9E\
+    \xDC\xE1\xF6\xE0\xE2\xE7\xF3\xF4\xD1\xE5\xEB\xEE\xEF\xF0\xF7\xD3\xD5\xED\xDE\xE3\xD2\xEA\xF1\xD4\
+    \xCF\xF9\xE6\xEC\xFA\xDD\xDF\xCC\xCD\xCE\xD0\xD6\xF5\xF8\xDA\xE4\xE8\xE9\xF2\xD7\xD8\xD9\xFB\xFC\
+    \xDB\xFD";
 
-pub const WORD_INDEX: [u16; 880] = [
+pub const WORD_INDEX: [u16; 1044] = [
     // the starts
     0, // AND
     3, // ABS
@@ -363,7 +372,57 @@ pub const WORD_INDEX: [u16; 880] = [
     1470, // WHT
     1473, // YELLOW
     1479, // YEL
-    1482,
+    1482, // AUTO
+    1486, // BOX
+    1489, // BACKUP
+    1495, // CHAR
+    1499, // CIRCLE
+    1505, // COLOR
+    1510, // COLLECT
+    1517, // COPY
+    1521, // DEC
+    1524, // DRAW
+    1528, // DO
+    1530, // DIRECTORY
+    1539, // DSAVE
+    1544, // DLOAD
+    1549, // DELETE
+    1555, // ERR$
+    1559, // ELSE
+    1563, // EXIT
+    1567, // GRAPHIC
+    1574, // GSHAPE
+    1580, // HEX$
+    1584, // HELP
+    1588, // HEADER
+    1594, // INSTR
+    1599, // JOY
+    1602, // KEY
+    1605, // LOCATE
+    1611, // LOOP
+    1615, // MONITOR
+    1622, // PUDEF
+    1627, // PAINT
+    1632, // RGR
+    1635, // RCLR
+    1639, // RLUM
+    1643, // RDOT
+    1647, // RESUME
+    1653, // RENAME
+    1659, // RENUMBER
+    1667, // SOUND
+    1672, // SSHAPE
+    1678, // SCNCLR
+    1684, // SCALE
+    1689, // SCRATCH
+    1696, // TRAP
+    1700, // TRON
+    1704, // TROFF
+    1709, // USING
+    1714, // UNTIL
+    1719, // VOL
+    1722, // WHILE
+    1727,
     // the places
     42, // AND
     46, // ABS
@@ -676,6 +735,56 @@ pub const WORD_INDEX: [u16; 880] = [
     3, // WHT
     14, // YELLOW
     15, // YEL
+    16, // AUTO
+    21, // BOX
+    42, // BACKUP
+    20, // CHAR
+    22, // CIRCLE
+    27, // COLOR
+    39, // COLLECT
+    40, // COPY
+    5, // DEC
+    25, // DRAW
+    31, // DO
+    34, // DIRECTORY
+    35, // DSAVE
+    36, // DLOAD
+    43, // DELETE
+    7, // ERR$
+    9, // ELSE
+    33, // EXIT
+    18, // GRAPHIC
+    23, // GSHAPE
+    6, // HEX$
+    30, // HELP
+    37, // HEADER
+    8, // INSTR
+    3, // JOY
+    45, // KEY
+    26, // LOCATE
+    32, // LOOP
+    46, // MONITOR
+    17, // PUDEF
+    19, // PAINT
+    0, // RGR
+    1, // RCLR
+    2, // RLUM
+    4, // RDOT
+    10, // RESUME
+    41, // RENAME
+    44, // RENUMBER
+    14, // SOUND
+    24, // SSHAPE
+    28, // SCNCLR
+    29, // SCALE
+    38, // SCRATCH
+    11, // TRAP
+    12, // TRON
+    13, // TROFF
+    47, // USING
+    48, // UNTIL
+    15, // VOL
+    49, // WHILE
     // the groups
     0, // the V2 words: blank
     0, // the V2 words: !
@@ -933,5 +1042,69 @@ pub const WORD_INDEX: [u16; 880] = [
     311, // the escape names: ]
     311, // the escape names: ^
     311, // the escape names: _
-    311,
+    311, // the words of BASIC 3.5: blank
+    311, // the words of BASIC 3.5: !
+    311, // the words of BASIC 3.5: "
+    311, // the words of BASIC 3.5: #
+    311, // the words of BASIC 3.5: $
+    311, // the words of BASIC 3.5: %
+    311, // the words of BASIC 3.5: &
+    311, // the words of BASIC 3.5: '
+    311, // the words of BASIC 3.5: (
+    311, // the words of BASIC 3.5: )
+    311, // the words of BASIC 3.5: *
+    311, // the words of BASIC 3.5: +
+    311, // the words of BASIC 3.5: ,
+    311, // the words of BASIC 3.5: -
+    311, // the words of BASIC 3.5: .
+    311, // the words of BASIC 3.5: /
+    311, // the words of BASIC 3.5: 0
+    311, // the words of BASIC 3.5: 1
+    311, // the words of BASIC 3.5: 2
+    311, // the words of BASIC 3.5: 3
+    311, // the words of BASIC 3.5: 4
+    311, // the words of BASIC 3.5: 5
+    311, // the words of BASIC 3.5: 6
+    311, // the words of BASIC 3.5: 7
+    311, // the words of BASIC 3.5: 8
+    311, // the words of BASIC 3.5: 9
+    311, // the words of BASIC 3.5: :
+    311, // the words of BASIC 3.5: ;
+    311, // the words of BASIC 3.5: <
+    311, // the words of BASIC 3.5: =
+    311, // the words of BASIC 3.5: >
+    311, // the words of BASIC 3.5: ?
+    311, // the words of BASIC 3.5: @
+    311, // the words of BASIC 3.5: A
+    312, // the words of BASIC 3.5: B
+    314, // the words of BASIC 3.5: C
+    319, // the words of BASIC 3.5: D
+    326, // the words of BASIC 3.5: E
+    329, // the words of BASIC 3.5: F
+    329, // the words of BASIC 3.5: G
+    331, // the words of BASIC 3.5: H
+    334, // the words of BASIC 3.5: I
+    335, // the words of BASIC 3.5: J
+    336, // the words of BASIC 3.5: K
+    337, // the words of BASIC 3.5: L
+    339, // the words of BASIC 3.5: M
+    340, // the words of BASIC 3.5: N
+    340, // the words of BASIC 3.5: O
+    340, // the words of BASIC 3.5: P
+    342, // the words of BASIC 3.5: Q
+    342, // the words of BASIC 3.5: R
+    349, // the words of BASIC 3.5: S
+    354, // the words of BASIC 3.5: T
+    357, // the words of BASIC 3.5: U
+    359, // the words of BASIC 3.5: V
+    360, // the words of BASIC 3.5: W
+    361, // the words of BASIC 3.5: X
+    361, // the words of BASIC 3.5: Y
+    361, // the words of BASIC 3.5: Z
+    361, // the words of BASIC 3.5: [
+    361, // the words of BASIC 3.5: \
+    361, // the words of BASIC 3.5: ]
+    361, // the words of BASIC 3.5: ^
+    361, // the words of BASIC 3.5: _
+    361,
 ];

@@ -1,13 +1,16 @@
--- The texts of listing (document 01, "Reading and listing": "from the 128 texts in tokens.rs").
+-- The texts of listing (document 01, "Reading and listing": "from the 128 texts in tokens.rs"; document 02, No. 5: "shows its words instead
+-- of `{CC}` to `{FD}`").
 -- Assumes nothing.
 use Prim.Native.Nat.{ℕ, _-_}
 use mathlib.Core.Bool.{cond}
 use mathlib.Core.List.{List, [], _∷_, _++_}
 use lib.Dec.{eqb, ltb}
 use lib.ListN.{getD}
+use Rattle.ascii.specs.Bytes.{between}
 use Rattle.words.specs.Spelling.{bytesOf}
 use Rattle.tables.specs.Rom.{romWords}
 use Rattle.tables.specs.Tsb.{tsbWords, withToken}
+use Rattle.tables.specs.Basic35.{basic35Spellings}
 use Rattle.petscii.specs.ByteTexts.{hexByte}
 
 -- a byte of 80 or above outside quotes: the ROM's word, or its two digits in braces where the ROM has none, and pi
@@ -22,3 +25,8 @@ tokenText b =
 unfoldable pub textOf : ℕ → List ℕ
 unfolding withToken tsbWords tokenText
 textOf k = cond (ltb k 0x80) (withToken k tsbWords) (tokenText k)
+
+-- the same under BASIC 3.5: CC to FD are its words
+unfoldable pub textOf35 : ℕ → List ℕ
+unfolding textOf basic35Spellings between
+textOf35 k = cond (between 0xCC 0xFD k) (getD basic35Spellings (k - 0xCC) []) (textOf k)

@@ -1,11 +1,11 @@
 // The texts of listing as one run of bytes, with a start for each and one behind the last: below 80 the TSB word of the byte behind a 64,
-// empty where there is none; from 80 on the text of a byte outside quotes.
+// empty where there is none; from 80 on the text of a byte outside quotes; and behind FF the words of BASIC 3.5, CC to FD.
 ghost use mathlib.Core.Path.{_≡_};
 ghost use Rattle.words.specs.Compare.{same};
-ghost use Rattle.texts.specs.Texts.{textOf};
+ghost use Rattle.texts.specs.Texts.{textOf, textOf35};
 ghost use Rattle.texts.specs.TextsHelpers.{SpellsTexts};
 
-pub const TEXT_BYTES: [u8; 1025] = *b"\
+pub const TEXT_BYTES: [u8; 1270] = *b"\
     HIRESPLOTLINEBLOCKFCHRFCOLFILLRECROTDRAWCHARHI COLINVFRACMOVEPLACEUPBUPWLEFTWLEFTBDOWNBDOWNW\
     RIGHTBRIGHTWMULTICOLORMMOBBFLASHMOB SETMUSICFLASHREPEATPLAYDOCENTERENVELOPECGOTOWAVEFETCHAT(\
     UNTILUSEGLOBALRESETPROCCALLEXECEND PROCEXITEND LOOPON KEYDISABLERESUMELOOPDELAYCLSX!MAPSECURE\
@@ -16,9 +16,12 @@ pub const TEXT_BYTES: [u8; 1025] = *b"\
     PRINT#PRINTCONTLISTCLRCMDSYSOPENCLOSEGETNEWTAB(TOFNSPC(THENNOTSTEP+-*/^ANDOR>=<SGNINTABSUSRFRE\
     POSSQRRNDLOGEXPCOSSINTANATNPEEKLENSTR$VALASCCHR$LEFT$RIGHT$MID$GO{CC}{CD}{CE}{CF}{D0}{D1}{D2}\
     {D3}{D4}{D5}{D6}{D7}{D8}{D9}{DA}{DB}{DC}{DD}{DE}{DF}{E0}{E1}{E2}{E3}{E4}{E5}{E6}{E7}{E8}{E9}{EA}\
-    {EB}{EC}{ED}{EE}{EF}{F0}{F1}{F2}{F3}{F4}{F5}{F6}{F7}{F8}{F9}{FA}{FB}{FC}{FD}{FE}{PI}";
+    {EB}{EC}{ED}{EE}{EF}{F0}{F1}{F2}{F3}{F4}{F5}{F6}{F7}{F8}{F9}{FA}{FB}{FC}{FD}{FE}{PI}\
+    RGRRCLRRLUMJOYRDOTDECHEX$ERR$INSTRELSERESUMETRAPTRONTROFFSOUNDVOLAUTOPUDEFGRAPHICPAINTCHARBOX\
+    CIRCLEGSHAPESSHAPEDRAWLOCATECOLORSCNCLRSCALEHELPDOLOOPEXITDIRECTORYDSAVEDLOADHEADERSCRATCH\
+    COLLECTCOPYRENAMEBACKUPDELETERENUMBERKEYMONITORUSINGUNTILWHILE";
 
-pub const TEXT_STARTS: [u16; 257] = [
+pub const TEXT_STARTS: [u16; 307] = [
     0, // 00
     0, // 01 HIRES
     5, // 02 PLOT
@@ -275,7 +278,57 @@ pub const TEXT_STARTS: [u16; 257] = [
     1013, // FD {FD}
     1017, // FE {FE}
     1021, // FF {PI}
-    1025,
+    1025, // CC RGR under BASIC 3.5
+    1028, // CD RCLR under BASIC 3.5
+    1032, // CE RLUM under BASIC 3.5
+    1036, // CF JOY under BASIC 3.5
+    1039, // D0 RDOT under BASIC 3.5
+    1043, // D1 DEC under BASIC 3.5
+    1046, // D2 HEX$ under BASIC 3.5
+    1050, // D3 ERR$ under BASIC 3.5
+    1054, // D4 INSTR under BASIC 3.5
+    1059, // D5 ELSE under BASIC 3.5
+    1063, // D6 RESUME under BASIC 3.5
+    1069, // D7 TRAP under BASIC 3.5
+    1073, // D8 TRON under BASIC 3.5
+    1077, // D9 TROFF under BASIC 3.5
+    1082, // DA SOUND under BASIC 3.5
+    1087, // DB VOL under BASIC 3.5
+    1090, // DC AUTO under BASIC 3.5
+    1094, // DD PUDEF under BASIC 3.5
+    1099, // DE GRAPHIC under BASIC 3.5
+    1106, // DF PAINT under BASIC 3.5
+    1111, // E0 CHAR under BASIC 3.5
+    1115, // E1 BOX under BASIC 3.5
+    1118, // E2 CIRCLE under BASIC 3.5
+    1124, // E3 GSHAPE under BASIC 3.5
+    1130, // E4 SSHAPE under BASIC 3.5
+    1136, // E5 DRAW under BASIC 3.5
+    1140, // E6 LOCATE under BASIC 3.5
+    1146, // E7 COLOR under BASIC 3.5
+    1151, // E8 SCNCLR under BASIC 3.5
+    1157, // E9 SCALE under BASIC 3.5
+    1162, // EA HELP under BASIC 3.5
+    1166, // EB DO under BASIC 3.5
+    1168, // EC LOOP under BASIC 3.5
+    1172, // ED EXIT under BASIC 3.5
+    1176, // EE DIRECTORY under BASIC 3.5
+    1185, // EF DSAVE under BASIC 3.5
+    1190, // F0 DLOAD under BASIC 3.5
+    1195, // F1 HEADER under BASIC 3.5
+    1201, // F2 SCRATCH under BASIC 3.5
+    1208, // F3 COLLECT under BASIC 3.5
+    1215, // F4 COPY under BASIC 3.5
+    1219, // F5 RENAME under BASIC 3.5
+    1225, // F6 BACKUP under BASIC 3.5
+    1231, // F7 DELETE under BASIC 3.5
+    1237, // F8 RENUMBER under BASIC 3.5
+    1245, // F9 KEY under BASIC 3.5
+    1248, // FA MONITOR under BASIC 3.5
+    1255, // FB USING under BASIC 3.5
+    1260, // FC UNTIL under BASIC 3.5
+    1265, // FD WHILE under BASIC 3.5
+    1270,
 ];
 
 // The text of a byte, with the run lent.
@@ -284,6 +337,17 @@ pub fn text_at<'a>(bytes: &'a [u8], starts: &[u16], k: u8) -> &'a [u8]
     ensures { λ r. ⌜ now r ≡ textOf k ⌝ }
 {
     words::word_at(bytes, starts, k as usize)
+}
+
+// The text of a byte under BASIC 3.5.
+pub fn text35_at<'a>(bytes: &'a [u8], starts: &[u16], k: u8) -> &'a [u8]
+    requires { ⌜ SpellsTexts (now bytes) (now starts) ⌝ }
+    ensures { λ r. ⌜ now r ≡ textOf35 k ⌝ }
+{
+    if !ascii::between(0xCC, 0xFD, k) {
+        return text_at(bytes, starts, k);
+    }
+    words::word_at(bytes, starts, ascii::wide(k) + 52)
 }
 
 // Whether the text is the one of a byte.

@@ -12,8 +12,9 @@ use Rattle.units.specs.declared.Mode.{Mode}
 use Rattle.units.specs.declared.Mode.the-variants.{Plain, Quoted, Remark, Data, QuotedData}
 use Rattle.units.specs.declared.Rules.{Rules}
 use Rattle.units.specs.declared.Taken.{Taken}
-use Rattle.units.specs.declared.Unit.the-variants.{Char, Token, Pair, Lone}
-use Rattle.units.specs.Units.{toggledMode, modeBehind, oneUnit, prefixedUnit, unquotedUnit, quotedUnit, unitAt}
+use Rattle.units.specs.declared.Unit.{Unit}
+use Rattle.units.specs.declared.Unit.the-variants.{Char, Pair, Lone}
+use Rattle.units.specs.Units.{toggledMode, modeBehind, oneUnit, tokenUnit, prefixedUnit, unquotedUnit, quotedUnit, unitAt}
 
 -- the mode behind a byte
 module _ (rules : Rules) (b : ℕ) {mode : Mode} where
@@ -64,12 +65,12 @@ module _ (rules : Rules) (mode : Mode) (b : ℕ) (rest : List ℕ) {r : Taken} {
   unfolding unquotedUnit
   unquoted-quote e o t = rw (o, t) (simp (eq-eqb _ _ e))
 
-  pub unquoted-token : 0x80 ≤ b → r ≡ oneUnit (Token b) m → m ≡ modeBehind rules mode b → r ≡ unquotedUnit rules mode b rest
+  pub unquoted-token : {u : Unit} → 0x80 ≤ b → u ≡ tokenUnit rules b → r ≡ oneUnit u m → m ≡ modeBehind rules mode b → r ≡ unquotedUnit rules mode b rest
   unfolding unquotedUnit
-  unquoted-token l o t =
+  unquoted-token l is o t =
       let n : b ≡ 0x22 → ⊥ = λ q. omega arith in
       let k : b ≡ 0x64 → ⊥ = λ q. omega arith in
-      rw (o, t) (simp (ne-eqb _ _ n, ne-eqb _ _ k, le-leb _ _ l))
+      rw (o, t, is) (simp (ne-eqb _ _ n, ne-eqb _ _ k, le-leb _ _ l))
 
   pub unquoted-char : b < 0x80 → (b ≡ 0x22 → ⊥) → (b ≡ 0x64 → ⊥) → r ≡ oneUnit (Char b) m → m ≡ modeBehind rules mode b → r ≡ unquotedUnit rules mode b rest
   unfolding unquotedUnit

@@ -1,7 +1,8 @@
 -- What the bytes of a body are, one unit after the other (document 01, "Reading and listing": "A quote toggles quoting. Unquoted 64 and
 -- a next byte, even a quote, are a TSB word .. a last 64 is `{64}`. Unquoted 80 and above is from the 128 texts"). What a walk heeds
 -- beyond that is data (`Rules`): document 02, No. 6 and 12, heed remarks ("After an unquoted 8F that isn't the second byte of a TSB
--- pair"), No. 13 remarks and DATA, and No. 6 heeds no prefix under BasicV2. In DATA an 8F opens no remark.
+-- pair"), No. 13 remarks and DATA, and No. 6 heeds no prefix under BasicV2. In DATA an 8F opens no remark. No. 5 heeds no prefix either, and
+-- the tokens of BASIC 3.5.
 -- Assumes nothing.
 use Prim.Native.Nat.{ℕ, suc}
 use mathlib.Core.Bool.{cond}
@@ -14,7 +15,7 @@ use Rattle.units.specs.declared.Mode.the-variants.{Plain, Quoted, Remark
 use Rattle.units.specs.declared.Rules.{Rules}
 use Rattle.units.specs.declared.Taken.{Taken}
 use Rattle.units.specs.declared.Unit.{Unit}
-use Rattle.units.specs.declared.Unit.the-variants.{Char, Token, Pair, Lone, Remarked}
+use Rattle.units.specs.declared.Unit.the-variants.{Char, Token, Token35, Pair, Lone, Remarked}
 
 -- the mode behind a quote; in a remark quotes change nothing
 unfoldable pub toggledMode : Mode → Mode
@@ -39,6 +40,10 @@ modeBehind rules QuotedData b = QuotedData
 abbrev pub oneUnit : Unit → Mode → Taken
 oneUnit unit mode = record { unit = unit; used = 1; mode = mode }
 
+-- an unquoted byte of 80 or above
+abbrev pub tokenUnit : Rules → ℕ → Unit
+tokenUnit rules b = cond (rules .basic35) (Token35 b) (Token b)
+
 -- the prefix 64, and what follows it
 abbrev pub prefixedUnit : Mode → List ℕ → Taken
 prefixedUnit mode [] = oneUnit Lone mode
@@ -50,7 +55,7 @@ unfolding toggledMode modeBehind
 unquotedUnit rules mode b rest =
     cond (eqb b 0x22) (oneUnit (Char b) (toggledMode mode))
     (cond (eqb b 0x64) (cond (rules .prefix) (prefixedUnit mode rest) (oneUnit (Char b) mode))
-    (oneUnit (cond (leb 0x80 b) (Token b) (Char b)) (modeBehind rules mode b)))
+    (oneUnit (cond (leb 0x80 b) (tokenUnit rules b) (Char b)) (modeBehind rules mode b)))
 
 -- a quoted byte
 unfoldable pub quotedUnit : Mode → ℕ → Taken

@@ -16,11 +16,12 @@ pub enum Mode {
     QuotedData,
 }
 
-// What a walk over a body heeds: 64 as a prefix, 8F as the start of a remark, 83 as the start of the items of DATA.
+// What a walk over a body heeds: 64 as a prefix, 8F as the start of a remark, 83 as the start of the items of DATA, the tokens of BASIC 3.5.
 pub struct Rules {
     pub prefix: bool,
     pub remarks: bool,
     pub items: bool,
+    pub basic35: bool,
 }
 
 // What stands at a place of a body.
@@ -29,6 +30,8 @@ pub enum Unit {
     Char(u8),
     // An unquoted byte of 80 or above.
     Token(u8),
+    // The same under BASIC 3.5.
+    Token35(u8),
     // The prefix 64 and the byte behind it.
     Pair(u8),
     // The prefix 64 with nothing behind it.
@@ -73,9 +76,20 @@ fn unquoted(body: &[u8], i: usize, mode: Mode, rules: Rules) -> Taken
         return one(Unit::Char(b), mode);
     }
     if b >= 0x80 {
-        return one(Unit::Token(b), behind(rules, mode, b));
+        return one(token(rules.basic35, b), behind(rules, mode, b));
     }
     one(Unit::Char(b), behind(rules, mode, b))
+}
+
+// An unquoted byte of 80 or above.
+fn token(basic35: bool, b: u8) -> Unit
+    ensures { λ r. ⌜ r ≡ cond basic35 (Unit.Token35 b) (Unit.Token b) ⌝ }
+{
+    if basic35 {
+        Unit::Token35(b)
+    } else {
+        Unit::Token(b)
+    }
 }
 
 // The prefix at place i, and the byte behind it if there is one.

@@ -16,7 +16,7 @@ returns-2 c = search named-high
 
 first-passing-requires : tie.Need-first-passing-requires
 unfolding allBelow readyAt upper between
-first-passing-requires c κs = stored-below _ _ _ 8 tt
+first-passing-requires c κs = stored-below _ _ _ 9 tt
 
 returns-3 : tie.Need-returns-3
 unfolding upper between spellsNames dialectNames

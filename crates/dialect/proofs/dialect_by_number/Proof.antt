@@ -19,7 +19,11 @@ unfolding byNumber
 returns-3 c = cc
 
 returns-4 : tie.Need-returns-4
-returns-4 c = by-other _ (c .match .rest .0 .0 .1) (c .match .rest .0 .1) (c .match .rest .1)
+unfolding byNumber
+returns-4 c = cc
+
+returns-5 : tie.Need-returns-5
+returns-5 c = by-other _ (c .match .rest .0 .0 .0 .1) (c .match .rest .0 .0 .1) (c .match .rest .0 .1) (c .match .rest .1)
 
 pub dialect-by-number-spec : {M : Type 1} → statement M
-dialect-by-number-spec = tie.close (tie.spec returns returns-2 returns-3 returns-4)
+dialect-by-number-spec = tie.close (tie.spec returns returns-2 returns-3 returns-4 returns-5)

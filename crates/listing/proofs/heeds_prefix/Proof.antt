@@ -17,6 +17,10 @@ returns-3 : tie.Need-returns-3
 unfolding heedsPrefix
 returns-3 c = search
 
+returns-4 : tie.Need-returns-4
+unfolding heedsPrefix
+returns-4 c = search
+
 pub heeds-prefix-spec : {M : Type 1} → statement M
 heeds-prefix-spec =
     tie.close
@@ -24,6 +28,8 @@ heeds-prefix-spec =
     (λ c. search needs)
     (λ c. search needs)
     (λ c. search needs)
+    (λ c. search needs)
     returns
     returns-2
-    returns-3)
+    returns-3
+    returns-4)

@@ -13,4 +13,5 @@ rules-under-spec =
     tie.close
     (tie.spec
     (λ c κs. search needs)
+    (λ c κs. search needs)
     returns)

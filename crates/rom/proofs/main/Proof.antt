@@ -6,10 +6,10 @@ use Rattle.rom.proofs.main.Statement.{statement}
 use Rattle.rom.proofs.main.Tie as tie
 
 abbrev Inv-loop : tie.InvT-loop
-Inv-loop k₀ k = k ≤ 0xCC
+Inv-loop k₀ k = k ≤ 0xFE
 
 abbrev μ-loop : tie.MeasureT-loop
-μ-loop k₀ k = 0xCC - k
+μ-loop k₀ k = 0xFE - k
 
 loop-holds : tie.Need-loop-holds Inv-loop μ-loop
 loop-holds c = search needs

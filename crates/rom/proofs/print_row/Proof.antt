@@ -7,9 +7,9 @@ use borrow.Author.Needs.{needs}
 use Rattle.rom.proofs.print_row.Statement.{statement}
 use Rattle.rom.proofs.print_row.Tie as tie
 
-text-at-requires : tie.Need-text-at-requires
+text35-at-requires : tie.Need-text35-at-requires
 unfolding textBytes textStarts
-text-at-requires c κs = texts-spelt refl refl
+text35-at-requires c κs = texts-spelt refl refl
 
 token-of-requires : tie.Need-token-of-requires
 unfolding wordBytes wordIndex
@@ -21,7 +21,7 @@ print-row-spec =
     (tie.spec
     (λ c. search needs)
     (λ c. search needs)
-    text-at-requires
+    text35-at-requires
     (λ c. search needs)
     (λ c. search needs)
     token-of-requires

@@ -35,6 +35,7 @@ unquoted-spec =
     returns-3
     (λ c κs. search needs)
     (λ c κs. search needs)
+    (λ c κs. search needs)
     returns-4
     (λ c κs. search needs)
     (λ c κs. search needs)

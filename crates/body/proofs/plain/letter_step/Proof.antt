@@ -1,7 +1,7 @@
 -- `body::plain::letter_step` meets its contract: no operator begins with a letter.
 -- Assumes nothing.
 use Rattle.body.proofs.Beginnings.{document-proper}
-use Rattle.body.proofs.PlainSteps.{letter-tsb, letter-v2, letter-other}
+use Rattle.body.proofs.PlainSteps.{letter-tsb, letter-plain, letter-other}
 use borrow.Author.Needs.{needs}
 use Rattle.body.proofs.plain.letter_step.Statement.{statement}
 use Rattle.body.proofs.plain.letter_step.Tie as tie
@@ -10,7 +10,7 @@ returns : tie.Need-returns
 returns c = search letter-tsb
 
 returns-2 : tie.Need-returns-2
-returns-2 c = search letter-v2
+returns-2 c = search letter-plain
 
 returns-3 : tie.Need-returns-3
 returns-3 c = search (letter-other, document-proper)

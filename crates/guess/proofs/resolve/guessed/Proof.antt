@@ -1,7 +1,7 @@
 -- `guess::resolve::guessed` meets its contract: the stored words are the lists', and in each arm the dialect is known.
 -- Assumes nothing.
 use mathlib.Core.Path.{refl}
-use Rattle.guess.proofs.Texts.{auto-tsb, auto-v2, as-v2, as-tsb}
+use Rattle.guess.proofs.Texts.{auto-tsb, auto-v2, as-v2, as-tsb, as-basic35}
 use Rattle.tables.proofs.Laid.{wordBytes, wordIndex, words-spelt}
 use borrow.Author.Needs.{needs}
 use Rattle.guess.proofs.resolve.guessed.Statement.{statement}
@@ -23,6 +23,9 @@ returns-3 c = search as-v2
 returns-4 : tie.Need-returns-4
 returns-4 c = search as-tsb
 
+returns-5 : tie.Need-returns-5
+returns-5 c = search as-basic35
+
 pub guessed-spec : {M : Type 1} → statement M
 guessed-spec =
     tie.close
@@ -33,7 +36,9 @@ guessed-spec =
     text-evidence-requires
     (λ c. search needs)
     (λ c. search needs)
+    (λ c. search needs)
     returns
     returns-2
     returns-3
-    returns-4)
+    returns-4
+    returns-5)

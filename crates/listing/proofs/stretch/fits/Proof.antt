@@ -1,4 +1,4 @@
--- `listing::stretch::fits` meets its contract: no unit's text is longer than eight bytes.
+-- `listing::stretch::fits` meets its contract: no unit's text is longer than nine bytes.
 -- Assumes nothing.
 use Rattle.listing.proofs.Stretches.{any-fits, measured-fits}
 use borrow.Author.Needs.{needs}

@@ -1,0 +1,26 @@
+-- `moldthatch::moldthatch_list_under_room` meets its contract.
+-- Assumes nothing.
+use Rattle.moldthatch.proofs.Telling.{tells-listing-room, tells-unlisted-room}
+use borrow.Author.Needs.{needs}
+use Rattle.moldthatch.proofs.moldthatch_list_under_room.Statement.{statement}
+use Rattle.moldthatch.proofs.moldthatch_list_under_room.Tie as tie
+
+returns : tie.Need-returns
+returns c = search tells-listing-room
+
+returns-2 : tie.Need-returns-2
+returns-2 c = search tells-unlisted-room
+
+pub moldthatch-list-under-room-spec : {M : Type 1} → statement M
+moldthatch-list-under-room-spec =
+    tie.close
+    (tie.spec
+    (λ c κs. search needs)
+    (λ c. search needs)
+    (λ c κs. search needs)
+    (λ c κs. search needs)
+    (λ c κs. search needs)
+    (λ c. search needs)
+    (λ c κs. search needs)
+    returns
+    returns-2)
