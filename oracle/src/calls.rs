@@ -1,10 +1,10 @@
 //! The calls that a request can stand for, and how each is laid out in a payload.
 
 use crate::counted;
+use crate::dialects::Dialect;
 use crate::fields::Fields;
 use crate::frames::Request;
 use crate::modes::ListOptions;
-use crate::tokens::Dialect;
 
 /// The largest room that a call can be lent.
 pub const ROOM_LIMIT: usize = 524_288;
@@ -21,6 +21,9 @@ pub const STEP_BY_LINKS: u8 = 0x09;
 pub const LISTING: u8 = 0x0A;
 pub const LISTING_ROOM: u8 = 0x0B;
 pub const LINE_BY_NUMBER: u8 = 0x12;
+pub const DEFAULT_LOAD: u8 = 0x13;
+pub const DIALECT_LISTING: u8 = 0x14;
+pub const DIALECT_LISTING_ROOM: u8 = 0x15;
 pub const SECOND_LISTING: u8 = 0x16;
 pub const SECOND_LISTING_ROOM: u8 = 0x17;
 pub const ADDRESSED_STEP_BY_TERMINATORS: u8 = 0x18;
@@ -41,7 +44,7 @@ pub const LINKED_LISTING_ROOM: u8 = 0x31;
 
 /// Whether the original, or a model of our own, can answer an op.
 pub fn is_known(op: u8) -> bool {
-    matches!(op, CRUNCH..=LISTING_ROOM | LINE_BY_NUMBER)
+    matches!(op, CRUNCH..=LISTING_ROOM | LINE_BY_NUMBER | DEFAULT_LOAD)
         || matches!(op, ADDRESSED_STEP_BY_TERMINATORS..=JUMP_REPORT)
         || is_under_options(op)
         || is_of_disks(op)
@@ -54,7 +57,7 @@ pub fn is_of_texts(op: u8) -> bool {
 
 /// Whether an op lists as options ask for it.
 pub fn is_under_options(op: u8) -> bool {
-    matches!(op, SECOND_LISTING | SECOND_LISTING_ROOM)
+    matches!(op, DIALECT_LISTING..=SECOND_LISTING_ROOM)
         || matches!(op, LINKED_LISTING | LINKED_LISTING_ROOM)
 }
 
@@ -117,6 +120,11 @@ pub enum Call<'a> {
         by: Reader,
         offset: u64,
         image: &'a [u8],
+    },
+    DefaultLoad {
+        dialect: Dialect,
+        /// What follows the dialect; it is not heeded.
+        rest: &'a [u8],
     },
     ListingUnder {
         options: ListOptions,
@@ -222,15 +230,21 @@ impl<'a> Call<'a> {
             },
             ADDRESSED_STEP_BY_TERMINATORS => fields.addressed_step(Reader::Terminators)?,
             ADDRESSED_STEP_BY_LINKS => fields.addressed_step(Reader::Links)?,
-            SECOND_LISTING | LINKED_LISTING => Call::ListingUnder {
+            DEFAULT_LOAD => Call::DefaultLoad {
+                dialect: fields.dialect()?,
+                rest: fields.rest(),
+            },
+            DIALECT_LISTING | SECOND_LISTING | LINKED_LISTING => Call::ListingUnder {
                 options: fields.list_options(request.op)?,
                 room: fields.room()?,
                 image: fields.rest(),
             },
-            SECOND_LISTING_ROOM | LINKED_LISTING_ROOM => Call::ListingRoomUnder {
-                options: fields.list_options(request.op)?,
-                image: fields.rest(),
-            },
+            DIALECT_LISTING_ROOM | SECOND_LISTING_ROOM | LINKED_LISTING_ROOM => {
+                Call::ListingRoomUnder {
+                    options: fields.list_options(request.op)?,
+                    image: fields.rest(),
+                }
+            }
             MEASURED_LINE => {
                 let (load, dialect) = (fields.address()?, fields.dialect()?);
                 fields.options()?;
@@ -330,19 +344,24 @@ impl<'a> Call<'a> {
                 room,
                 image,
             } => {
-                let op = match options.by {
-                    Reader::Terminators => SECOND_LISTING,
-                    Reader::Links => LINKED_LISTING,
+                let op = match (options.by, options.remarks) {
+                    (Reader::Terminators, false) => DIALECT_LISTING,
+                    (Reader::Terminators, true) => SECOND_LISTING,
+                    (Reader::Links, _) => LINKED_LISTING,
                 };
                 let fixed = [list_options(options), length_field(room)];
                 (op, fixed.concat(), image)
             }
             Call::ListingRoomUnder { options, image } => {
-                let op = match options.by {
-                    Reader::Terminators => SECOND_LISTING_ROOM,
-                    Reader::Links => LINKED_LISTING_ROOM,
+                let op = match (options.by, options.remarks) {
+                    (Reader::Terminators, false) => DIALECT_LISTING_ROOM,
+                    (Reader::Terminators, true) => SECOND_LISTING_ROOM,
+                    (Reader::Links, _) => LINKED_LISTING_ROOM,
                 };
                 (op, list_options(options), image)
+            }
+            Call::DefaultLoad { dialect, rest } => {
+                (DEFAULT_LOAD, vec![dialect_byte(dialect)], rest)
             }
             Call::MeasuredLine {
                 load,
@@ -396,8 +415,9 @@ pub fn fixed_part(op: u8) -> usize {
         LISTING => 4,
         LINE_BY_NUMBER => 2 + 8,
         ADDRESSED_STEP_BY_TERMINATORS | ADDRESSED_STEP_BY_LINKS => 8,
-        SECOND_LISTING => 1 + 4,
-        SECOND_LISTING_ROOM => 1,
+        DEFAULT_LOAD => 1,
+        DIALECT_LISTING | SECOND_LISTING => 1 + 4,
+        DIALECT_LISTING_ROOM | SECOND_LISTING_ROOM => 1,
         LINKED_LISTING => 1 + 1 + 4,
         LINKED_LISTING_ROOM => 1 + 1,
         MEASURED_LINE => 2 + 1 + 1 + 8,
@@ -418,6 +438,7 @@ pub fn dialect_byte(dialect: Dialect) -> u8 {
         Dialect::Auto => 0,
         Dialect::BasicV2 => 1,
         Dialect::Tsb => 2,
+        Dialect::Basic35 => 3,
     }
 }
 
@@ -447,7 +468,7 @@ fn place(load: u16, dialect: Dialect) -> Vec<u8> {
     vec![low, high, dialect_byte(dialect)]
 }
 
-/// By terminators the mode is the second, and by links it is a field.
+/// By terminators the op names the mode, and by links it is a field.
 fn list_options(options: ListOptions) -> Vec<u8> {
     let dialect = dialect_byte(options.dialect);
     match options.by {

@@ -1,8 +1,8 @@
 //! The fields of a payload, taken one after another.
 
 use crate::calls::{self, Call, ROOM_LIMIT, Reader};
+use crate::dialects::Dialect;
 use crate::modes::ListOptions;
-use crate::tokens::Dialect;
 
 /// The part of a payload that is not decoded yet.
 pub struct Fields<'a>(pub &'a [u8]);
@@ -34,6 +34,7 @@ impl<'a> Fields<'a> {
             [0] => Some(Dialect::Auto),
             [1] => Some(Dialect::BasicV2),
             [2] => Some(Dialect::Tsb),
+            [3] => Some(Dialect::Basic35),
             _ => None,
         }
     }
@@ -47,6 +48,7 @@ impl<'a> Fields<'a> {
     pub fn list_options(&mut self, op: u8) -> Option<ListOptions> {
         let dialect = self.dialect()?;
         let (by, remarks) = match op {
+            calls::DIALECT_LISTING | calls::DIALECT_LISTING_ROOM => (Reader::Terminators, false),
             calls::SECOND_LISTING | calls::SECOND_LISTING_ROOM => (Reader::Terminators, true),
             _ => match self.take()? {
                 [0] => (Reader::Links, false),

@@ -97,6 +97,7 @@ fn answer_call(call: &Call) -> Vec<u8> {
         Call::AddressedStep { by, offset, image } => {
             plain(addressed::step(by, offset, image).map(addressed_line))
         }
+        Call::DefaultLoad { dialect, .. } => plain(Ok(fields(&[dialect.default_load().into()]))),
         Call::ListingUnder {
             options,
             room,

@@ -1,13 +1,15 @@
 //! The library's calls as document 01 names them, each answered by the original.
 
+use crate::basic35;
 use crate::calls::Reader;
 use crate::corrections;
+use crate::dialects::Dialect;
 use crate::domain;
 use crate::links;
 use crate::prg::Program;
 use crate::refusal::Refusal;
 use crate::source::{self, TokenizeError};
-use crate::tokens::{self, Dialect};
+use crate::tokens;
 
 /// What checking a whole image answers.
 pub struct Checked {
@@ -24,6 +26,9 @@ pub struct Step {
 }
 
 pub fn crunch(load: u16, dialect: Dialect, text: &[u8]) -> Result<Vec<u8>, Refusal> {
+    let Some(dialect) = dialect.original() else {
+        return basic35::crunch(load, text);
+    };
     let text = domain::text(text)?;
     let crunched = |text: &str| source::tokenize_program_at_with(text, load, dialect);
     if let Some(cut) = domain::with_counts_cut(text)
@@ -39,11 +44,20 @@ pub fn crunch(load: u16, dialect: Dialect, text: &[u8]) -> Result<Vec<u8>, Refus
 }
 
 pub fn resolved_dialect(dialect: Dialect, text: &[u8]) -> Result<Dialect, Refusal> {
-    Ok(source::resolved_dialect(domain::text(text)?, dialect))
+    let text = domain::text(text)?;
+    Ok(match dialect.original() {
+        Some(dialect) => source::resolved_dialect(text, dialect).into(),
+        None => dialect,
+    })
 }
 
 pub fn dialect_by_name(word: &[u8]) -> Result<Dialect, Refusal> {
-    Dialect::parse(domain::dialect_name(word)?).map_err(|_| Refusal::UnknownDialect)
+    let name = domain::dialect_name(word)?;
+    if name.trim().eq_ignore_ascii_case("basic35") {
+        return Ok(Dialect::Basic35);
+    }
+    let found = tokens::Dialect::parse(name).map_err(|_| Refusal::UnknownDialect)?;
+    Ok(found.into())
 }
 
 pub fn is_tsb_word(word: &[u8]) -> bool {

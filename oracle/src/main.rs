@@ -11,10 +11,12 @@ use std::str::FromStr;
 include!(concat!(env!("OUT_DIR"), "/original.rs"));
 
 mod addressed;
+mod basic35;
 mod calls;
 mod compare;
 mod corrections;
 mod counted;
+mod dialects;
 mod disk;
 mod domain;
 mod endings;

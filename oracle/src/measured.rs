@@ -3,10 +3,10 @@
 //! The original gives the image. Which text line each of its lines comes from, and
 //! where it will stand, was written from document 02, No. 8.
 
+use crate::dialects::Dialect;
 use crate::domain;
 use crate::library;
 use crate::refusal::Refusal;
-use crate::tokens::Dialect;
 
 /// A line as the measuring pass knows it.
 #[derive(Debug, PartialEq, Eq)]

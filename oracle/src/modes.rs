@@ -1,15 +1,17 @@
-//! Listings in the second mode and by links: models over the original.
+//! Listings under a dialect, in the second mode and by links: models over the original.
 //!
-//! Written from document 02, No. 6. The original lists whatever has no remark of the
+//! Written from document 02, No. 5 and 6. The original lists whatever has no remark of the
 //! second mode in it; the parts that it would list otherwise are kept from it.
 
+use crate::basic35;
 use crate::calls::Reader;
+use crate::dialects::Dialect;
 use crate::domain;
 use crate::links;
 use crate::petscii;
 use crate::prg::{Line, Program};
 use crate::refusal::Refusal;
-use crate::tokens::{Dialect, TSB_PREFIX};
+use crate::tokens::TSB_PREFIX;
 
 const QUOTE: u8 = 0x22;
 const REMARK: u8 = 0x8F;
@@ -46,13 +48,18 @@ fn lines(by: Reader, image: &[u8]) -> Result<Vec<(u16, Vec<u8>)>, Refusal> {
 }
 
 fn body_text(options: ListOptions, body: &[u8]) -> String {
+    let is_basic35 = options.dialect == Dialect::Basic35;
     if !options.remarks {
-        return original(body);
+        return match is_basic35 {
+            true => with_words(body),
+            false => original(body),
+        };
     }
-    let has_prefix = options.dialect != Dialect::BasicV2;
+    let has_prefix = matches!(options.dialect, Dialect::Auto | Dialect::Tsb);
     let (before, remark) = body.split_at(remark_start(body, has_prefix));
     let listed = match has_prefix {
         true => original(before),
+        false if is_basic35 => with_words(before),
         false => without_prefix(before),
     };
     listed
@@ -87,6 +94,21 @@ fn without_prefix(body: &[u8]) -> String {
     });
     let parts: Vec<String> = parts.map(original).collect();
     parts.join(&petscii::byte_to_string(TSB_PREFIX))
+}
+
+/// The listing under BASIC 3.5, byte by byte: no byte takes another with it.
+fn with_words(body: &[u8]) -> String {
+    let mut quoted = false;
+    let mut listed = String::new();
+    for &byte in body {
+        listed += &match byte {
+            _ if quoted => original(&[QUOTE, byte])[1..].to_string(),
+            TSB_PREFIX => petscii::byte_to_string(byte),
+            _ => basic35::word(byte).map_or_else(|| original(&[byte]), str::to_string),
+        };
+        quoted ^= byte == QUOTE;
+    }
+    listed
 }
 
 fn remark_text(byte: u8) -> String {

@@ -1,6 +1,7 @@
 //! Requests and answers in a form to read.
 
 use crate::calls::{self, Call, Reader, dialect_byte};
+use crate::dialects::DIALECTS;
 use crate::disk::{self, DISK_LENGTH, SECTOR_LENGTH, Sector};
 use crate::frames::Request;
 use crate::judge::{DONE, ROOM_FILL};
@@ -61,6 +62,9 @@ fn of_call(call: &Call) -> String {
             room,
             image,
         } => format!("listing, {options:?}, room {room}: {}", hex(image)),
+        Call::DefaultLoad { dialect, rest } => {
+            format!("default load address of {dialect:?}: {}", hex(rest))
+        }
         Call::ListingRoomUnder { options, image } => {
             format!("room for the listing, {options:?}: {}", hex(image))
         }
@@ -118,8 +122,12 @@ fn of_results(op: u8, results: &[u8]) -> String {
         calls::CRUNCH | calls::LISTING | calls::LINE_INDEX | calls::JUMP_REPORT => {
             of_lent(op, results)
         }
-        calls::SECOND_LISTING | calls::LINKED_LISTING => of_lent(op, results),
+        calls::DIALECT_LISTING | calls::SECOND_LISTING | calls::LINKED_LISTING => {
+            of_lent(op, results)
+        }
+        calls::DEFAULT_LOAD => named(&["load address"], results),
         calls::CRUNCH_ROOM | calls::LISTING_ROOM => named(&["length"], results),
+        calls::DIALECT_LISTING_ROOM => named(&["length"], results),
         calls::SECOND_LISTING_ROOM | calls::LINKED_LISTING_ROOM => named(&["length"], results),
         calls::RESOLVED_DIALECT | calls::DIALECT_BY_NAME => of_dialect(results),
         calls::TSB_WORD => of_test(results),
@@ -164,7 +172,8 @@ fn of_lent(op: u8, results: &[u8]) -> Option<String> {
     let written = usize::try_from(number(length)?).ok()?;
     let (result, rest) = lent.split_at_checked(written)?;
     let result = match op {
-        calls::LISTING | calls::SECOND_LISTING | calls::LINKED_LISTING => quoted(result),
+        calls::LISTING | calls::DIALECT_LISTING => quoted(result),
+        calls::SECOND_LISTING | calls::LINKED_LISTING => quoted(result),
         _ => hex(result),
     };
     Some(format!("length {written}: {result}{}", room(rest)))
@@ -182,8 +191,7 @@ fn room(bytes: &[u8]) -> String {
 }
 
 fn of_dialect(results: &[u8]) -> Option<String> {
-    use crate::tokens::Dialect::{Auto, BasicV2, Tsb};
-    let found = [Auto, BasicV2, Tsb]
+    let found = DIALECTS
         .into_iter()
         .find(|&dialect| results == [dialect_byte(dialect)])?;
     Some(format!("{found:?}"))

@@ -1,6 +1,7 @@
 //! The cases that document 01 names, held against the judge; those of document 02
 //! have files of their own.
 
+mod basic35;
 mod counts;
 mod disk;
 mod indexes;
@@ -12,13 +13,13 @@ use std::time::{Duration, Instant};
 
 use crate::calls::Reader::{self, Links, Terminators};
 use crate::compare;
+use crate::dialects::Dialect;
 use crate::domain;
 use crate::generate::Cases;
 use crate::judge;
 use crate::library::{self, Step};
 use crate::program::Program;
 use crate::refusal::Refusal;
-use crate::tokens::Dialect;
 
 fn crunch(load: u16, text: &str) -> Result<Vec<u8>, Refusal> {
     library::crunch(load, Dialect::Auto, text.as_bytes())

@@ -7,10 +7,10 @@ use super::disk_calls;
 use super::images::well_formed;
 use super::requests::{self, C64_LOAD, TextCase};
 use crate::calls::{self, Call, ROOM_LIMIT};
+use crate::dialects::Dialect;
 use crate::domain::{IMAGE_LIMIT, TEXT_LIMIT};
 use crate::frames::{PAYLOAD_LIMIT, Request};
 use crate::random::Random;
-use crate::tokens::Dialect;
 
 /// A load address and the count of the escape in `1 "{red*COUNT}"`; the link is
 /// the load address plus the count plus 7, and FFFF is the last one allowed.
@@ -37,7 +37,7 @@ pub fn case(op: u8, number: usize) -> Option<Request> {
         calls::FORMAT_DISK..=calls::CHECK_DISK => disk_calls::case(op, number),
         calls::DIALECT_BY_NAME | calls::TSB_WORD => Some(requests::of_word(op, &word(op, number)?)),
         // The long lists of images are among the listed ones.
-        calls::COUNT_IMAGES => None,
+        calls::COUNT_IMAGES | calls::DEFAULT_LOAD => None,
         _ => Some(of_image(op, number, &image(op, number)?)),
     }
 }

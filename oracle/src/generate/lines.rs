@@ -4,8 +4,8 @@
 use super::images::well_formed;
 use super::requests::C64_LOAD;
 use crate::calls::{self, Call, Reader};
+use crate::dialects::Dialect;
 use crate::frames::Request;
-use crate::tokens::Dialect;
 
 /// Texts whose lines do not stand where they seem to: blank lines of every kind,
 /// every line end, and none at the end.

@@ -10,7 +10,7 @@ use crate::random::Random;
 /// Ops that stay unknown: those from 10 on are given to later requests in turn.
 const UNKNOWN_OPS: [u8; 8] = [0x00, 0x0C, 0x0D, 0x0E, 0x0F, 0xF0, 0xFE, 0xFF];
 
-/// Bytes that name no dialect; 3 is left out, since BASIC 3.5 will take it.
+/// Bytes that name no dialect.
 const UNKNOWN_DIALECTS: [u8; 5] = [4, 5, 0x7F, 0x80, 0xFF];
 
 /// Options of which no request gives all bits; 1, 2 and 3 are left out.
@@ -65,7 +65,7 @@ pub fn any(op: u8, random: &mut Random) -> Request {
 fn dialect_place(op: u8) -> Option<usize> {
     match op {
         calls::CRUNCH | calls::CRUNCH_ROOM | calls::MEASURED_LINE => Some(2),
-        calls::RESOLVED_DIALECT => Some(0),
+        calls::RESOLVED_DIALECT | calls::DEFAULT_LOAD => Some(0),
         _ if calls::is_under_options(op) => Some(0),
         _ => None,
     }
@@ -76,7 +76,7 @@ fn room_place(op: u8) -> Option<usize> {
     match op {
         calls::CRUNCH => Some(3),
         calls::LISTING | calls::READ_FILE => Some(0),
-        calls::SECOND_LISTING => Some(1),
+        calls::DIALECT_LISTING | calls::SECOND_LISTING => Some(1),
         calls::LINKED_LISTING => Some(2),
         _ => None,
     }

@@ -116,6 +116,7 @@ fn listed_first(op: u8, random: &mut Random) -> Vec<Request> {
         calls::DIALECT_BY_NAME => requests::of_words(op, &names::first_dialects()),
         calls::TSB_WORD => requests::of_words(op, &names::first_words()),
         calls::LINE_BY_NUMBER => lines::listed(op),
+        calls::DEFAULT_LOAD => requests::default_loads(),
         calls::COUNT_IMAGES => archives::listed(),
         calls::ADDRESSED_STEP_BY_TERMINATORS..=calls::MEASURED_LINE => lines::listed(op),
         calls::FORMAT_DISK..=calls::CHECK_DISK => disk_calls::listed(op, random),
@@ -129,7 +130,7 @@ fn enumerated(op: u8, random: &mut Random) -> Vec<Request> {
         calls::DIALECT_BY_NAME => requests::of_words(op, &names::listed_dialects()),
         calls::TSB_WORD => requests::of_words(op, &names::listed_words(random)),
         calls::COUNT_IMAGES => archives::enumerated(&images::listed()),
-        calls::FORMAT_DISK..=calls::CHECK_DISK => Vec::new(),
+        calls::FORMAT_DISK..=calls::CHECK_DISK | calls::DEFAULT_LOAD => Vec::new(),
         _ if calls::is_of_texts(op) => requests::of_texts(op, &texts::listed(), random),
         _ if calls::is_under_options(op) => {
             let images = [remarks::listed(), images::listed()].concat();
@@ -145,6 +146,7 @@ fn any(op: u8, random: &mut Random) -> Request {
         calls::TSB_WORD => requests::of_word(op, &names::any_word(random)),
         calls::COUNT_IMAGES => archives::any(random),
         calls::FORMAT_DISK..=calls::CHECK_DISK => disk_calls::any(op, random),
+        calls::DEFAULT_LOAD => requests::any_default_load(random),
         _ if calls::is_of_texts(op) => {
             let case = texts::any(random);
             requests::of_text(op, &case, random)

@@ -6,11 +6,16 @@ use crate::domain::NAME_LIMIT;
 use crate::random::Random;
 use crate::tables::{ESCAPE_NAMES, TSB_WORDS};
 
-const DIALECT_NAMES: [&str; 8] = [
-    "auto", "basic2", "basicv2", "v2", "basic-v2", "tsb", "simons", "ext",
+const DIALECT_NAMES: [&str; 9] = [
+    "auto", "basic2", "basicv2", "v2", "basic-v2", "tsb", "simons", "ext", "basic35",
 ];
 
-const NO_DIALECT_NAMES: [&str; 14] = [
+const NO_DIALECT_NAMES: [&str; 19] = [
+    "basic3.5",
+    "basic-35",
+    "basic3",
+    "v35",
+    "plus4",
     "",
     " ",
     "auto2",

@@ -1,12 +1,12 @@
 //! Turns texts, words and images into requests, with rooms and offsets.
 
 use crate::calls::{self, Call, ROOM_LIMIT, Reader};
+use crate::dialects::{DIALECTS, Dialect};
 use crate::frames::Request;
 use crate::indexes;
 use crate::library;
 use crate::modes::{self, ListOptions};
 use crate::random::Random;
-use crate::tokens::Dialect;
 
 /// Where a BASIC program of the Commodore 64 stands.
 pub const C64_LOAD: u16 = 0x0801;
@@ -100,6 +100,25 @@ pub fn of_words(op: u8, words: &[Vec<u8>]) -> Vec<Request> {
     words.iter().map(|word| of_word(op, word)).collect()
 }
 
+/// The default load address of each dialect.
+pub fn default_loads() -> Vec<Request> {
+    let rest = &[];
+    DIALECTS
+        .map(|dialect| Call::DefaultLoad { dialect, rest }.encode())
+        .into()
+}
+
+/// The same of any, sometimes with bytes behind it.
+pub fn any_default_load(random: &mut Random) -> Request {
+    let dialect = random.pick(&DIALECTS);
+    let rest = vec![random.byte(); random.below(3)];
+    Call::DefaultLoad {
+        dialect,
+        rest: &rest,
+    }
+    .encode()
+}
+
 pub fn of_image(op: u8, image: &[u8], random: &mut Random) -> Request {
     let call = match op {
         calls::CHECK_BY_TERMINATORS => check(Reader::Terminators, image),
@@ -117,7 +136,7 @@ pub fn of_image(op: u8, image: &[u8], random: &mut Random) -> Request {
             }
         }
         calls::LISTING_ROOM => Call::ListingRoom { image },
-        calls::SECOND_LISTING | calls::LINKED_LISTING => {
+        calls::DIALECT_LISTING | calls::SECOND_LISTING | calls::LINKED_LISTING => {
             let options = list_options(op, random);
             let listing = modes::listing(options, image);
             Call::ListingUnder {
@@ -126,10 +145,12 @@ pub fn of_image(op: u8, image: &[u8], random: &mut Random) -> Request {
                 image,
             }
         }
-        calls::SECOND_LISTING_ROOM | calls::LINKED_LISTING_ROOM => Call::ListingRoomUnder {
-            options: list_options(op, random),
-            image,
-        },
+        calls::DIALECT_LISTING_ROOM | calls::SECOND_LISTING_ROOM | calls::LINKED_LISTING_ROOM => {
+            Call::ListingRoomUnder {
+                options: list_options(op, random),
+                image,
+            }
+        }
         calls::LINE_INDEX => {
             let index = indexes::index(image);
             Call::LineIndex {
@@ -190,8 +211,13 @@ fn addressed_step<'a>(by: Reader, image: &'a [u8], random: &mut Random) -> Call<
 }
 
 fn list_options(op: u8, random: &mut Random) -> ListOptions {
-    let dialect = random.pick(&[Dialect::Auto, Dialect::BasicV2, Dialect::Tsb]);
+    let dialect = random.pick(&DIALECTS);
     match op {
+        calls::DIALECT_LISTING | calls::DIALECT_LISTING_ROOM => ListOptions {
+            dialect,
+            remarks: false,
+            by: Reader::Terminators,
+        },
         calls::SECOND_LISTING | calls::SECOND_LISTING_ROOM => ListOptions {
             dialect,
             remarks: true,

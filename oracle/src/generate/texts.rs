@@ -3,11 +3,9 @@
 use super::requests::TextCase;
 use super::strings::strings;
 use super::{damage, escapes, guesses, programs, words};
+use crate::dialects::{DIALECTS, Dialect};
 use crate::domain::PI;
 use crate::random::Random;
-use crate::tokens::Dialect;
-
-const DIALECTS: [Dialect; 3] = [Dialect::Auto, Dialect::BasicV2, Dialect::Tsb];
 
 const LINE_ENDS: [&str; 9] = [
     "", "\n", "\r", "\r\n", "\n\r", "\r\r\n", "\x0B", "\x0C", " \t\n",
@@ -176,7 +174,13 @@ pub fn any(random: &mut Random) -> TextCase {
 
 /// Auto twice as often as the others: it has the most to decide.
 pub fn any_dialect(random: &mut Random) -> Dialect {
-    random.pick(&[Dialect::Auto, Dialect::Auto, Dialect::BasicV2, Dialect::Tsb])
+    random.pick(&[
+        Dialect::Auto,
+        Dialect::Auto,
+        Dialect::BasicV2,
+        Dialect::Tsb,
+        Dialect::Basic35,
+    ])
 }
 
 pub fn any_load_address(random: &mut Random) -> u16 {

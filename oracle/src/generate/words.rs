@@ -1,19 +1,21 @@
-//! The words of both lists in other spellings.
+//! The words of the lists in other spellings.
 
+use crate::basic35;
 use crate::random::Random;
 use crate::tables::{TSB_WORDS, V2_WORDS};
 
 /// Every word, those of TSB first.
 pub fn all() -> impl Iterator<Item = &'static str> {
-    TSB_WORDS.iter().chain(V2_WORDS.iter()).copied()
+    let own = basic35::WORDS.iter().map(|&(_, word)| word);
+    TSB_WORDS.iter().chain(V2_WORDS.iter()).copied().chain(own)
 }
 
-/// Any word of either list, as often from the one as from the other.
+/// Any word of a list, as often from the original's one as from the other.
 pub fn any(random: &mut Random) -> &'static str {
-    if random.one_in(2) {
-        random.pick(&TSB_WORDS)
-    } else {
-        random.pick(&V2_WORDS)
+    match random.below(5) {
+        0 => random.pick(&basic35::WORDS).1,
+        1 | 2 => random.pick(&TSB_WORDS),
+        _ => random.pick(&V2_WORDS),
     }
 }
 
@@ -56,7 +58,7 @@ pub fn with_letter_changed(word: &str, place: usize) -> String {
     word.chars().enumerate().map(change).collect()
 }
 
-/// A word of either list in any case, now and then cut short or one letter off.
+/// A word of a list in any case, now and then cut short or one letter off.
 pub fn near_any(random: &mut Random) -> String {
     let word = any(random);
     let word = match random.below(12) {

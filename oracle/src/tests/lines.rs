@@ -2,11 +2,11 @@
 
 use crate::addressed;
 use crate::calls::Reader::{self, Links, Terminators};
+use crate::dialects::Dialect;
 use crate::found;
 use crate::library;
 use crate::measured::{self, MeasuredLine};
 use crate::refusal::Refusal;
-use crate::tokens::Dialect;
 
 /// Lines 10, 20 and 20 at 0801; the end marker stands at offset 21.
 const IMAGE: [u8; 24] = *b"\x01\x08\x07\x08\x0A\0A\0\x0E\x08\x14\0BC\0\x14\x08\x14\0D\0\0\0\xEE";

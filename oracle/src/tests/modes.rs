@@ -1,10 +1,10 @@
 //! The model of listings, held against worked examples of document 02, No. 6.
 
 use crate::calls::Reader::{self, Links, Terminators};
+use crate::dialects::Dialect;
 use crate::library;
 use crate::modes::{self, ListOptions};
 use crate::refusal::Refusal;
-use crate::tokens::Dialect;
 
 fn listing(by: Reader, dialect: Dialect, image: &[u8]) -> Result<String, Refusal> {
     let options = ListOptions {
