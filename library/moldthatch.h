@@ -41,6 +41,10 @@ enum {
     MOLDTHATCH_LINK_OUTSIDE = 12,            /* offset of the link */
     MOLDTHATCH_LINK_NO_END = 13,             /* offset of the link */
     MOLDTHATCH_UNKNOWN_DIALECT = 14,
+    MOLDTHATCH_NUMBER_TOO_HIGH = 15,         /* text line */
+    MOLDTHATCH_NOT_ASCENDING = 16,           /* text line */
+    MOLDTHATCH_ZERO_IN_BODY = 17,            /* text line */
+    MOLDTHATCH_BODY_LENGTH = 18,             /* text line */
     MOLDTHATCH_BAD_DISK = 20,
     MOLDTHATCH_BAD_NAME = 21,
     MOLDTHATCH_NAME_TAKEN = 22,

@@ -66,6 +66,19 @@ pub enum Refusal {
         offset: usize,
     },
     UnknownDialect,
+    /// The text line, in this and the next three.
+    NumberTooHigh {
+        line: usize,
+    },
+    NotAscending {
+        line: usize,
+    },
+    ZeroInBody {
+        line: usize,
+    },
+    BodyLength {
+        line: usize,
+    },
     BadDisk,
     BadName,
     NameTaken,
@@ -103,6 +116,10 @@ impl Refusal {
             12 => Refusal::LinkOutside { offset: first },
             13 => Refusal::LinkNoEnd { offset: first },
             14 => Refusal::UnknownDialect,
+            15 => Refusal::NumberTooHigh { line: first },
+            16 => Refusal::NotAscending { line: first },
+            17 => Refusal::ZeroInBody { line: first },
+            18 => Refusal::BodyLength { line: first },
             20 => Refusal::BadDisk,
             21 => Refusal::BadName,
             22 => Refusal::NameTaken,
@@ -137,6 +154,10 @@ impl Refusal {
             Refusal::LinkOutside { offset } => (12, offset, 0),
             Refusal::LinkNoEnd { offset } => (13, offset, 0),
             Refusal::UnknownDialect => (14, 0, 0),
+            Refusal::NumberTooHigh { line } => (15, line, 0),
+            Refusal::NotAscending { line } => (16, line, 0),
+            Refusal::ZeroInBody { line } => (17, line, 0),
+            Refusal::BodyLength { line } => (18, line, 0),
             Refusal::BadDisk => (20, 0, 0),
             Refusal::BadName => (21, 0, 0),
             Refusal::NameTaken => (22, 0, 0),

@@ -21,6 +21,10 @@ pub enum Refusal {
     LinkOutside { link: u64 },
     LinkNoEnd { link: u64 },
     UnknownDialect,
+    NumberTooHigh { text_line: u64 },
+    NotAscending { text_line: u64 },
+    ZeroInBody { text_line: u64 },
+    BodyLength { text_line: u64 },
     LimitReached,
     BadDisk,
     BadName,
@@ -34,7 +38,7 @@ pub enum Refusal {
 }
 
 /// Number, name and carried values of each refusal that the judge can give.
-const TABLE: [(u8, &str, &[&str]); 24] = [
+const TABLE: [(u8, &str, &[&str]); 28] = [
     (1, "TextTooLong", &["length"]),
     (2, "BadByte", &["offset"]),
     (3, "MissingLineNumber", &["text line"]),
@@ -49,6 +53,10 @@ const TABLE: [(u8, &str, &[&str]); 24] = [
     (12, "LinkOutside", &["link at"]),
     (13, "LinkNoEnd", &["link at"]),
     (14, "UnknownDialect", &[]),
+    (15, "NumberTooHigh", &["text line"]),
+    (16, "NotAscending", &["text line"]),
+    (17, "ZeroInBody", &["text line"]),
+    (18, "BodyLength", &["text line"]),
     (19, "LimitReached", &[]),
     (20, "BadDisk", &[]),
     (21, "BadName", &[]),
@@ -85,6 +93,10 @@ impl Refusal {
             Refusal::LinkOutside { link } => numbered(12, &[link]),
             Refusal::LinkNoEnd { link } => numbered(13, &[link]),
             Refusal::UnknownDialect => numbered(14, &[]),
+            Refusal::NumberTooHigh { text_line } => numbered(15, &[text_line]),
+            Refusal::NotAscending { text_line } => numbered(16, &[text_line]),
+            Refusal::ZeroInBody { text_line } => numbered(17, &[text_line]),
+            Refusal::BodyLength { text_line } => numbered(18, &[text_line]),
             Refusal::LimitReached => numbered(19, &[]),
             Refusal::BadDisk => numbered(20, &[]),
             Refusal::BadName => numbered(21, &[]),

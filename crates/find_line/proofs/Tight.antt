@@ -8,7 +8,7 @@ use lib.Dec.{eqb}
 use Rattle.refusals.specs.Numbers.{Numbered}
 use Rattle.refusals.specs.Answer.{Answer, done, refused, numbered}
 use Rattle.refusals.specs.declared.Refusal.{Refusal}
-use Rattle.refusals.specs.declared.Refusal.the-variants.{TextTooLong, BadByte, MissingLineNumber, LineNumberOutOfRange, AddressOverflow, NoRoom, ImageTooLong, TooShort, UnexpectedEof, MissingEnd, LinkBackward, LinkOutside, LinkNoEnd, UnknownDialect, BadDisk, BadName, NameTaken, NoSuchFile, DirectoryFull, DiskFull, TooManyImages, TooManyLines, TargetTooHigh}
+use Rattle.refusals.specs.declared.Refusal.the-variants.{TextTooLong, BadByte, MissingLineNumber, LineNumberOutOfRange, AddressOverflow, NoRoom, ImageTooLong, TooShort, UnexpectedEof, MissingEnd, LinkBackward, LinkOutside, LinkNoEnd, UnknownDialect, NumberTooHigh, NotAscending, ZeroInBody, BodyLength, BadDisk, BadName, NameTaken, NoSuchFile, DirectoryFull, DiskFull, TooManyImages, TooManyLines, TargetTooHigh}
 use Rattle.refusals.proofs.Tight.{named, named-numbered, tells-apart}
 use Rattle.find_line.specs.declared.Sought.{Sought}
 use Rattle.find_line.specs.declared.Sought.the-variants.{Found as FoundLine, Nowhere, LimitReached, Refused}
@@ -40,6 +40,10 @@ other-number (LinkBackward offset) = refl
 other-number (LinkOutside offset) = refl
 other-number (LinkNoEnd offset) = refl
 other-number UnknownDialect = refl
+other-number (NumberTooHigh line) = refl
+other-number (NotAscending line) = refl
+other-number (ZeroInBody line) = refl
+other-number (BodyLength line) = refl
 other-number BadDisk = refl
 other-number BadName = refl
 other-number NameTaken = refl

@@ -7,7 +7,7 @@ use lib.ListN.{getD}
 use Rattle.refusals.specs.Numbers.{Numbered}
 use Rattle.refusals.specs.Answer.{numbered}
 use Rattle.refusals.specs.declared.Refusal.{Refusal}
-use Rattle.refusals.specs.declared.Refusal.the-variants.{TextTooLong, BadByte, MissingLineNumber, LineNumberOutOfRange, AddressOverflow, NoRoom, ImageTooLong, TooShort, UnexpectedEof, MissingEnd, LinkBackward, LinkOutside, LinkNoEnd, UnknownDialect, BadDisk, BadName, NameTaken, NoSuchFile, DirectoryFull, DiskFull, TooManyImages, TooManyLines, TargetTooHigh}
+use Rattle.refusals.specs.declared.Refusal.the-variants.{TextTooLong, BadByte, MissingLineNumber, LineNumberOutOfRange, AddressOverflow, NoRoom, ImageTooLong, TooShort, UnexpectedEof, MissingEnd, LinkBackward, LinkOutside, LinkNoEnd, UnknownDialect, NumberTooHigh, NotAscending, ZeroInBody, BodyLength, BadDisk, BadName, NameTaken, NoSuchFile, DirectoryFull, DiskFull, TooManyImages, TooManyLines, TargetTooHigh}
 
 -- the refusal of a number and values
 unfoldable pub named : Numbered → Refusal
@@ -15,7 +15,7 @@ named n =
     let a = getD (n .carries) 0 0 in
     let b = getD (n .carries) 1 0 in
     getD
-    (TextTooLong a ∷ BadByte a ∷ MissingLineNumber a ∷ LineNumberOutOfRange a b ∷ AddressOverflow ∷ NoRoom a ∷ ImageTooLong a ∷ TooShort ∷ UnexpectedEof ∷ MissingEnd a ∷ LinkBackward a ∷ LinkOutside a ∷ LinkNoEnd a ∷ UnknownDialect ∷ UnknownDialect ∷ UnknownDialect ∷ UnknownDialect ∷ UnknownDialect ∷ UnknownDialect ∷ BadDisk ∷ BadName ∷ NameTaken ∷ NoSuchFile ∷ DirectoryFull ∷ DiskFull ∷ TooManyImages ∷ TooManyLines ∷ TargetTooHigh ∷ [])
+    (TextTooLong a ∷ BadByte a ∷ MissingLineNumber a ∷ LineNumberOutOfRange a b ∷ AddressOverflow ∷ NoRoom a ∷ ImageTooLong a ∷ TooShort ∷ UnexpectedEof ∷ MissingEnd a ∷ LinkBackward a ∷ LinkOutside a ∷ LinkNoEnd a ∷ UnknownDialect ∷ NumberTooHigh a ∷ NotAscending a ∷ ZeroInBody a ∷ BodyLength a ∷ UnknownDialect ∷ BadDisk ∷ BadName ∷ NameTaken ∷ NoSuchFile ∷ DirectoryFull ∷ DiskFull ∷ TooManyImages ∷ TooManyLines ∷ TargetTooHigh ∷ [])
     (n .number - 1)
     UnknownDialect
 
@@ -35,6 +35,10 @@ named-numbered (LinkBackward offset) = refl
 named-numbered (LinkOutside offset) = refl
 named-numbered (LinkNoEnd offset) = refl
 named-numbered UnknownDialect = refl
+named-numbered (NumberTooHigh line) = refl
+named-numbered (NotAscending line) = refl
+named-numbered (ZeroInBody line) = refl
+named-numbered (BodyLength line) = refl
 named-numbered BadDisk = refl
 named-numbered BadName = refl
 named-numbered NameTaken = refl

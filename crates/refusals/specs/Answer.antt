@@ -2,9 +2,9 @@
 -- Assumes nothing.
 use Prim.Native.Nat.{ℕ}
 use mathlib.Core.List.{List}
-use Rattle.refusals.specs.Numbers.{Numbered, textTooLong, badByte, missingLineNumber, lineNumberOutOfRange, addressOverflow, noRoom, imageTooLong, tooShort, unexpectedEof, missingEnd, linkBackward, linkOutside, linkNoEnd, unknownDialect, badDisk, badName, nameTaken, noSuchFile, directoryFull, diskFull, tooManyImages, tooManyLines, targetTooHigh}
+use Rattle.refusals.specs.Numbers.{Numbered, textTooLong, badByte, missingLineNumber, lineNumberOutOfRange, addressOverflow, noRoom, imageTooLong, tooShort, unexpectedEof, missingEnd, linkBackward, linkOutside, linkNoEnd, unknownDialect, lineNumberTooHigh, notAscending, zeroInBody, bodyLength, badDisk, badName, nameTaken, noSuchFile, directoryFull, diskFull, tooManyImages, tooManyLines, targetTooHigh}
 use Rattle.refusals.specs.declared.Refusal.{Refusal}
-use Rattle.refusals.specs.declared.Refusal.the-variants.{TextTooLong, BadByte, MissingLineNumber, LineNumberOutOfRange, AddressOverflow, NoRoom, ImageTooLong, TooShort, UnexpectedEof, MissingEnd, LinkBackward, LinkOutside, LinkNoEnd, UnknownDialect, BadDisk, BadName, NameTaken, NoSuchFile, DirectoryFull, DiskFull, TooManyImages, TooManyLines, TargetTooHigh}
+use Rattle.refusals.specs.declared.Refusal.the-variants.{TextTooLong, BadByte, MissingLineNumber, LineNumberOutOfRange, AddressOverflow, NoRoom, ImageTooLong, TooShort, UnexpectedEof, MissingEnd, LinkBackward, LinkOutside, LinkNoEnd, UnknownDialect, NumberTooHigh, NotAscending, ZeroInBody, BodyLength, BadDisk, BadName, NameTaken, NoSuchFile, DirectoryFull, DiskFull, TooManyImages, TooManyLines, TargetTooHigh}
 
 pub data Answer (A : Type 0) : Type 0 where
   done : A → Answer A
@@ -26,6 +26,10 @@ numbered (LinkBackward offset) = linkBackward offset
 numbered (LinkOutside offset) = linkOutside offset
 numbered (LinkNoEnd offset) = linkNoEnd offset
 numbered UnknownDialect = unknownDialect
+numbered (NumberTooHigh line) = lineNumberTooHigh line
+numbered (NotAscending line) = notAscending line
+numbered (ZeroInBody line) = zeroInBody line
+numbered (BodyLength line) = bodyLength line
 numbered BadDisk = badDisk
 numbered BadName = badName
 numbered NameTaken = nameTaken

@@ -53,6 +53,20 @@ linkNoEnd offset = record { number = 13; carries = offset ∷ [] }
 abbrev pub unknownDialect : Numbered
 unknownDialect = record { number = 14; carries = [] }
 
+-- Document 02, No. 1: the machine profile. "Each with that line": the text line from 1.
+
+abbrev pub lineNumberTooHigh : ℕ → Numbered
+lineNumberTooHigh line = record { number = 15; carries = line ∷ [] }
+
+abbrev pub notAscending : ℕ → Numbered
+notAscending line = record { number = 16; carries = line ∷ [] }
+
+abbrev pub zeroInBody : ℕ → Numbered
+zeroInBody line = record { number = 17; carries = line ∷ [] }
+
+abbrev pub bodyLength : ℕ → Numbered
+bodyLength line = record { number = 18; carries = line ∷ [] }
+
 -- Document 02, No. 9: programs onto disk images. The six carry nothing.
 
 abbrev pub badDisk : Numbered

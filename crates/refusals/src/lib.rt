@@ -20,6 +20,11 @@ pub enum Refusal {
     LinkOutside { offset: usize },
     LinkNoEnd { offset: usize },
     UnknownDialect,
+    // Of the machine profile, in this and the next three.
+    NumberTooHigh { line: usize },
+    NotAscending { line: usize },
+    ZeroInBody { line: usize },
+    BodyLength { line: usize },
     // Of a disk, in this and the next five.
     BadDisk,
     BadName,
@@ -96,6 +101,10 @@ pub fn refusal_code(refusal: Refusal) -> Code
         Refusal::LinkOutside { offset } => with_one(12, offset),
         Refusal::LinkNoEnd { offset } => with_one(13, offset),
         Refusal::UnknownDialect => bare(14),
+        Refusal::NumberTooHigh { line } => with_one(15, line),
+        Refusal::NotAscending { line } => with_one(16, line),
+        Refusal::ZeroInBody { line } => with_one(17, line),
+        Refusal::BodyLength { line } => with_one(18, line),
         Refusal::BadDisk => bare(20),
         Refusal::BadName => bare(21),
         Refusal::NameTaken => bare(22),

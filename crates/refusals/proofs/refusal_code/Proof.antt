@@ -140,31 +140,43 @@ returns-14 : tie.Need-returns-14
 returns-14 c = by-case (c .bare4 .ensures) (c .before .enum-told4 .given .1)
 
 returns-15 : tie.Need-returns-15
-returns-15 c = by-case (c .bare5 .ensures) (c .before .enum-told5 .given .1)
+returns-15 c = by-case (c .with-one10 .ensures) (c .before .before .refusal11 .given .1)
 
 returns-16 : tie.Need-returns-16
-returns-16 c = by-case (c .bare6 .ensures) (c .before .enum-told6 .given .1)
+returns-16 c = by-case (c .with-one11 .ensures) (c .before .before .refusal12 .given .1)
 
 returns-17 : tie.Need-returns-17
-returns-17 c = by-case (c .bare7 .ensures) (c .before .enum-told7 .given .1)
+returns-17 c = by-case (c .with-one12 .ensures) (c .before .before .refusal13 .given .1)
 
 returns-18 : tie.Need-returns-18
-returns-18 c = by-case (c .bare8 .ensures) (c .before .enum-told8 .given .1)
+returns-18 c = by-case (c .with-one13 .ensures) (c .before .before .refusal14 .given .1)
 
 returns-19 : tie.Need-returns-19
-returns-19 c = by-case (c .bare9 .ensures) (c .before .enum-told9 .given .1)
+returns-19 c = by-case (c .bare5 .ensures) (c .before .enum-told5 .given .1)
 
 returns-20 : tie.Need-returns-20
-returns-20 c = by-case (c .bare10 .ensures) (c .before .enum-told10 .given .1)
+returns-20 c = by-case (c .bare6 .ensures) (c .before .enum-told6 .given .1)
 
 returns-21 : tie.Need-returns-21
-returns-21 c = by-case (c .bare11 .ensures) (c .before .enum-told11 .given .1)
+returns-21 c = by-case (c .bare7 .ensures) (c .before .enum-told7 .given .1)
 
 returns-22 : tie.Need-returns-22
-returns-22 c = by-case (c .bare12 .ensures) (c .before .enum-told12 .given .1)
+returns-22 c = by-case (c .bare8 .ensures) (c .before .enum-told8 .given .1)
 
 returns-23 : tie.Need-returns-23
-returns-23 c = by-case (c .bare13 .ensures) (c .before .enum-told13 .given .1)
+returns-23 c = by-case (c .bare9 .ensures) (c .before .enum-told9 .given .1)
+
+returns-24 : tie.Need-returns-24
+returns-24 c = by-case (c .bare10 .ensures) (c .before .enum-told10 .given .1)
+
+returns-25 : tie.Need-returns-25
+returns-25 c = by-case (c .bare11 .ensures) (c .before .enum-told11 .given .1)
+
+returns-26 : tie.Need-returns-26
+returns-26 c = by-case (c .bare12 .ensures) (c .before .enum-told12 .given .1)
+
+returns-27 : tie.Need-returns-27
+returns-27 c = by-case (c .bare13 .ensures) (c .before .enum-told13 .given .1)
 
 pub refusal-code-spec : {M : Type 1} → statement M
 refusal-code-spec =
@@ -216,6 +228,14 @@ refusal-code-spec =
     (λ c κs. search needs)
     (λ c. search needs)
     (λ c κs. search needs)
+    (λ c. search needs)
+    (λ c κs. search needs)
+    (λ c. search needs)
+    (λ c κs. search needs)
+    (λ c. search needs)
+    (λ c κs. search needs)
+    (λ c. search needs)
+    (λ c κs. search needs)
     returns
     returns-2
     returns-3
@@ -238,4 +258,8 @@ refusal-code-spec =
     returns-20
     returns-21
     returns-22
-    returns-23)
+    returns-23
+    returns-24
+    returns-25
+    returns-26
+    returns-27)
