@@ -8,3 +8,4 @@ pub mod ShortSteps
 pub mod StringSteps
 pub mod Table
 pub mod Writing
+pub mod Zeros

@@ -36,16 +36,16 @@ module _ (l : Lexicon) (s : List ℕ) (m : Mode) {at : ℕ} {o : Move} (e : o �
   takes = rw e (step-takes l g m (drop at s) some)
 
   -- what is owed at a place, taken apart: the step, and what is owed behind it
-  body-at : crunchedFrom l m (drop at s) ≡ written o ++ crunchedFrom l (o .mode) (drop (at + o .used) s)
+  pub body-at : crunchedFrom l m (drop at s) ≡ written o ++ crunchedFrom l (o .mode) (drop (at + o .used) s)
   body-at = rw (← drop-drop (o .used) at s) (body-step l g m (drop at s) some e)
 
-  step-within : at + o .used ≤ length s
+  pub step-within : at + o .used ≤ length s
   step-within = omega (arith, takes .most, length-drop at s)
 
-  step-less : length s - (at + o .used) < length s - at
+  pub step-less : length s - (at + o .used) < length s - at
   step-less = omega (arith, takes .more, step-within)
 
-  step-fits : Fits w64 (length s) → Fits w64 (at + o .used)
+  pub step-fits : Fits w64 (length s) → Fits w64 (at + o .used)
   step-fits f = record { fits = omega (arith, f .fits, step-within) }
 
 -- ---- the step at a byte that is short, or long, in its mode
@@ -58,7 +58,7 @@ module _ (s : List ℕ) (at : ℕ) (m : Mode) {x : Bool} (e : x ≡ isShort m (g
     asked : x ≡ isShort m (first (drop at s))
     asked = e ∙ ap (isShort m) (sym (first-at s at h))
 
-    short-here : (w : Sets) → x ≡ true → one (shortByte m (getD s at 0)) (shortMode m (getD s at 0)) ≡ crunchStep (lexicon w) m (drop at s)
+    pub short-here : (w : Sets) → x ≡ true → one (shortByte m (getD s at 0)) (shortMode m (getD s at 0)) ≡ crunchStep (lexicon w) m (drop at s)
     short-here w t =
         ap (λ (b : ℕ). one (shortByte m b) (shortMode m b)) (sym (first-at s at h))
         ∙ short-step w m (drop at s) (omega (arith, length-drop at s)) (sym asked ∙ t)

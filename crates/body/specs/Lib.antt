@@ -3,3 +3,4 @@ pub mod BraceHelpers
 pub mod Lexicon
 pub mod ShortHelpers
 pub mod Steps
+pub mod Zero

@@ -18,6 +18,7 @@ mod plain;
 mod short;
 mod step;
 mod string;
+pub mod zero;
 
 // The length of a body, or 65,536 where it is that or more.
 pub fn measure_body(text: &[u8], bytes: &[u8], index: &[u16], sets: Sets) -> usize
