@@ -18,8 +18,11 @@ use Rattle.words.specs.Find.{Entry, firstThat, wordIn, amongIn}
 use Rattle.words.specs.declared.Match.{Match}
 use Rattle.words.specs.declared.Match.the-variants.{Word, Nothing}
 use Rattle.words.proofs.Search.{and-left, and-right}
+use Rattle.tables.specs.Rom.{v2Words}
 use Rattle.tables.specs.Tsb.{tsbWords}
 use Rattle.tables.specs.Sets.{isDemoted, isLive, liveWord, plainWord}
+use Rattle.forms.specs.Forms.{formWord}
+use Rattle.forms.proofs.Standing.{form-takes}
 use Rattle.tables.specs.declared.sets.Sets.{Sets}
 use Rattle.escapes.specs.Escape.{escapeOf}
 use Rattle.escapes.specs.declared.Escape.{Escape}
@@ -28,7 +31,7 @@ use Rattle.escapes.proofs.Once.{Often, given-once}
 use Rattle.body.specs.Body.{written, crunchedFrom, crunchedBody}
 use Rattle.body.specs.BraceHelpers.{mayRepeat}
 use Rattle.body.specs.Lexicon.{lexicon}
-use Rattle.body.specs.Steps.{first, one, token, opened, otherStep, plainStep, lettered, stringByte, escaped, braced, stringStep, dataStep, dataQuoteStep, crunchStep}
+use Rattle.body.specs.Steps.{first, one, token, opened, otherStep, signStep, formStep, plainStep, lettered, stringByte, escaped, braced, stringStep, dataStep, dataQuoteStep, crunchStep}
 use Rattle.body.specs.declared.moves.Mode.{Mode}
 use Rattle.body.specs.declared.moves.Mode.the-variants.{Plain, String, Remark, Data, DataQuote}
 use Rattle.body.specs.declared.moves.Move.{Move}
@@ -98,15 +101,21 @@ module _ (s : Sets) (t : List ℕ) where
   unfolding written
   tsb-narrow k u r = omega (arith, r)
 
+  form-narrow : Narrow (formStep (lexicon s) t)
+  unfolding formStep signStep
+  form-narrow =
+      by-match (formWord s tsbWords v2Words t) (λ n k. token false k (opened k) n) _
+      (λ i n k e. let r = form-takes s tsbWords v2Words t e in token-narrow k n (opened k) (record { more = r .0; most = r .1 })) (
+      by-match (wordIn (lexicon s .operators) t) (λ u k. token false k Plain u) (otherStep t)
+      (λ i u k e. token-narrow k u Plain (word-takes false _ (operators-start (lexicon s) (document-proper s)) t e)) (other-narrow t))
+
   plain-narrow : Narrow (plainStep (lexicon s) t)
   unfolding plainStep
   plain-narrow =
       by-test (eqb (first t) 0x22) (one 0x22 String) _ (one-narrow _ _) (
       by-match (liveWord s tsbWords t) (λ u k. token true k Plain u) _ (λ i u k e. tsb-narrow k u (live-long s t e)) (
       by-match (plainWord s (lexicon s .v2) (lexicon s .basic35) t) (λ u k. token false k (opened k) u) _
-      (λ i u k e. token-narrow k u (opened k) (plain-word-takes (lexicon s) (document-proper s) t e)) (
-      by-match (wordIn (lexicon s .operators) t) (λ u k. token false k Plain u) (otherStep t)
-      (λ i u k e. token-narrow k u Plain (word-takes false _ (operators-start (lexicon s) (document-proper s)) t e)) (other-narrow t))))
+      (λ i u k e. token-narrow k u (opened k) (plain-word-takes (lexicon s) (document-proper s) t e)) form-narrow))
 
 byte-narrow : (b : ℕ) → Narrow (stringByte b)
 unfolding stringByte

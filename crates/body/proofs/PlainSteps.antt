@@ -13,8 +13,10 @@ use Rattle.words.specs.Find.{wordIn}
 use Rattle.words.specs.declared.Match.{Match}
 use Rattle.words.specs.declared.Match.the-variants.{Word, Nothing}
 use Rattle.tables.specs.Sets.{liveWord, plainWord}
+use Rattle.forms.specs.Forms.{formWord}
+use Rattle.forms.proofs.Standing.{form-letter}
 use Rattle.body.specs.Lexicon.{Lexicon}
-use Rattle.body.specs.Steps.{first, one, token, opened, otherStep, plainStep}
+use Rattle.body.specs.Steps.{first, one, token, opened, otherStep, signStep, formStep, plainStep}
 use Rattle.body.specs.declared.moves.Mode.{Mode}
 use Rattle.body.specs.declared.moves.Mode.the-variants.{Plain, String, Remark, Data}
 use Rattle.body.specs.declared.moves.Move.{Move}
@@ -87,22 +89,29 @@ module _ (l : Lexicon) (t : List ℕ) {r : Move} where
     unfolding plainStep
     letter-plain q o e p n live a = rw (plainStep, letter-no-quote _ a, sym live ∙ n, sym p ∙ e, ← o) q
 
-    pub letter-other : {v : Match} {b : ℕ} → r ≡ one b Plain → b ≡ upper (first t) → v ≡ Nothing → v ≡ plainWord (l .sets) (l .v2) (l .basic35) t → m ≡ Nothing → m ≡ liveWord (l .sets) (l .tsb) t → isLetter (first t) ≡ true
-        → T (proper l) → r ≡ plainStep l t
+    pub letter-left : {v : Match} → r ≡ formStep l t → v ≡ Nothing → v ≡ plainWord (l .sets) (l .v2) (l .basic35) t → m ≡ Nothing → m ≡ liveWord (l .sets) (l .tsb) t → isLetter (first t) ≡ true → r ≡ plainStep l t
     unfolding plainStep
-    letter-other q u e p n live a g =
-        rw (plainStep, letter-no-quote _ a, sym live ∙ n, sym p ∙ e, word-none false (l .operators) (operators-start l g) t a) (letter-raised t q u a)
+    letter-left q e p n live a = rw (plainStep, letter-no-quote _ a, sym live ∙ n, sym p ∙ e) q
+
+    -- no whole word: f is the short form there
+    pub letter-form : {i n k : ℕ} {behind : Mode} → r ≡ token false k behind n → behind ≡ opened k → m ≡ Word i n k → m ≡ formWord (l .sets) (l .tsb) (l .v2) t → r ≡ formStep l t
+    unfolding formStep
+    letter-form q o e p = rw (formStep, sym p ∙ e, ← o) q
+
+    pub letter-other : {b : ℕ} → r ≡ one b Plain → b ≡ upper (first t) → m ≡ Nothing → m ≡ formWord (l .sets) (l .tsb) (l .v2) t → isLetter (first t) ≡ true → T (proper l) → r ≡ formStep l t
+    unfolding formStep signStep
+    letter-other q u e p a g = rw (formStep, sym p ∙ e, signStep, word-none false (l .operators) (operators-start l g) t a) (letter-raised t q u a)
 
   -- another byte: w is the operator there
   module _ {w : Match} {x : Bool} where
     pub other-operator : {i u k : ℕ} → r ≡ token false k Plain u → w ≡ Word i u k → w ≡ wordIn (l .operators) t → x ≡ false → x ≡ isLetter (first t)
         → (first t ≡ 0x22 → ⊥) → T (proper l) → r ≡ plainStep l t
-    unfolding plainStep
+    unfolding plainStep formStep signStep
     other-operator q e p n i s g =
-        rw (plainStep, ne-eqb _ _ s, no-tsb l t g (sym i ∙ n), plain-word-none l g t (sym i ∙ n), sym p ∙ e) q
+        rw (plainStep, ne-eqb _ _ s, no-tsb l t g (sym i ∙ n), plain-word-none l g t (sym i ∙ n), formStep, form-letter (l .sets) (l .tsb) (l .v2) t (sym i ∙ n), signStep, sym p ∙ e) q
 
     pub other-none : r ≡ otherStep t → w ≡ Nothing → w ≡ wordIn (l .operators) t → x ≡ false → x ≡ isLetter (first t)
         → (first t ≡ 0x22 → ⊥) → T (proper l) → r ≡ plainStep l t
-    unfolding plainStep
+    unfolding plainStep formStep signStep
     other-none q e p n i s g =
-        rw (plainStep, ne-eqb _ _ s, no-tsb l t g (sym i ∙ n), plain-word-none l g t (sym i ∙ n), sym p ∙ e) q
+        rw (plainStep, ne-eqb _ _ s, no-tsb l t g (sym i ∙ n), plain-word-none l g t (sym i ∙ n), formStep, form-letter (l .sets) (l .tsb) (l .v2) t (sym i ∙ n), signStep, sym p ∙ e) q

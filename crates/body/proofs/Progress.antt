@@ -18,8 +18,10 @@ use Rattle.ascii.specs.Search.{equals, before}
 use Rattle.escapes.specs.declared.Escape.{Escape}
 use Rattle.escapes.specs.declared.Escape.the-variants.{Byte, Unknown}
 use Rattle.tables.specs.Sets.{liveWord, plainWord}
+use Rattle.forms.specs.Forms.{formWord}
+use Rattle.forms.proofs.Standing.{form-takes}
 use Rattle.body.specs.Lexicon.{Lexicon}
-use Rattle.body.specs.Steps.{first, one, token, opened, otherStep, plainStep, lettered, stringByte, escaped, braced, stringStep, dataStep, dataQuoteStep, crunchStep}
+use Rattle.body.specs.Steps.{first, one, token, opened, otherStep, signStep, formStep, plainStep, lettered, stringByte, escaped, braced, stringStep, dataStep, dataQuoteStep, crunchStep}
 use Rattle.body.specs.declared.moves.Mode.{Mode}
 use Rattle.body.specs.declared.moves.Mode.the-variants.{Plain, String, Remark, Data, DataQuote}
 use Rattle.body.specs.declared.moves.Move.{Move}
@@ -62,14 +64,20 @@ module _ (t : List ℕ) (h : 0 < length t) where
       (λ _. by-test t (eqb (first t) 0x3F) (one 0x99 Plain) (one (upper (first t)) Plain) (λ _. one-takes) (λ _. one-takes))
 
   module _ (l : Lexicon) (g : T (proper l)) where
+    form-step-takes : Moves t (formStep l t)
+    unfolding formStep signStep
+    form-step-takes =
+        by-match t (formWord (l .sets) (l .tsb) (l .v2) t) (λ n k. token false k (opened k) n) _
+        (λ i n k e. let r = form-takes (l .sets) (l .tsb) (l .v2) t e in record { more = r .0; most = r .1 }) (λ _.
+        by-match t (wordIn (l .operators) t) (λ u k. token false k Plain u) (otherStep t)
+        (λ i u k e. word-takes false (l .operators) (operators-start l g) t e) (λ _. other-takes))
+
     plain-takes : Moves t (plainStep l t)
     unfolding plainStep
     plain-takes =
         by-test t (eqb (first t) 0x22) (one 0x22 String) _ (λ _. one-takes) (λ _.
         by-match t (liveWord (l .sets) (l .tsb) t) (λ u k. token true k Plain u) _ (λ i u k e. live-takes true (l .tsb) (tsb-start l g) t (l .sets) e) (λ _.
-        by-match t (plainWord (l .sets) (l .v2) (l .basic35) t) (λ u k. token false k (opened k) u) _ (λ i u k e. plain-word-takes l g t e) (λ _.
-        by-match t (wordIn (l .operators) t) (λ u k. token false k Plain u) (otherStep t)
-        (λ i u k e. word-takes false (l .operators) (operators-start l g) t e) (λ _. other-takes))))
+        by-match t (plainWord (l .sets) (l .v2) (l .basic35) t) (λ u k. token false k (opened k) u) _ (λ i u k e. plain-word-takes l g t e) (λ _. form-step-takes)))
 
   byte-takes : (b : ℕ) → Moves t (stringByte b)
   unfolding stringByte

@@ -3,10 +3,10 @@
 use Prim.Native.Nat.{ℕ}
 use Prim.Native.String.{String}
 use mathlib.Core.Path.{_≡_, refl}
-use mathlib.Core.Bool.{true, false}
+use mathlib.Core.Bool.{Bool, true, false}
 use mathlib.Core.List.{List, [], _∷_, _++_, map}
 use Rattle.ascii.specs.Bytes.{between, upper}
-use Rattle.ascii.specs.Search.{before, last}
+use Rattle.ascii.specs.Search.{before, last, front}
 use Rattle.ascii.specs.Trim.{trim}
 use Rattle.words.specs.Compare.{same}
 use Rattle.words.specs.Find.{nameIn, meaning}
@@ -16,24 +16,29 @@ use Rattle.keyboard.specs.KeyCodes.{cbmLetters, ctrlDigits}
 use Rattle.tables.specs.Rom.{v2Words, operators}
 use Rattle.tables.specs.Sets.{liveWord, plainWord}
 use Rattle.tables.specs.Basic35.{basic35Words}
+use Rattle.tables.specs.declared.sets.Sets.{Sets}
 use Rattle.tables.specs.Tsb.{tsbWords}
 use Rattle.escapes.specs.Numbers.{digitOf, numberAfter, numberOf, hexOf, unsigned, countOf}
 use Rattle.escapes.specs.Keys.{keyNames, controlByte, keyWith, keyed, keyEscape}
 use Rattle.escapes.specs.Escape.{nameEscape, repeated, starred, countedName, escapeOf}
+use Rattle.forms.specs.Forms.{formWord}
 use Rattle.body.specs.Body.{crunchedFrom, crunchedBody}
 use Rattle.body.specs.Lexicon.{Lexicon, lexicon}
 
 -- no TSB word is live
 abbrev pub v2Lexicon : Lexicon
-v2Lexicon = lexicon (record { tsb = false; demoted = []; basic35 = false })
+v2Lexicon = lexicon (record { tsb = false; demoted = []; basic35 = false; forms = false })
 
 -- every TSB word is live but one, which is demoted
+abbrev pub setsBut : List ℕ → Bool → Sets
+setsBut w forms = record { tsb = true; demoted = map (λ e. same w (e .word)) tsbWords; basic35 = false; forms = forms }
+
 abbrev pub allBut : List ℕ → Lexicon
-allBut w = lexicon (record { tsb = true; demoted = map (λ e. same w (e .word)) tsbWords; basic35 = false })
+allBut w = lexicon (setsBut w false)
 
 -- the words of BASIC 3.5, and no TSB word
 abbrev pub basic35Lexicon : Lexicon
-basic35Lexicon = lexicon (record { tsb = false; demoted = []; basic35 = true })
+basic35Lexicon = lexicon (record { tsb = false; demoted = []; basic35 = true; forms = false })
 
 infix 60 _gives_
 abbrev pub _gives_ : String → List ℕ → Type 0
@@ -76,3 +81,29 @@ pub body-table :
     × ("do" gives 0x44 ∷ 0x4F ∷ [])
 unfolding crunchedFrom liveWord plainWord v2Words basic35Words operators tsbWords nameIn meaning escapeOf countedName starred repeated nameEscape keyEscape keyed keyWith controlByte keyNames countOf unsigned hexOf numberOf numberAfter digitOf escapeNames cbmLetters ctrlDigits last before trim upper between same
 body-table = (refl, refl, refl, refl, refl, refl, refl, refl, refl, refl, refl, refl, refl, refl, refl, refl, refl, refl, refl, refl, refl, refl, refl, refl, refl, refl)
+
+-- short forms, where they are taken (document 02, No. 7)
+
+infix 60 _shortened-gives_
+abbrev pub _shortened-gives_ : String → List ℕ → Type 0
+text shortened-gives bytes = crunchedBody (lexicon (record { tsb = false; demoted = []; basic35 = false; forms = true })) (bytesOf text) ≡ bytes
+
+pub shortened-table :
+    ("pO1,pE2" shortened-gives 0x97 ∷ 0x31 ∷ 0x2C ∷ 0xC2 ∷ 0x32 ∷ [])
+    -- a whole word comes first, whatever follows
+    × ("gO:goS" shortened-gives 0xCB ∷ 0x3A ∷ 0xCB ∷ 0x53 ∷ [])
+    × ("lOop" shortened-gives 0x93 ∷ 0x4F ∷ 0x50 ∷ [])
+    -- 83 opens DATA; in DATA, in a string and in a remark there are none
+    × ("dApO:pO" shortened-gives 0x83 ∷ 0x50 ∷ 0x4F ∷ 0x3A ∷ 0x97 ∷ [])
+    × ("\"pO\"" shortened-gives 0x22 ∷ 0x50 ∷ 0xCF ∷ 0x22 ∷ [])
+    × ("rempO" shortened-gives 0x8F ∷ 0x70 ∷ 0x4F ∷ [])
+    -- letters of no word
+    × ("xY" shortened-gives 0x58 ∷ 0x59 ∷ [])
+    -- a demoted word stands in the way, and so does a live one
+    × (crunchedBody (lexicon (setsBut (bytesOf "DIR") true)) (bytesOf "dIr:dI:lOop") ≡ 0x44 ∷ 0x49 ∷ 0x52 ∷ 0x3A ∷ 0x86 ∷ 0x3A ∷ 0x64 ∷ 0x3A ∷ [])
+    -- under BASIC 3.5 its own words stand in the way too
+    × (crunchedBody (lexicon (record { tsb = false; demoted = []; basic35 = true; forms = true })) (bytesOf "dO:pO") ≡ 0xEB ∷ 0x3A ∷ 0x97 ∷ [])
+    -- with the option off they are letters
+    × ("pO" gives 0x50 ∷ 0x4F ∷ [])
+unfolding crunchedFrom liveWord plainWord formWord v2Words basic35Words operators tsbWords upper between same front
+shortened-table = (refl, refl, refl, refl, refl, refl, refl, refl, refl, refl)

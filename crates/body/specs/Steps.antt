@@ -13,6 +13,7 @@ use Rattle.ascii.specs.Search.{equals, before}
 use Rattle.escapes.specs.declared.Escape.{Escape}
 use Rattle.escapes.specs.declared.Escape.the-variants.{Byte, Unknown}
 use Rattle.tables.specs.Sets.{liveWord, plainWord}
+use Rattle.forms.specs.Forms.{formWord}
 use Rattle.body.specs.Lexicon.{Lexicon}
 use Rattle.body.specs.declared.moves.Mode.{Mode}
 use Rattle.body.specs.declared.moves.Mode.the-variants.{Plain, String, Remark, Data, DataQuote}
@@ -45,9 +46,19 @@ otherStep t =
       | false ↦ elim (eqb (first t) 0x3F) [ true ↦ one 0x99 Plain | false ↦ one (upper (first t)) Plain ]
     ]
 
--- first that applies: a quote, a live TSB word, a V2 word or one of BASIC 3.5, an operator, another byte
+-- an operator, or another byte
+unfoldable pub signStep : Lexicon → List ℕ → Move
+unfolding wordIn otherStep
+signStep l t = elim (wordIn (l .operators) t) [ Word i u k ↦ token false k Plain u | Nothing ↦ otherStep t ]
+
+-- where no whole word stands: a short form of a V2 word (document 02, No. 7), or one of these
+unfoldable pub formStep : Lexicon → List ℕ → Move
+unfolding formWord opened signStep
+formStep l t = elim (formWord (l .sets) (l .tsb) (l .v2) t) [ Word i n k ↦ token false k (opened k) n | Nothing ↦ signStep l t ]
+
+-- first that applies: a quote, a live TSB word, a V2 word or one of BASIC 3.5, a short form of a V2 word, an operator, another byte
 unfoldable pub plainStep : Lexicon → List ℕ → Move
-unfolding liveWord plainWord wordIn opened otherStep
+unfolding liveWord plainWord opened formStep
 plainStep l t =
     elim (eqb (first t) 0x22) [
       | true ↦ one 0x22 String
@@ -55,7 +66,7 @@ plainStep l t =
         | Word i u k ↦ token true k Plain u
         | Nothing ↦ elim (plainWord (l .sets) (l .v2) (l .basic35) t) [
           | Word i u k ↦ token false k (opened k) u
-          | Nothing ↦ elim (wordIn (l .operators) t) [ Word i u k ↦ token false k Plain u | Nothing ↦ otherStep t ]
+          | Nothing ↦ formStep l t
         ]
       ]
     ]

@@ -12,9 +12,9 @@ ghost use lib.ListN.{length};
 ghost use Rattle.ascii.specs.Bytes.{isLetter};
 ghost use Rattle.tables.specs.WordsHelpers.{SpellsWords};
 ghost use Rattle.body.specs.Lexicon.{lexicon};
-ghost use Rattle.body.specs.Steps.{first, opened as openedBy, otherStep, plainStep};
+ghost use Rattle.body.specs.Steps.{first, opened as openedBy, otherStep, formStep, plainStep};
 
-// A letter: a TSB word, a V2 word or one of BASIC 3.5, or the letter.
+// A letter: a TSB word, a V2 word or one of BASIC 3.5, a short form of a V2 word, or the letter.
 pub fn letter_step(rest: &[u8], bytes: &[u8], index: &[u16], sets: Sets) -> Move
     requires { ⌜ (0 < length (now rest)) × (isLetter (first (now rest)) ≡ true) × SpellsWords (now bytes) (now index) ⌝ }
     ensures { λ r. ⌜ r ≡ plainStep (lexicon sets) (now (rest .entry)) ⌝ }
@@ -31,8 +31,23 @@ pub fn letter_step(rest: &[u8], bytes: &[u8], index: &[u16], sets: Sets) -> Move
                 used,
                 token,
             } => moves::token(false, token, opened(token), used),
-            Match::Nothing => moves::one(ascii::upper(rest[0]), Mode::Plain),
+            Match::Nothing => form_step(rest, bytes, index, sets),
         },
+    }
+}
+
+// Where no whole word stands: a short form, or the letter.
+fn form_step(rest: &[u8], bytes: &[u8], index: &[u16], sets: Sets) -> Move
+    requires { ⌜ (0 < length (now rest)) × (isLetter (first (now rest)) ≡ true) × SpellsWords (now bytes) (now index) ⌝ }
+    ensures { λ r. ⌜ r ≡ formStep (lexicon sets) (now (rest .entry)) ⌝ }
+{
+    match forms::match_form(rest, bytes, index, sets) {
+        Match::Word {
+            index: _,
+            used,
+            token,
+        } => moves::token(false, token, opened(token), used),
+        Match::Nothing => moves::one(ascii::upper(rest[0]), Mode::Plain),
     }
 }
 

@@ -10,6 +10,7 @@ mod indexes;
 mod listings;
 mod measured;
 mod modes;
+mod options;
 mod rooms;
 mod texts;
 mod words;
@@ -40,6 +41,8 @@ fn answer_request(op: u8, payload: &[u8], room: &mut [u8], disk: &mut [u8]) -> b
         0x09 => images::step(payload, By::Links),
         0x0A => listings::list(payload, room),
         0x0B => listings::room_for_list(payload),
+        0x10 => texts::crunch_with(payload, room),
+        0x11 => texts::room_for_crunch_with(payload),
         0x12 => found::line_by_number(payload),
         0x13 => dialects::default_load(payload),
         0x14 => modes::list_under(payload, room),

@@ -1,23 +1,22 @@
 // Op 1A: the line at a place of the image that a text would have.
 use crate::frames;
-use dialect::Named;
+use crate::options;
 use frames::Answer;
 use image::LineMeasured;
 use image::MeasuredLine;
-use image::Options;
+use options::Asked;
 use readers::Line;
 
-// No bit of the options is known yet.
 pub fn measured_line(payload: &[u8]) -> bool {
-    if payload.len() < 12 || payload[3] != 0 {
+    if payload.len() < 12 {
         return Answer::malformed().send();
     }
     let load = frames::u16_at(payload, 0);
     let place = frames::u64_at(payload, 4) as usize;
-    let Named::Known(dialect) = dialect::dialect_by_number(payload[2]) else {
+    let Asked::With(options) = options::asked_for(load, payload[2], payload[3]) else {
         return Answer::malformed().send();
     };
-    match image::measured_line(&payload[12..], Options { load, dialect }, place) {
+    match image::measured_line(&payload[12..], options, place) {
         LineMeasured::There(found) => send_measured(found),
         LineMeasured::NoSuchLine => Answer::done().byte(0).send(),
         LineMeasured::Refused(refusal) => Answer::refused(refusal).send(),

@@ -1,28 +1,20 @@
-// Ops 01 to 03: crunching.
+// Ops 01 to 03, 10 and 11: crunching.
 use crate::dialects;
 use crate::frames;
+use crate::options;
 use crate::rooms;
 use dialect::Named;
 use frames::Answer;
 use guess::resolve;
 use guess::resolve::Resolved;
-use image::Options;
+use options::Asked;
 
 pub fn crunch(payload: &[u8], room: &mut [u8]) -> bool {
     if payload.len() < 7 {
         return Answer::malformed().send();
     }
     let load = frames::u16_at(payload, 0);
-    let size = frames::u32_at(payload, 3) as usize;
-    if size > room.len() {
-        return Answer::malformed().send();
-    }
-    let Named::Known(dialect) = dialect::dialect_by_number(payload[2]) else {
-        return Answer::malformed().send();
-    };
-    rooms::fill(&mut room[0..size]);
-    let outcome = image::crunch(&payload[7..], Options { load, dialect }, &mut room[0..size]);
-    frames::length_of(outcome).send_with(&room[0..size])
+    crunch_asked(options::asked_for(load, payload[2], 0), &payload[3..], room)
 }
 
 pub fn room_for_crunch(payload: &[u8]) -> bool {
@@ -30,12 +22,56 @@ pub fn room_for_crunch(payload: &[u8]) -> bool {
         return Answer::malformed().send();
     }
     let load = frames::u16_at(payload, 0);
-    match dialect::dialect_by_number(payload[2]) {
-        Named::Known(dialect) => frames::length_of(image::room(
-            &payload[3..],
-            Options { load, dialect },
-        )).send(),
-        Named::Refused(_) => Answer::malformed().send(),
+    send_room(options::asked_for(load, payload[2], 0), &payload[3..])
+}
+
+// With options.
+pub fn crunch_with(payload: &[u8], room: &mut [u8]) -> bool {
+    if payload.len() < 8 {
+        return Answer::malformed().send();
+    }
+    let load = frames::u16_at(payload, 0);
+    crunch_asked(
+        options::asked_for(load, payload[2], payload[3]),
+        &payload[4..],
+        room,
+    )
+}
+
+pub fn room_for_crunch_with(payload: &[u8]) -> bool {
+    if payload.len() < 4 {
+        return Answer::malformed().send();
+    }
+    let load = frames::u16_at(payload, 0);
+    send_room(
+        options::asked_for(load, payload[2], payload[3]),
+        &payload[4..],
+    )
+}
+
+// What is left of the payload is the room's size and the text.
+fn crunch_asked(asked: Asked, left: &[u8], room: &mut [u8]) -> bool {
+    if left.len() < 4 {
+        return Answer::malformed().send();
+    }
+    let size = frames::u32_at(left, 0) as usize;
+    if size > room.len() {
+        return Answer::malformed().send();
+    }
+    rooms::fill(&mut room[0..size]);
+    match asked {
+        Asked::With(options) => {
+            let outcome = image::crunch(&left[4..], options, &mut room[0..size]);
+            frames::length_of(outcome).send_with(&room[0..size])
+        }
+        Asked::Unknown => Answer::malformed().send(),
+    }
+}
+
+fn send_room(asked: Asked, text: &[u8]) -> bool {
+    match asked {
+        Asked::With(options) => frames::length_of(image::room(text, options)).send(),
+        Asked::Unknown => Answer::malformed().send(),
     }
 }
 

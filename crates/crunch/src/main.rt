@@ -19,6 +19,7 @@ fn crunch_text(text: &[u8])
     let options = Options {
         load: LOAD,
         dialect: Dialect::Auto,
+        forms: false,
     };
     let outcome = image::crunch(text, options, &mut image);
     output::answer(outcome, &image, text);

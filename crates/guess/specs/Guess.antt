@@ -64,15 +64,15 @@ resolvedAnswer (Refused r) = refused (numbered r)
 
 -- ---- the words that are live, and those that are demoted: the text after CR handling (document 01: "Tsb makes every TSB word live,
 -- BasicV2 none. Auto makes none live unless tsb_statement_evidence holds; then words found by tsb_words_used_as_variables are demoted
--- and the others live.")
+-- and the others live."; document 02, No. 7: "The dialect guess never uses short forms")
 
 unfoldable pub wordSets : Dialect → List ℕ → Sets
 unfolding evidence names
-wordSets Tsb t = record { tsb = true; demoted = noneDemoted; basic35 = false }
-wordSets BasicV2 t = record { tsb = false; demoted = noneDemoted; basic35 = false }
-wordSets Basic35 t = record { tsb = false; demoted = noneDemoted; basic35 = true }
+wordSets Tsb t = record { tsb = true; demoted = noneDemoted; basic35 = false; forms = false }
+wordSets BasicV2 t = record { tsb = false; demoted = noneDemoted; basic35 = false; forms = false }
+wordSets Basic35 t = record { tsb = false; demoted = noneDemoted; basic35 = true; forms = false }
 wordSets Auto t =
     elim (evidence AfterCr t) [
-      | true ↦ record { tsb = true; demoted = names AfterCr t; basic35 = false }
-      | false ↦ record { tsb = false; demoted = noneDemoted; basic35 = false }
+      | true ↦ record { tsb = true; demoted = names AfterCr t; basic35 = false; forms = false }
+      | false ↦ record { tsb = false; demoted = noneDemoted; basic35 = false; forms = false }
     ]

@@ -87,7 +87,8 @@ pub fn resolved_dialect(text: &[u8], dialect: Dialect) -> Resolved
     }
 }
 
-// The TSB words that are live when a text is crunched, those that are demoted, and whether the words of BASIC 3.5 are looked for.
+// The TSB words that are live when a text is crunched, those that are demoted, and whether the words of BASIC 3.5 are looked for. Short
+// forms are no matter of the guess.
 pub fn word_sets(text: &[u8], dialect: Dialect, bytes: &[u8], index: &[u16]) -> Sets
     requires { ⌜ SpellsWords (now bytes) (now index) ⌝ }
     ensures { λ r. ⌜ r ≡ wordSets dialect (now (text .entry)) ⌝ }
@@ -99,16 +100,19 @@ pub fn word_sets(text: &[u8], dialect: Dialect, bytes: &[u8], index: &[u16]) -> 
             tsb: false,
             demoted,
             basic35,
+            forms: false,
         },
         Dialect::Tsb => Sets {
             tsb: true,
             demoted,
             basic35,
+            forms: false,
         },
         Dialect::Basic35 => Sets {
             tsb: false,
             demoted,
             basic35,
+            forms: false,
         },
         Dialect::Auto => {
             if text_evidence(text, LineRule::AfterCr, bytes, index) {
@@ -117,12 +121,14 @@ pub fn word_sets(text: &[u8], dialect: Dialect, bytes: &[u8], index: &[u16]) -> 
                     tsb: true,
                     demoted,
                     basic35,
+                    forms: false,
                 };
             }
             Sets {
                 tsb: false,
                 demoted,
                 basic35,
+                forms: false,
             }
         }
     }

@@ -15,6 +15,7 @@ use Rattle.lent.specs.Stores.{HasRoom}
 use Rattle.lent.specs.declared.Outcome.{Outcome}
 use Rattle.lent.specs.declared.Outcome.the-variants.{Done, Refused}
 use Rattle.lent.proofs.Outcomes.{told-outcome, has-room, into-refused, into-none}
+use Rattle.tables.specs.Sets.{withForms}
 use Rattle.tables.specs.declared.sets.Sets.{Sets}
 use Rattle.lines.specs.declared.domain.TextCheck.{TextCheck}
 use Rattle.lines.specs.declared.domain.TextCheck.the-variants.{Fine, Refused as Check·Refused}
@@ -42,10 +43,10 @@ mapped-twice f g (refused n) = refl
 module _ (o : Options) (place : ℕ) (text : List ℕ) where
   -- the lines of the text, by what its bytes are
   lines-by : {c x : TextCheck} → c ≡ x → textCheckAnswer c ≡ checkedText text
-      → andThen (textCheckAnswer x) (λ _. crunchLines (textLexicon (o .dialect) text) 1 (o .load) (textLines AfterCr text)) ≡ crunchedLines o text
+      → andThen (textCheckAnswer x) (λ _. crunchLines (textLexicon o text) 1 (o .load) (textLines AfterCr text)) ≡ crunchedLines o text
   unfolding crunchedLines
   lines-by told is =
-      ap (λ (a : Answer (Unit {0})). andThen a (λ _. crunchLines (textLexicon (o .dialect) text) 1 (o .load) (textLines AfterCr text))) (ap textCheckAnswer (sym told) ∙ is)
+      ap (λ (a : Answer (Unit {0})). andThen a (λ _. crunchLines (textLexicon o text) 1 (o .load) (textLines AfterCr text))) (ap textCheckAnswer (sym told) ∙ is)
 
   image-by : {a : Answer (List NumberedBody)} → a ≡ crunchedLines o text → mapDone (imageOf (o .load)) a ≡ crunched o text
   unfolding crunched
@@ -58,14 +59,15 @@ module _ (o : Options) (place : ℕ) (text : List ℕ) where
       ∙ ap (λ (x : Answer (List NumberedBody)). mapDone (entryFrom place 1) (mapDone (λ ls. withTextLines (linesAt (o .load) 2 ls) (nonblankLines text)) x)) e
 
   module _ {c : TextCheck} where
-    lines-fine : {sets : Sets} → sets ≡ wordSets (o .dialect) text → c ≡ Fine → textCheckAnswer c ≡ checkedText text
+    lines-fine : {sets guessed : Sets} → sets ≡ withForms (o .forms) guessed → guessed ≡ wordSets (o .dialect) text → c ≡ Fine → textCheckAnswer c ≡ checkedText text
         → crunchLines (lexicon sets) 1 (o .load) (textLines AfterCr text) ≡ crunchedLines o text
-    lines-fine s t e = ap (λ (x : Sets). crunchLines (lexicon x) 1 (o .load) (textLines AfterCr text)) s ∙ lines-by t e
+    lines-fine w s t e =
+        ap (λ (x : Sets). crunchLines (lexicon x) 1 (o .load) (textLines AfterCr text)) (w ∙ ap (withForms (o .forms)) s) ∙ lines-by t e
 
-    pub measured-fine : {sets : Sets} {p : Pass} → PassedAs (lexicon sets) (o .load) place text p → sets ≡ wordSets (o .dialect) text → c ≡ Fine → textCheckAnswer c ≡ checkedText text
-        → MeasuredAs o place text p
+    pub measured-fine : {sets guessed : Sets} {p : Pass} → PassedAs (lexicon sets) (o .load) place text p → sets ≡ withForms (o .forms) guessed → guessed ≡ wordSets (o .dialect) text
+        → c ≡ Fine → textCheckAnswer c ≡ checkedText text → MeasuredAs o place text p
     unfolding textImage textPlaced
-    measured-fine r s t e = record { sized = r .sized ∙ ap roomFor (image-by (lines-fine s t e)); placed = r .placed ∙ placed-by (lines-fine s t e) }
+    measured-fine r w s t e = record { sized = r .sized ∙ ap roomFor (image-by (lines-fine w s t e)); placed = r .placed ∙ placed-by (lines-fine w s t e) }
 
     pub measured-outside : {x : Refusal} → c ≡ Check·Refused x → textCheckAnswer c ≡ checkedText text → MeasuredAs o place text (record { room = Refused x; line = Line·Refused x })
     measured-outside t e = record { sized = ap roomFor (image-by (lines-by t e)); placed = placed-by (lines-by t e) }
@@ -80,10 +82,10 @@ module _ {o : Options} {place : ℕ} {text : List ℕ} {p : Pass} where
 -- ---- what is stored
 
 module _ (o : Options) (text buffer : List ℕ) {c : TextCheck} where
-  pub whole-fine : {sets : Sets} (r : Outcome) {after : List ℕ} → left r after ≡ intoBuffer (textImage (lexicon sets) (o .load) text) buffer
-      → sets ≡ wordSets (o .dialect) text → c ≡ Fine → textCheckAnswer c ≡ checkedText text → left r after ≡ intoBuffer (crunched o text) buffer
+  pub whole-fine : {sets guessed : Sets} (r : Outcome) {after : List ℕ} → left r after ≡ intoBuffer (textImage (lexicon sets) (o .load) text) buffer
+      → sets ≡ withForms (o .forms) guessed → guessed ≡ wordSets (o .dialect) text → c ≡ Fine → textCheckAnswer c ≡ checkedText text → left r after ≡ intoBuffer (crunched o text) buffer
   unfolding textImage
-  whole-fine r q s t e = q ∙ ap (λ (a : Answer (List ℕ)). intoBuffer a buffer) (image-by o 0 text (lines-fine o 0 text s t e))
+  whole-fine r q w s t e = q ∙ ap (λ (a : Answer (List ℕ)). intoBuffer a buffer) (image-by o 0 text (lines-fine o 0 text w s t e))
 
   pub whole-outside : {x : Refusal} → c ≡ Check·Refused x → textCheckAnswer c ≡ checkedText text → left (Refused x) buffer ≡ intoBuffer (crunched o text) buffer
   whole-outside t e = into-refused buffer (crunched o text) (ap roomFor (image-by o 0 text (lines-by o 0 text t e)))

@@ -7,7 +7,7 @@ use mathlib.Core.List.{List, [], _∷_, _++_}
 use lib.Dec.{leb}
 use Rattle.refusals.specs.Answer.{Answer, done, refused, mapDone, andThen}
 use Rattle.refusals.specs.Numbers.{missingLineNumber, lineNumberOutOfRange, addressOverflow}
-use Rattle.dialect.specs.declared.Dialect.{Dialect}
+use Rattle.tables.specs.Sets.{withForms}
 use Rattle.lines.specs.declared.split.LineRule.the-variants.{AfterCr}
 use Rattle.lines.specs.Domain.{checkedText}
 use Rattle.lines.specs.Numbering.{ReadLine, blankLine, missingNumber, numberTooHigh, numberedText, readLine}
@@ -44,15 +44,15 @@ crunchLines words k address (line ∷ lines) =
     andThen (lastLink address new) (λ next.
     mapDone (λ ls. new ++ ls) (crunchLines words (suc k) next lines)))
 
--- the words that are looked for in a text
-abbrev pub textLexicon : Dialect → List ℕ → Lexicon
-textLexicon dialect text = lexicon (wordSets dialect text)
+-- the words that are looked for in a text, and whether their short forms are (document 02, No. 7)
+abbrev pub textLexicon : Options → List ℕ → Lexicon
+textLexicon o text = lexicon (withForms (o .forms) (wordSets (o .dialect) text))
 
 -- the numbers and bodies of a text's nonblank lines
 unfoldable pub crunchedLines : Options → List ℕ → Answer (List NumberedBody)
 unfolding checkedText crunchLines textLines wordSets
 crunchedLines o text =
-    andThen (checkedText text) (λ _. crunchLines (textLexicon (o .dialect) text) 1 (o .load) (textLines AfterCr text))
+    andThen (checkedText text) (λ _. crunchLines (textLexicon o text) 1 (o .load) (textLines AfterCr text))
 
 -- the image of a text
 unfoldable pub crunched : Options → List ℕ → Answer (List ℕ)

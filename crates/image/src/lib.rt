@@ -6,6 +6,7 @@ use lines::domain;
 use lines::domain::TextCheck;
 use readers::Line;
 use refusals::Refusal;
+use tables::sets;
 use tables::sets::Sets;
 use tables::spellings;
 ghost use mathlib.Core.Path.{_≡_};
@@ -20,10 +21,11 @@ mod bound;
 mod measure;
 mod write;
 
-// What a text is crunched with.
+// What a text is crunched with: where its image begins, its dialect, and whether short forms of V2 words are taken.
 pub struct Options {
     pub load: u16,
     pub dialect: Dialect,
+    pub forms: bool,
 }
 
 // A line of the image that a text would have, as it will stand there, and the text line that it comes from: counted from 1, blank ones too.
@@ -96,7 +98,8 @@ fn crunch_with(
     match domain::check_text(text) {
         TextCheck::Fine => {
             let dialect = options.dialect;
-            let sets = resolve::word_sets(text, dialect, bytes, index);
+            let guessed = resolve::word_sets(text, dialect, bytes, index);
+            let sets = sets::with_forms(guessed, options.forms);
             into_buffer(out, text, options.load, bytes, index, sets)
         }
         TextCheck::Refused(refusal) => Outcome::Refused(refusal),

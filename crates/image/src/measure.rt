@@ -12,6 +12,7 @@ use lines::split;
 use lines::split::LineRule;
 use readers::Line;
 use refusals::Refusal;
+use tables::sets;
 use tables::sets::Sets;
 ghost use mathlib.Core.Path.{_≡_};
 ghost use Prim.Native.Nat.{_≤_};
@@ -41,7 +42,8 @@ pub fn measured(text: &[u8], options: Options, place: usize, bytes: &[u8], index
     match domain::check_text(text) {
         TextCheck::Fine => {
             let dialect = options.dialect;
-            let sets = resolve::word_sets(text, dialect, bytes, index);
+            let guessed = resolve::word_sets(text, dialect, bytes, index);
+            let sets = sets::with_forms(guessed, options.forms);
             measure(text, options.load, place, bytes, index, sets)
         }
         TextCheck::Refused(refusal) => {

@@ -34,6 +34,7 @@ pub extern "C" fn moldthatch_crunch(text: &[u8], load: u16, dialect: u8, out: &m
             Options {
                 load,
                 dialect: known,
+                forms: false,
             },
             out,
         )),
@@ -52,6 +53,7 @@ pub extern "C" fn moldthatch_crunch_room(text: &[u8], load: u16, dialect: u8) ->
             Options {
                 load,
                 dialect: known,
+                forms: false,
             },
         )),
         Named::Refused(refusal) => refusals::refusal_code(refusal),

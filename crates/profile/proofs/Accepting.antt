@@ -111,8 +111,8 @@ module _ (o : Options) (text : List ℕ) {ls : List NumberedBody} (e : profiledL
   unfolding profiledLines crunchedLines
   both =
       let c = then-done (checkedText text) _ e in
-      let a = accepted (textLexicon (o .dialect) text) (textLines AfterCr text) 1 (o .load) none (c .2) in
-      (ap (λ (x : Answer (Unit {0})). andThen x (λ _. crunchLines (textLexicon (o .dialect) text) 1 (o .load) (textLines AfterCr text))) (c .1) ∙ a .0, a .1)
+      let a = accepted (textLexicon o text) (textLines AfterCr text) 1 (o .load) none (c .2) in
+      (ap (λ (x : Answer (Unit {0})). andThen x (λ _. crunchLines (textLexicon o text) 1 (o .load) (textLines AfterCr text))) (c .1) ∙ a .0, a .1)
 
   -- "An accepted text has the same image as before"
   pub accepted-plain : crunchedLines o text ≡ done ls

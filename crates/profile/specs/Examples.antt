@@ -14,7 +14,7 @@ use Rattle.profile.specs.Profile.{profiledLines}
 
 infix 60 _profiledAt_
 abbrev pub _profiledAt_ : List ℕ → ℕ → Answer (List NumberedBody)
-text profiledAt load = profiledLines (record { load = load; dialect = Auto }) text
+text profiledAt load = profiledLines (record { load = load; dialect = Auto; forms = false }) text
 
 -- two text lines
 abbrev pub twoTexts : String → String → List ℕ

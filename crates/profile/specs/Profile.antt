@@ -75,4 +75,4 @@ profileLines words k address before (line ∷ lines) =
 unfoldable pub profiledLines : Options → List ℕ → Answer (List NumberedBody)
 unfolding checkedText profileLines textLines wordSets
 profiledLines o text =
-    andThen (checkedText text) (λ _. profileLines (textLexicon (o .dialect) text) 1 (o .load) none (textLines AfterCr text))
+    andThen (checkedText text) (λ _. profileLines (textLexicon o text) 1 (o .load) none (textLines AfterCr text))

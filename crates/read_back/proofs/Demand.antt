@@ -97,8 +97,8 @@ module _ (o : Options) (text : List ℕ) {ls : List NumberedBody} (low : o .load
   unfolding crunchedLines
   crunched-laid = go (checkedText text) e
     where
-      go : (a : Answer (Unit {0})) → andThen a (λ _. crunchLines (textLexicon (o .dialect) text) 1 (o .load) (textLines AfterCr text)) ≡ done ls → Laid (o .load) ls
-      go (done u) p = lines-laid (textLexicon (o .dialect) text) (textLines AfterCr text) 1 (o .load) ls low p
+      go : (a : Answer (Unit {0})) → andThen a (λ _. crunchLines (textLexicon o text) 1 (o .load) (textLines AfterCr text)) ≡ done ls → Laid (o .load) ls
+      go (done u) p = lines-laid (textLexicon o text) (textLines AfterCr text) 1 (o .load) ls low p
       go (refused n) p = let z : _≡_ {A = ℕ} 0 1 = cc in absurd (omega arith)
 
   crunched-image : crunched o text ≡ done (imageOf (o .load) ls)

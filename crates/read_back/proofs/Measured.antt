@@ -85,9 +85,9 @@ module _ (o : Options) (text : List ℕ) {ls : List NumberedBody} (e : crunchedL
   unfolding crunchedLines
   paired = go (checkedText text) e
     where
-      go : (a : Answer (Unit {0})) → andThen a (λ _. crunchLines (textLexicon (o .dialect) text) 1 (o .load) (textLines AfterCr text)) ≡ done ls
+      go : (a : Answer (Unit {0})) → andThen a (λ _. crunchLines (textLexicon o text) 1 (o .load) (textLines AfterCr text)) ≡ done ls
           → length (nonblankLines text) ≡ length (linesAt (o .load) 2 ls)
-      go (done u) p = counted (textLexicon (o .dialect) text) (textLines AfterCr text) 1 (o .load) p ∙ sym (lines-at-length ls (o .load) 2)
+      go (done u) p = counted (textLexicon o text) (textLines AfterCr text) 1 (o .load) p ∙ sym (lines-at-length ls (o .load) 2)
       go (refused n) p = let z : _≡_ {A = ℕ} 0 1 = cc in absurd (omega arith)
 
   come-from : ComeFrom text told

@@ -7,15 +7,15 @@ use mathlib.Core.List.{List, [], _∷_, map}
 use native.Mathlib.Omega.{arith}
 use lib.Dec.{T, ltb, eqb, lt→ltb, eqb→eq}
 use lib.ListN.{length, getD, take}
-use borrow.Author.Tests.{lt-ltb, le-ltb, eq-eqb, eqb-true, eqb-false}
+use borrow.Author.Tests.{lt-ltb, le-ltb, ltb-true, eq-eqb, eqb-true, eqb-false}
 use Rattle.ascii.specs.Bytes.{between, upper}
-use Rattle.words.specs.Compare.{begins, alike, same, passes}
+use Rattle.words.specs.Compare.{begins, alike, same, shortens, passes}
 use Rattle.words.specs.Find.{Entry, firstThat}
 use Rattle.words.specs.RunHelpers.{Ready, raised, wordOf, firstFrom}
 use Rattle.words.specs.declared.Match.{Match}
 use Rattle.words.specs.declared.Match.the-variants.{Word, Nothing}
 use Rattle.words.specs.declared.Test.{Test}
-use Rattle.words.specs.declared.Test.the-variants.{Begins, Alike, Same}
+use Rattle.words.specs.declared.Test.the-variants.{Begins, Alike, Same, Shortens}
 use Rattle.words.proofs.Comparing.{raise-raised}
 use Rattle.words.proofs.Search.{and-left, and-right}
 use Rattle.words.proofs.Sameness.{same-eq, T-true}
@@ -65,15 +65,33 @@ begins-initial (x ∷ w) (y ∷ t) r e = go (eqb (upper x) (upper y)) refl e
     go true u g = eqb-true _ _ u
     go false u g = absurd (false≢true g)
 
+-- so does a word that a text, not empty, begins
+begun-initial : (w t : List ℕ) → 0 < length t → begins t w ≡ true → initial w ≡ initial t
+unfolding initial begins
+begun-initial w [] h e = absurd (omega arith)
+begun-initial [] (y ∷ t) h e = absurd (false≢true e)
+begun-initial (x ∷ w) (y ∷ t) h e = go (eqb (upper y) (upper x)) refl e
+  where
+    go : (b : Bool) → eqb (upper y) (upper x) ≡ b → elim b [ true ↦ begins t w | false ↦ false ] ≡ true → upper x ≡ upper y
+    go true u g = sym (eqb-true _ _ u)
+    go false u g = absurd (false≢true g)
+
 and-true : (a b : Bool) → (a && b) ≡ true → b ≡ true
 and-true true b e = e
 and-true false b e = absurd (false≢true e)
 
+and-first : (a b : Bool) → (a && b) ≡ true → a ≡ true
+and-first true b e = refl
+and-first false b e = absurd (false≢true e)
+
 pub confined-test : (test : Test) (t : List ℕ) → Confined (λ k w. passes test w t) (initial t)
-unfolding Confined passes alike
+unfolding Confined passes alike shortens
 confined-test Begins t k w r e = begins-initial w t r e
 confined-test Alike t k w r e = begins-initial w t r (and-true (eqb (length w) (length t)) (begins w t) e)
 confined-test Same t k w r e = ap initial (same-eq w t e)
+confined-test Shortens t k w r e =
+    let shorter = ltb 0 (length t) && ltb (length t) (length w) in
+    begun-initial w t (ltb-true _ _ (and-first (ltb 0 (length t)) (ltb (length t) (length w)) (and-first shorter (begins t w) e))) (and-true shorter (begins t w) e)
 
 pub confined-set : (set : ℕ → Bool) (t : List ℕ) → Confined (λ k w. set k && begins w t) (initial t)
 unfolding Confined

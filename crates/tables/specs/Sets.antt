@@ -34,3 +34,7 @@ plainWords s v2 own = cond (s .basic35) (v2 ++ own) v2
 unfoldable pub plainWord : Sets → List Entry → List Entry → List ℕ → Match
 unfolding wordIn
 plainWord s v2 own t = wordIn (plainWords s v2 own) t
+
+-- the same words, with or without short forms (document 02, No. 7)
+abbrev pub withForms : Bool → Sets → Sets
+withForms on s = record { tsb = s .tsb; demoted = s .demoted; basic35 = s .basic35; forms = on }

@@ -2,20 +2,20 @@
 -- Assumes nothing.
 use Prim.Native.Nat.{ℕ, zero, suc, _+_, _-_, _≤_, _<_}
 use mathlib.Core.Path.{_≡_, refl, sym, ap, _∙_}
-use mathlib.Core.Bool.{Bool, true, false, false≢true}
+use mathlib.Core.Bool.{Bool, true, false, _&&_, false≢true}
 use mathlib.Core.List.{List, [], _∷_, map}
 use native.Mathlib.Nat.{le-of-suc-le-suc}
 use native.Mathlib.Numerals.{add-one}
 use native.Mathlib.Omega.{arith}
-use lib.Dec.{T, eqb}
+use lib.Dec.{T, eqb, ltb}
 use lib.ListN.{length, getD, take, drop, drop-of-length-le, length-map}
 use lib.Seq.{drop-cons}
-use borrow.Author.Tests.{eq-eqb, ne-eqb, eqb-true, lt-leb}
+use borrow.Author.Tests.{eq-eqb, ne-eqb, eqb-true, lt-leb, lt-ltb, le-ltb}
 use Rattle.ascii.specs.Bytes.{between, upper}
 use Rattle.ascii.proofs.Ranges.{between-in}
-use Rattle.words.specs.Compare.{begins, alike, same, passes}
+use Rattle.words.specs.Compare.{begins, alike, same, shortens, passes}
 use Rattle.words.specs.declared.Test.{Test}
-use Rattle.words.specs.declared.Test.the-variants.{Begins, Alike, Same}
+use Rattle.words.specs.declared.Test.the-variants.{Begins, Alike, Same, Shortens}
 use Rattle.words.specs.RunHelpers.{raised, Ready}
 use Rattle.words.proofs.Search.{and-left, and-right}
 use Rattle.words.proofs.Sameness.{T-true}
@@ -150,6 +150,39 @@ pub raise-alike : (w t : List ℕ) → alike (map upper w) t ≡ alike w t
 unfolding alike
 raise-alike w t = rw (length-map w upper, raise-begins w t)
 
+raise-begun : (w t : List ℕ) → begins t (map upper w) ≡ begins t w
+unfolding begins
+raise-begun w [] = refl
+raise-begun [] (y ∷ t) = refl
+raise-begun (x ∷ w) (y ∷ t) = rw (begins, upper-upper x) (go (eqb (upper y) (upper x)) (raise-begun w t))
+  where
+    go : (r : Bool) → begins t (map upper w) ≡ begins t w → _≡_ {A = Bool} (elim r [ true ↦ begins t (map upper w) | false ↦ false ]) (elim r [ true ↦ begins t w | false ↦ false ])
+    go true e = e
+    go false e = refl
+
+pub raise-shortens : (w t : List ℕ) → shortens (map upper w) t ≡ shortens w t
+unfolding shortens
+raise-shortens w t = rw (length-map w upper, raise-begun w t)
+
+-- ---- a word and a text that may be a beginning of it
+
+module _ (w t : List ℕ) where
+  pub shortens-none : length t ≡ 0 → false ≡ shortens w t
+  unfolding shortens
+  shortens-none e = rw (shortens, e)
+
+  pub shortens-long : length w ≤ length t → false ≡ shortens w t
+  unfolding shortens
+  shortens-long h = rw (shortens, le-ltb _ _ h) (off (ltb 0 (length t)))
+    where
+      off : (b : Bool) → false ≡ ((b && false) && begins t w)
+      off true = refl
+      off false = refl
+
+  pub shortens-begun : {r : Bool} → r ≡ begins t w → length t < length w → (length t ≡ 0 → ⊥) → r ≡ shortens w t
+  unfolding shortens
+  shortens-begun q h n = let some : 0 < length t = omega arith in rw (shortens, lt-ltb _ _ some, lt-ltb _ _ h) q
+
 -- ---- each test
 
 module _ (w t : List ℕ) {test : Test} where
@@ -168,3 +201,7 @@ module _ (w t : List ℕ) {test : Test} where
   pub passes-same : {r : Bool} → r ≡ same w t → test ≡ Same → r ≡ passes test w t
   unfolding passes
   passes-same q e = rw e q
+
+  pub passes-shortens : {r : Bool} → r ≡ shortens w t → test ≡ Shortens → r ≡ passes test w t
+  unfolding passes
+  passes-shortens q e = rw e q

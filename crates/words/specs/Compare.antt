@@ -5,10 +5,10 @@ use Prim.Native.Nat.{ℕ}
 use mathlib.Core.Bool.{Bool, true, false, _&&_}
 use mathlib.Core.List.{List, [], _∷_}
 use lib.ListN.{length}
-use lib.Dec.{eqb}
+use lib.Dec.{eqb, ltb}
 use Rattle.ascii.specs.Bytes.{upper}
 use Rattle.words.specs.declared.Test.{Test}
-use Rattle.words.specs.declared.Test.the-variants.{Begins, Alike, Same}
+use Rattle.words.specs.declared.Test.the-variants.{Begins, Alike, Same, Shortens}
 
 -- the word is a beginning of the text
 unfoldable pub begins : List ℕ → List ℕ → Bool
@@ -28,6 +28,11 @@ same [] (y ∷ t) = false
 same (x ∷ w) [] = false
 same (x ∷ w) (y ∷ t) = elim (eqb x y) [ true ↦ same w t | false ↦ false ]
 
+-- the text is a beginning of the word, one byte or more, and the word is longer
+unfoldable pub shortens : List ℕ → List ℕ → Bool
+unfolding begins
+shortens w t = (ltb 0 (length t) && ltb (length t) (length w)) && begins t w
+
 -- the text is one of the words
 unfoldable pub member : List ℕ → List (List ℕ) → Bool
 unfolding same
@@ -39,3 +44,4 @@ unfoldable pub passes : Test → List ℕ → List ℕ → Bool
 passes Begins w t = begins w t
 passes Alike w t = alike w t
 passes Same w t = same w t
+passes Shortens w t = shortens w t

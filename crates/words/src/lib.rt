@@ -1,7 +1,7 @@
 // Words compared with texts, and a list of words as it is stored: one run of bytes, with a start for each word and one behind the last.
 ghost use mathlib.Core.Path.{_≡_};
 ghost use Prim.Native.Nat.{_-_};
-ghost use Rattle.words.specs.Compare.{begins as beginsOf, alike as alikeOf, same as sameOf, passes as passesOf};
+ghost use Rattle.words.specs.Compare.{begins as beginsOf, alike as alikeOf, same as sameOf, shortens as shortensOf, passes as passesOf};
 ghost use Rattle.words.specs.RunHelpers.{Lies, Ready, Stored, wordOf, passesAt, firstFrom};
 
 pub enum Match {
@@ -28,6 +28,8 @@ pub enum Test {
     Alike,
     // The text is the word, case and all.
     Same,
+    // The text is a beginning of the word, one byte or more, and the word is longer; without regard to case.
+    Shortens,
 }
 
 // Whether the text begins with the word, without regard to case.
@@ -66,6 +68,19 @@ pub fn same(word: &[u8], text: &[u8]) -> bool
     check::same(word, text)
 }
 
+// Whether the text is a beginning of the word, one byte or more, and the word is longer.
+fn shortens(word: &[u8], text: &[u8]) -> bool
+    ensures { λ r. ⌜ r ≡ shortensOf (now (word .entry)) (now (text .entry)) ⌝ }
+{
+    if text.len() == 0 {
+        return false;
+    }
+    if word.len() <= text.len() {
+        return false;
+    }
+    begins(text, word)
+}
+
 // Whether the text begins with a word that is stored in capitals, where so many bytes of the two are known to agree.
 fn goes_on(word: &[u8], text: &[u8], known: usize) -> bool
     requires { ⌜ Ready (now word) (now text) known ⌝ }
@@ -98,6 +113,7 @@ fn passes(test: Test, word: &[u8], text: &[u8], known: usize) -> bool
             goes_on(word, text, known)
         }
         Test::Same => same(word, text),
+        Test::Shortens => shortens(word, text),
     }
 }
 

@@ -1,6 +1,6 @@
 -- `words::passes` meets its contract.
 -- Assumes nothing.
-use Rattle.words.proofs.Comparing.{passes-begins, passes-alike, passes-longer, passes-same}
+use Rattle.words.proofs.Comparing.{passes-begins, passes-alike, passes-longer, passes-same, passes-shortens}
 use borrow.Author.Needs.{needs}
 use Rattle.words.proofs.passes.Statement.{statement}
 use Rattle.words.proofs.passes.Tie as tie
@@ -17,6 +17,9 @@ returns-3 c = search passes-alike
 returns-4 : tie.Need-returns-4
 returns-4 c = search passes-same
 
+returns-5 : tie.Need-returns-5
+returns-5 c = search passes-shortens
+
 pub passes-spec : {M : Type 1} → statement M
 passes-spec =
     tie.close
@@ -28,6 +31,9 @@ passes-spec =
     (λ c κs. search needs)
     (λ c. search needs)
     (λ c κs. search needs)
+    (λ c. search needs)
+    (λ c κs. search needs)
     returns-2
     returns-3
-    returns-4)
+    returns-4
+    returns-5)

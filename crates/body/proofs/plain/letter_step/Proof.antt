@@ -1,7 +1,6 @@
--- `body::plain::letter_step` meets its contract: no operator begins with a letter.
+-- `body::plain::letter_step` meets its contract.
 -- Assumes nothing.
-use Rattle.body.proofs.Beginnings.{document-proper}
-use Rattle.body.proofs.PlainSteps.{letter-tsb, letter-plain, letter-other}
+use Rattle.body.proofs.PlainSteps.{letter-tsb, letter-plain, letter-left}
 use borrow.Author.Needs.{needs}
 use Rattle.body.proofs.plain.letter_step.Statement.{statement}
 use Rattle.body.proofs.plain.letter_step.Tie as tie
@@ -13,7 +12,7 @@ returns-2 : tie.Need-returns-2
 returns-2 c = search letter-plain
 
 returns-3 : tie.Need-returns-3
-returns-3 c = search (letter-other, document-proper)
+returns-3 c = search letter-left
 
 pub letter-step-spec : {M : Type 1} → statement M
 letter-step-spec =
@@ -28,8 +27,6 @@ letter-step-spec =
     (λ c κs. search needs)
     (λ c κs. search needs)
     (λ c. search needs)
-    (λ c. search needs)
-    (λ c κs. search needs)
     (λ c κs. search needs)
     returns
     returns-2

@@ -1,0 +1,151 @@
+-- With the option of short forms off each answer is what it was, for every text, dialect and load address.
+-- Assumes nothing.
+use Prim.Native.Nat.{ℕ, zero, suc}
+use mathlib.Core.Path.{_≡_, refl, sym, ap, _∙_}
+use mathlib.Core.Bool.{Bool, true, false}
+use mathlib.Core.List.{List, [], _∷_, _++_}
+use mathlib.Core.Option.{Option}
+use lib.Dec.{eqb}
+use lib.ListN.{length, drop}
+use Rattle.steps.specs.Again.{again}
+use Rattle.refusals.specs.Answer.{Answer, done, refused, mapDone, andThen}
+use Rattle.words.specs.declared.Match.{Match}
+use Rattle.words.specs.declared.Match.the-variants.{Word, Nothing}
+use Rattle.tables.specs.Sets.{liveWord, plainWord, withForms}
+use Rattle.tables.specs.declared.sets.Sets.{Sets}
+use Rattle.forms.proofs.Standing.{form-off}
+use Rattle.dialect.specs.declared.Dialect.{Dialect}
+use Rattle.dialect.specs.declared.Dialect.the-variants.{Auto, BasicV2, Tsb, Basic35}
+use Rattle.lines.specs.declared.split.LineRule.the-variants.{AfterCr}
+use Rattle.lines.specs.Domain.{checkedText}
+use Rattle.lines.specs.Numbering.{ReadLine, blankLine, missingNumber, numberTooHigh, numberedText, readLine}
+use Rattle.lines.specs.TextLines.{textLines}
+use Rattle.guess.specs.Guess.{evidence, names, noneDemoted, wordSets}
+use Rattle.body.specs.Body.{written, moveThen, crunchOn, crunchedFrom, crunchedBody}
+use Rattle.body.specs.Lexicon.{Lexicon, lexicon}
+use Rattle.body.specs.Steps.{first, one, token, opened, signStep, formStep, plainStep, stringStep, dataStep, dataQuoteStep, crunchStep}
+use Rattle.body.specs.declared.moves.Mode.{Mode}
+use Rattle.body.specs.declared.moves.Mode.the-variants.{Plain, String, Remark, Data, DataQuote}
+use Rattle.body.specs.declared.moves.Move.{Move}
+use Rattle.readers.specs.NumberedBody.{NumberedBody}
+use Rattle.layout.specs.Layout.{imageOf}
+use Rattle.layout.specs.Reads.{linesAt}
+use Rattle.image.specs.Crunched.{linesRead, textLine, lastLink, crunchLines, textLexicon, crunchedLines, crunched}
+use Rattle.image.specs.Measured.{nonblankLines, withTextLines, entryFrom, measuredLines, lineMeasured}
+use Rattle.image.specs.declared.MeasuredLine.{MeasuredLine}
+use Rattle.image.specs.declared.Options.{Options}
+use Rattle.forms_off.specs.Before.{plainBefore, stepBefore, onBefore, bodyBefore, lineBefore, linesBefore, crunchedBefore}
+
+-- a line of its own
+abbrev numberedLine : ℕ → List ℕ → Answer (List NumberedBody)
+numberedLine number body = done (record { number = number; body = body } ∷ [])
+
+-- ---- a step, a body
+
+module _ (l : Lexicon) (off : l .sets .forms ≡ false) where
+  form-step-off : (t : List ℕ) → formStep l t ≡ signStep l t
+  unfolding formStep
+  form-step-off t = rw (formStep, form-off (l .sets) (l .tsb) (l .v2) t off)
+
+  pub step-off : (m : Mode) (t : List ℕ) → crunchStep l m t ≡ stepBefore l m t
+  unfolding crunchStep stepBefore plainStep plainBefore
+  step-off Plain t =
+      ap (λ (o : Move). elim (eqb (first t) 0x22) as (λ _. Move) [
+        | true ↦ one 0x22 String
+        | false ↦ elim (liveWord (l .sets) (l .tsb) t) as (λ _. Move) [
+          | Word i u k ↦ token true k Plain u
+          | Nothing ↦ elim (plainWord (l .sets) (l .v2) (l .basic35) t) as (λ _. Move) [ Word i u k ↦ token false k (opened k) u | Nothing ↦ o ]
+        ]
+      ]) (form-step-off t)
+  step-off String t = refl
+  step-off Remark t = refl
+  step-off Data t = refl
+  step-off DataQuote t = refl
+
+  from-off : (n : ℕ) (m : Mode) (t : List ℕ) → again [] (crunchOn l) n (m, t) ≡ again [] (onBefore l) n (m, t)
+  unfolding again crunchOn onBefore
+  from-off zero m t = refl
+  from-off (suc n) m [] = refl
+  from-off (suc n) m (b ∷ s) =
+      let o = crunchStep l m (b ∷ s) in
+      ap (λ (r : List ℕ). written o ++ r) (from-off n (o .mode) (drop (o .used) (b ∷ s)))
+      ∙ ap (moveThen (again [] (onBefore l) n) (b ∷ s)) (step-off m (b ∷ s))
+
+  pub body-off : (t : List ℕ) → crunchedBody l t ≡ bodyBefore l t
+  unfolding crunchedFrom bodyBefore
+  body-off t = from-off (suc (length t)) Plain t
+
+  -- ---- the lines of a text
+
+  line-off : (k : ℕ) (r : ReadLine) → linesRead l k r ≡ lineBefore l k r
+  line-off k blankLine = refl
+  line-off k missingNumber = refl
+  line-off k (numberTooHigh value) = refl
+  line-off k (numberedText number text) = ap (numberedLine number) (body-off text)
+
+  lines-off : (lines : List (List ℕ)) (k address : ℕ) → crunchLines l k address lines ≡ linesBefore l k address lines
+  unfolding crunchLines textLine linesBefore
+  lines-off [] k address = refl
+  lines-off (line ∷ lines) k address =
+      read (λ next. lines-off lines (suc k) next) (linesRead l k (readLine line)) ∙ ap (λ (a : Answer (List NumberedBody)). andThen a onward) (line-off k (readLine line))
+    where
+      onward : List NumberedBody → Answer (List NumberedBody)
+      onward new = andThen (lastLink address new) (λ next. mapDone (λ ls. new ++ ls) (linesBefore l (suc k) next lines))
+
+      linked : ((next : ℕ) → crunchLines l (suc k) next lines ≡ linesBefore l (suc k) next lines) → (new : List NumberedBody) (a : Answer ℕ)
+          → andThen a (λ next. mapDone (λ ls. new ++ ls) (crunchLines l (suc k) next lines)) ≡ andThen a (λ next. mapDone (λ ls. new ++ ls) (linesBefore l (suc k) next lines))
+      linked f new (done next) = ap (mapDone (λ ls. new ++ ls)) (f next)
+      linked f new (refused r) = refl
+
+      read : ((next : ℕ) → crunchLines l (suc k) next lines ≡ linesBefore l (suc k) next lines) → (a : Answer (List NumberedBody))
+          → andThen a (λ new. andThen (lastLink address new) (λ next. mapDone (λ ls. new ++ ls) (crunchLines l (suc k) next lines))) ≡ andThen a onward
+      read f (done new) = linked f new (lastLink address new)
+      read f (refused r) = refl
+
+-- ---- the guess never uses short forms
+
+pub guess-off : (d : Dialect) (t : List ℕ) → wordSets d t .forms ≡ false
+unfolding wordSets
+guess-off Tsb t = refl
+guess-off BasicV2 t = refl
+guess-off Basic35 t = refl
+guess-off Auto t = go (evidence AfterCr t)
+  where
+    go : (b : Bool) → _≡_ {A = Bool} ((elim b as (λ _. Sets) [
+      | true ↦ record { tsb = true; demoted = names AfterCr t; basic35 = false; forms = false }
+      | false ↦ record { tsb = false; demoted = noneDemoted; basic35 = false; forms = false }
+    ]) .forms) false
+    go true = refl
+    go false = refl
+
+-- ---- all of it
+
+module _ (o : Options) (off : o .forms ≡ false) (text : List ℕ) where
+  words-off : withForms (o .forms) (wordSets (o .dialect) text) ≡ wordSets (o .dialect) text
+  words-off =
+      let s = wordSets (o .dialect) text in
+      ap (λ (b : Bool). withForms b s) (off ∙ sym (guess-off (o .dialect) text))
+
+  pub answers-off : crunchedLines o text ≡ crunchedBefore (o .load) (o .dialect) text
+  unfolding crunchedLines crunchedBefore
+  answers-off =
+      ap (λ (s : Sets). andThen (checkedText text) (λ _. crunchLines (lexicon s) 1 (o .load) (textLines AfterCr text))) words-off
+      ∙ go (checkedText text)
+    where
+      go : (a : Answer (Unit {0})) → andThen a (λ _. crunchLines (lexicon (wordSets (o .dialect) text)) 1 (o .load) (textLines AfterCr text))
+          ≡ andThen a (λ _. linesBefore (lexicon (wordSets (o .dialect) text)) 1 (o .load) (textLines AfterCr text))
+      go (done u) = lines-off (lexicon (wordSets (o .dialect) text)) (guess-off (o .dialect) text) (textLines AfterCr text) 1 (o .load)
+      go (refused r) = refl
+
+  -- the image, and with it the room and what is left in a buffer
+  pub image-off : crunched o text ≡ mapDone (imageOf (o .load)) (crunchedBefore (o .load) (o .dialect) text)
+  unfolding crunched
+  image-off = ap (mapDone (imageOf (o .load))) answers-off
+
+  -- a measured line
+  pub measured-off : (place : ℕ)
+      → lineMeasured o place text
+      ≡ mapDone (entryFrom place 1) (mapDone (λ ls. withTextLines (linesAt (o .load) 2 ls) (nonblankLines text)) (crunchedBefore (o .load) (o .dialect) text))
+  unfolding lineMeasured measuredLines
+  measured-off place =
+      ap (λ (a : Answer (List NumberedBody)). mapDone (entryFrom place 1) (mapDone (λ ls. withTextLines (linesAt (o .load) 2 ls) (nonblankLines text)) a)) answers-off

@@ -1,0 +1,77 @@
+-- Crunching as it was before there were short forms: document 01's steps, with the words of BASIC 3.5 (document 02, No. 5), and over them the same bodies, lines and image
+-- (document 02, No. 7: "With the option off, each answer is what it was").
+-- Assumes nothing.
+use Prim.Native.Nat.{ℕ, suc}
+use mathlib.Core.Bool.{true, false}
+use mathlib.Core.List.{List, [], _∷_, _++_}
+use lib.Dec.{eqb}
+use lib.ListN.{length}
+use Rattle.steps.specs.Again.{again}
+use Rattle.refusals.specs.Answer.{Answer, done, refused, mapDone, andThen}
+use Rattle.refusals.specs.Numbers.{missingLineNumber, lineNumberOutOfRange}
+use Rattle.words.specs.declared.Match.the-variants.{Word, Nothing}
+use Rattle.tables.specs.Sets.{liveWord, plainWord}
+use Rattle.dialect.specs.declared.Dialect.{Dialect}
+use Rattle.lines.specs.declared.split.LineRule.the-variants.{AfterCr}
+use Rattle.lines.specs.Domain.{checkedText}
+use Rattle.lines.specs.Numbering.{ReadLine, blankLine, missingNumber, numberTooHigh, numberedText, readLine}
+use Rattle.lines.specs.TextLines.{textLines}
+use Rattle.guess.specs.Guess.{wordSets}
+use Rattle.body.specs.Body.{moveThen}
+use Rattle.body.specs.Lexicon.{Lexicon, lexicon}
+use Rattle.body.specs.Steps.{first, one, token, opened, signStep, stringStep, dataStep, dataQuoteStep}
+use Rattle.body.specs.declared.moves.Mode.{Mode}
+use Rattle.body.specs.declared.moves.Mode.the-variants.{Plain, String, Remark, Data, DataQuote}
+use Rattle.body.specs.declared.moves.Move.{Move}
+use Rattle.readers.specs.NumberedBody.{NumberedBody}
+use Rattle.image.specs.Crunched.{lastLink}
+
+-- "Plain, first that applies: a quote opens a string; a live TSB word ..; a V2 word ..; one of + - * / ^ > = <; pi; ?; a-z raised; else
+-- copied" (document 01, "Crunching one body")
+unfoldable pub plainBefore : Lexicon → List ℕ → Move
+unfolding liveWord plainWord opened signStep
+plainBefore l t =
+    elim (eqb (first t) 0x22) [
+      | true ↦ one 0x22 String
+      | false ↦ elim (liveWord (l .sets) (l .tsb) t) [
+        | Word i u k ↦ token true k Plain u
+        | Nothing ↦ elim (plainWord (l .sets) (l .v2) (l .basic35) t) [ Word i u k ↦ token false k (opened k) u | Nothing ↦ signStep l t ]
+      ]
+    ]
+
+unfoldable pub stepBefore : Lexicon → Mode → List ℕ → Move
+unfolding plainBefore stringStep dataStep dataQuoteStep
+stepBefore l Plain t = plainBefore l t
+stepBefore l String t = stringStep t
+stepBefore l Remark t = one (first t) Remark
+stepBefore l Data t = dataStep (first t)
+stepBefore l DataQuote t = dataQuoteStep (first t)
+
+-- a body
+unfoldable pub onBefore : Lexicon → (Mode × List ℕ → List ℕ) → Mode × List ℕ → List ℕ
+unfolding stepBefore
+onBefore l more x = elim (x .1) [ [] ↦ [] | b ∷ s ↦ moveThen more (x .1) (stepBefore l (x .0) (x .1)) ]
+
+unfoldable pub bodyBefore : Lexicon → List ℕ → List ℕ
+unfolding again onBefore
+bodyBefore l t = again [] (onBefore l) (suc (length t)) (Plain, t)
+
+-- the lines of a text
+abbrev pub lineBefore : Lexicon → ℕ → ReadLine → Answer (List NumberedBody)
+lineBefore words k blankLine = done []
+lineBefore words k missingNumber = refused (missingLineNumber k)
+lineBefore words k (numberTooHigh value) = refused (lineNumberOutOfRange k value)
+lineBefore words k (numberedText number text) = done (record { number = number; body = bodyBefore words text } ∷ [])
+
+unfoldable pub linesBefore : Lexicon → ℕ → ℕ → List (List ℕ) → Answer (List NumberedBody)
+unfolding readLine bodyBefore lastLink
+linesBefore words k address [] = done []
+linesBefore words k address (line ∷ lines) =
+    andThen (lineBefore words k (readLine line)) (λ new.
+    andThen (lastLink address new) (λ next.
+    mapDone (λ ls. new ++ ls) (linesBefore words (suc k) next lines)))
+
+unfoldable pub crunchedBefore : ℕ → Dialect → List ℕ → Answer (List NumberedBody)
+unfolding checkedText linesBefore textLines wordSets
+crunchedBefore load dialect text =
+    andThen (checkedText text) (λ _. linesBefore (lexicon (wordSets dialect text)) 1 load (textLines AfterCr text))
