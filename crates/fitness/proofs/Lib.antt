@@ -1,0 +1,6 @@
+pub mod Alike
+pub mod Moving
+pub mod Table
+pub mod Telling
+pub mod Walking
+pub mod Whole

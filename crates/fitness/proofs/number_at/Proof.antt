@@ -1,0 +1,18 @@
+-- `fitness::number_at` meets its contract.
+-- Assumes nothing.
+use Rattle.fitness.proofs.Telling.{number-beyond}
+use borrow.Author.Needs.{needs}
+use Rattle.fitness.proofs.number_at.Statement.{statement}
+use Rattle.fitness.proofs.number_at.Tie as tie
+
+returns : tie.Need-returns
+returns c = search number-beyond
+
+pub number-at-spec : {M : Type 1} → statement M
+number-at-spec =
+    tie.close
+    (tie.spec
+    returns
+    (λ c. search needs)
+    (λ c κs. search needs)
+    (λ c. search needs))

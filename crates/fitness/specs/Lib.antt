@@ -1,0 +1,3 @@
+pub mod FaultHelpers
+pub mod Faults
+pub mod FitnessTable
