@@ -1,15 +1,15 @@
--- `list::main` is safe and ends: the count that was read lies within the buffer.
+-- `list::list_given` is safe and ends: the count that was read lies within the buffer.
 -- Assumes nothing.
 use Rattle.desk.proofs.Within.{input-within}
 use borrow.Author.Needs.{needs}
-use Rattle.list.proofs.main.Statement.{statement}
-use Rattle.list.proofs.main.Tie as tie
+use Rattle.list.proofs.list_given.Statement.{statement}
+use Rattle.list.proofs.list_given.Tie as tie
 
 part-list-image-end : tie.Need-part-list-image-end
 part-list-image-end c = search input-within
 
-pub main-spec : {M : Type 1} → statement M
-main-spec =
+pub list-given-spec : {M : Type 1} → statement M
+list-given-spec =
     tie.close
     (tie.spec
     (λ c. search needs)

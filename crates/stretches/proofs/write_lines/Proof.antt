@@ -1,18 +1,18 @@
--- `list::write_lines` is safe and ends: each line lies within the image, and the next one nearer to its end.
+-- `stretches::write_lines` is safe and ends: each line lies within the image, and the next one nearer to its end.
 -- Assumes nothing.
 use Prim.Native.Nat.{_-_}
 use mathlib.Core.Path.{_≡_}
 use lib.ListN.{length}
 use Rattle.readers.proofs.Steps.{found-runs, found-within, found-nearer}
 use borrow.Author.Needs.{needs}
-use Rattle.list.proofs.write_lines.Statement.{statement}
-use Rattle.list.proofs.write_lines.Tie as tie
+use Rattle.stretches.proofs.write_lines.Statement.{statement}
+use Rattle.stretches.proofs.write_lines.Tie as tie
 
 abbrev Inv-loop : tie.InvT-loop
-Inv-loop fd name image out₀ offset₀ out offset = length out ≡ length out₀
+Inv-loop fd name image options out₀ by offset₀ out offset = length out ≡ length out₀
 
 abbrev μ-loop : tie.MeasureT-loop
-μ-loop fd name image out₀ offset₀ out offset = length image - offset
+μ-loop fd name image options out₀ by offset₀ out offset = length image - offset
 
 sub-write-line : tie.Need-sub-write-line Inv-loop μ-loop
 sub-write-line c = search found-runs

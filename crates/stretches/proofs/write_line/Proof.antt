@@ -1,16 +1,16 @@
--- `list::write_line` is safe and ends: a stretch lies within its buffer, and each brings the line nearer to its end.
+-- `stretches::write_line` is safe and ends: a stretch lies within its buffer, and each brings the line nearer to its end.
 -- Assumes nothing.
 use Rattle.listing.specs.Stretch.{placeLeft}
-use Rattle.list.proofs.Held.{Writing, writing-start, writing-turn, writing-less, stretch-within}
+use Rattle.stretches.proofs.Held.{Writing, writing-start, writing-turn, writing-less, stretch-within}
 use borrow.Author.Needs.{needs}
-use Rattle.list.proofs.write_line.Statement.{statement}
-use Rattle.list.proofs.write_line.Tie as tie
+use Rattle.stretches.proofs.write_line.Statement.{statement}
+use Rattle.stretches.proofs.write_line.Tie as tie
 
 abbrev Inv-loop : tie.InvT-loop
-Inv-loop fd name number body out₀ place₀ out place = Writing body out₀ out place
+Inv-loop fd name number body options out₀ place₀ out place = Writing body out₀ out place
 
 abbrev μ-loop : tie.MeasureT-loop
-μ-loop fd name number body out₀ place₀ out place = placeLeft body place
+μ-loop fd name number body options out₀ place₀ out place = placeLeft body place
 
 loop-holds : tie.Need-loop-holds Inv-loop μ-loop
 loop-holds c = search writing-start
@@ -31,7 +31,6 @@ write-line-spec =
     Inv-loop
     μ-loop
     loop-holds
-    (λ c κs. search needs)
     (λ c κs. search needs)
     write-first-requires
     (λ c. search needs)
