@@ -1,0 +1,107 @@
+// A line by its number: where it stands, how far it was looked for, and its listing.
+use desk::names;
+use desk::output;
+use dialect::Dialect;
+use find_line::Sought;
+use libc::STDERR_FILENO;
+use libc::STDOUT_FILENO;
+use listing::ListOptions;
+use readers::By;
+use readers::Line;
+use sentences::put::put_decimal;
+use sentences::put::put_text;
+ghost use Prim.Native.Nat.{_≤_};
+ghost use lib.ListN.{length};
+
+// Where the status goes that a program cannot end with.
+const STATUS_FILENO: i32 = 3;
+
+const NOT_THERE: u8 = b'1';
+
+// What the original lists.
+fn original() -> ListOptions {
+    ListOptions {
+        dialect: Dialect::Auto,
+        remarks: false,
+        by: By::Links,
+    }
+}
+
+fn write_first(fd: i32, buf: &[u8], count: usize) -> bool
+    requires { ⌜ count ≤ length (now buf) ⌝ }
+{
+    io::write_all(fd, &buf[0..count])
+}
+
+fn put_head(out: &mut [u8], line: Line, visited: usize) -> usize
+    ensures { λ r. ⌜ r ≤ length (now (out .exit)) ⌝ }
+{
+    let address = put_text(out, 0, b"address ");
+    let comma = put_decimal(out, address, line.address);
+    let link = put_text(out, comma, b", link ");
+    let second = put_decimal(out, link, line.link as usize);
+    let count = put_text(out, second, b", headers visited ");
+    let last = put_decimal(out, count, visited);
+    put_text(out, last, b"\n")
+}
+
+fn write_found(image: &[u8], line: Line, visited: usize) -> bool {
+    let mut out = [0u8; 8192];
+    let end = put_head(&mut out, line, visited);
+    if !write_first(STDOUT_FILENO, &out, end) {
+        os::fail(b"standard output");
+        return false;
+    }
+    stretches::write_line(
+        STDOUT_FILENO,
+        b"",
+        line.number,
+        find_line::body(image, line),
+        original(),
+        &mut out,
+    )
+}
+
+fn put_missing(out: &mut [u8], name: &[u8], number: u16, visited: usize) -> usize
+    ensures { λ r. ⌜ r ≤ length (now (out .exit)) ⌝ }
+{
+    let colon = put_text(out, 0, name);
+    let from = put_text(out, colon, b": no line ");
+    let comma = put_decimal(out, from, number as usize);
+    let count = put_text(out, comma, b", headers visited ");
+    let last = put_decimal(out, count, visited);
+    put_text(out, last, b"\n")
+}
+
+// Says on standard error that no line has the number.
+fn tell_missing(name: &[u8], number: u16, visited: usize) -> bool {
+    let mut out = [0u8; 4352];
+    let end = put_missing(&mut out, name, number, visited);
+    write_first(STDERR_FILENO, &out, end)
+}
+
+// Ends the program where no line has the number.
+fn miss(number: u16, visited: usize) {
+    let mut name = io::buffer();
+    let n = names::name(names::IN, &mut name);
+    let is_told = if names::is_file(names::IN) {
+        tell_missing(&name[..n], number, visited)
+    } else {
+        tell_missing(b"standard input", number, visited)
+    };
+    if is_told {
+        io::write_all(STATUS_FILENO, &[NOT_THERE]);
+    } else {
+        output::fail();
+    }
+}
+
+pub fn find(image: &[u8], number: u16) {
+    // No image has as many lines as bytes: the limit is not reached.
+    match find_line::find_line(image, number, image.len()) {
+        Sought::Found { visited, line } => output::done(write_found(image, line, visited)),
+        Sought::Nowhere { visited } => miss(number, visited),
+        Sought::LimitReached => output::fail(),
+        Sought::Refused(refusal) => output::refuse(refusal, b""),
+    }
+}
