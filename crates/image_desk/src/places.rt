@@ -113,8 +113,12 @@ fn show_under(options: Options) {
 }
 
 fn show_in(dialect: Dialect) {
-    match options::load(LOAD) {
-        AskedNumber::Known(load) => show_under(Options { load, dialect }),
+    match options::load(LOAD, dialect) {
+        AskedNumber::Known(load) => show_under(Options {
+            load,
+            dialect,
+            forms: false,
+        }),
         AskedNumber::Ended => {}
     }
 }
