@@ -13,6 +13,7 @@ ghost use Rattle.body.specs.Body.{prefixOf, written, crunchedBody};
 ghost use Rattle.body.specs.Lexicon.{lexicon};
 ghost use Rattle.body.specs.BraceHelpers.{mayRepeat};
 
+pub mod at;
 pub mod moves;
 mod plain;
 mod short;
