@@ -1,6 +1,6 @@
-// What the machine says of a line, by its number, the number before it, and how many bytes its body has.
+// What the machine says of a line, by its number, the number before it, and how many bytes its body has; and of a whole program.
 ghost use mathlib.Core.Path.{_≡_};
-ghost use Rattle.findings.specs.LineFaults.{isTooHigh, isNotAbove, isBadLength};
+ghost use Rattle.findings.specs.LineFaults.{isTooHigh, isNotAbove, isBadLength, isBeyondMemory};
 
 // Whether a number is above the last one of the machine.
 pub fn is_too_high(number: u16) -> bool
@@ -24,4 +24,11 @@ pub fn is_bad_length(length: usize) -> bool
         return true;
     }
     length > 250
+}
+
+// Whether an image of so many bytes, loaded at 0801, reaches beyond the machine's BASIC memory.
+pub fn is_beyond_memory(length: usize) -> bool
+    ensures { λ r. ⌜ r ≡ isBeyondMemory length ⌝ }
+{
+    length > 38913
 }
