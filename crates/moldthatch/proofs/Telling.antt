@@ -2,6 +2,7 @@
 -- Assumes nothing.
 use Prim.Native.Nat.{ℕ}
 use mathlib.Core.Path.{_≡_, sym, ap, _∙_}
+use mathlib.Core.Bool.{false}
 use mathlib.Core.List.{List}
 use Rattle.refusals.specs.Answer.{Answer, refused, numbered, andThen}
 use Rattle.refusals.specs.Code.{codeOf, lengthCode}

@@ -2,6 +2,7 @@
 -- Assumes nothing.
 use Prim.Native.Nat.{ℕ, suc, _-_, _≤_}
 use mathlib.Core.Path.{_≡_}
+use mathlib.Core.Bool.{false}
 use mathlib.Core.List.{List, [], _∷_, _++_, map}
 use mathlib.Core.Option.{none}
 use lib.ListN.{length}
@@ -45,7 +46,7 @@ abbrev pub twoOfFour : List ℕ
 twoOfFour = 0x0A ∷ bytesOf "10 A" ++ 0x0A ∷ 0x0A ∷ bytesOf "20"
 
 abbrev pub at0801 : Options
-at0801 = record { load = 0x0801; dialect = Auto }
+at0801 = record { load = 0x0801; dialect = Auto; forms = false }
 
 -- its lines come from the second and the fourth text line; there is no line at place 0, nor at place 3
 abbrev pub MeasuredTable : Type 0
