@@ -7,15 +7,16 @@ pub enum Asked {
     Unknown,
 }
 
-// Bit 1 of the options: short forms. No other bit is known.
+// Bit 0 of the options: the machine profile; bit 1: short forms. No other bit is known.
 pub fn asked_for(load: u16, dialect: u8, bits: u8) -> Asked {
-    if bits > 3 || bits % 2 == 1 {
+    if bits > 3 {
         return Asked::Unknown;
     }
     match dialect::dialect_by_number(dialect) {
         Named::Known(dialect) => Asked::With(Options {
             load,
             dialect,
+            profile: bits % 2 == 1,
             forms: bits / 2 == 1,
         }),
         Named::Refused(_) => Asked::Unknown,

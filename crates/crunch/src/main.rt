@@ -16,6 +16,8 @@ const DIALECT: usize = names::WORDS;
 
 const FORMS: usize = names::WORDS + 1;
 
+const PROFILE: usize = names::WORDS + 2;
+
 const LOAD: usize = names::WORDS + 3;
 
 fn crunch_text(text: &[u8], options: Options)
@@ -37,11 +39,13 @@ fn crunch_given(options: Options) {
 }
 
 fn crunch_under(dialect: Dialect) {
+    let profile = options::is_set(PROFILE);
     let forms = options::is_set(FORMS);
     match options::load(LOAD, dialect) {
         AskedNumber::Known(load) => crunch_given(Options {
             load,
             dialect,
+            profile,
             forms,
         }),
         AskedNumber::Ended => {}

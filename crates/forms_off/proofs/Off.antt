@@ -2,7 +2,7 @@
 -- Assumes nothing.
 use Prim.Native.Nat.{ℕ, zero, suc}
 use mathlib.Core.Path.{_≡_, refl, sym, ap, _∙_}
-use mathlib.Core.Bool.{Bool, true, false}
+use mathlib.Core.Bool.{Bool, true, false, cond}
 use mathlib.Core.List.{List, [], _∷_, _++_}
 use mathlib.Core.Option.{Option}
 use lib.Dec.{eqb}
@@ -30,11 +30,12 @@ use Rattle.body.specs.declared.moves.Move.{Move}
 use Rattle.readers.specs.NumberedBody.{NumberedBody}
 use Rattle.layout.specs.Layout.{imageOf}
 use Rattle.layout.specs.Reads.{linesAt}
-use Rattle.image.specs.Crunched.{linesRead, textLine, lastLink, crunchLines, textLexicon, crunchedLines, crunched}
+use Rattle.profile.specs.Profile.{lineAllowed, allowed, leastBehind}
+use Rattle.image.specs.Crunched.{linesRead, textLine, lineUnder, lastLink, crunchLines, textLexicon, crunchedLines, crunched}
 use Rattle.image.specs.Measured.{nonblankLines, withTextLines, entryFrom, measuredLines, lineMeasured}
 use Rattle.image.specs.declared.MeasuredLine.{MeasuredLine}
 use Rattle.image.specs.declared.Options.{Options}
-use Rattle.forms_off.specs.Before.{plainBefore, stepBefore, onBefore, bodyBefore, lineBefore, linesBefore, crunchedBefore}
+use Rattle.forms_off.specs.Before.{plainBefore, stepBefore, onBefore, bodyBefore, lineBefore, lineUnderBefore, linesBefore, crunchedBefore}
 
 -- a line of its own
 abbrev numberedLine : ℕ → List ℕ → Answer (List NumberedBody)
@@ -83,24 +84,31 @@ module _ (l : Lexicon) (off : l .sets .forms ≡ false) where
   line-off k (numberTooHigh value) = refl
   line-off k (numberedText number text) = ap (numberedLine number) (body-off text)
 
-  lines-off : (lines : List (List ℕ)) (k address : ℕ) → crunchLines l k address lines ≡ linesBefore l k address lines
-  unfolding crunchLines textLine linesBefore
-  lines-off [] k address = refl
-  lines-off (line ∷ lines) k address =
-      read (λ next. lines-off lines (suc k) next) (linesRead l k (readLine line)) ∙ ap (λ (a : Answer (List NumberedBody)). andThen a onward) (line-off k (readLine line))
-    where
-      onward : List NumberedBody → Answer (List NumberedBody)
-      onward new = andThen (lastLink address new) (λ next. mapDone (λ ls. new ++ ls) (linesBefore l (suc k) next lines))
+  module _ (profile : Bool) where
+    under-off : (k least : ℕ) (line : List ℕ) → lineUnder profile l k least line ≡ lineUnderBefore profile l k least line
+    unfolding lineUnder textLine lineUnderBefore
+    under-off k least line =
+        ap (λ (a : Answer (List NumberedBody)). andThen a (λ new. mapDone (λ _. new) (cond profile (allowed k least new) (done tt)))) (line-off k (readLine line))
 
-      linked : ((next : ℕ) → crunchLines l (suc k) next lines ≡ linesBefore l (suc k) next lines) → (new : List NumberedBody) (a : Answer ℕ)
-          → andThen a (λ next. mapDone (λ ls. new ++ ls) (crunchLines l (suc k) next lines)) ≡ andThen a (λ next. mapDone (λ ls. new ++ ls) (linesBefore l (suc k) next lines))
-      linked f new (done next) = ap (mapDone (λ ls. new ++ ls)) (f next)
-      linked f new (refused r) = refl
+    lines-off : (lines : List (List ℕ)) (k least address : ℕ) → crunchLines profile l k least address lines ≡ linesBefore profile l k least address lines
+    unfolding crunchLines linesBefore
+    lines-off [] k least address = refl
+    lines-off (line ∷ lines) k least address =
+        read (λ m next. lines-off lines (suc k) m next) (lineUnder profile l k least line) ∙ ap (λ (a : Answer (List NumberedBody)). andThen a onward) (under-off k least line)
+      where
+        onward : List NumberedBody → Answer (List NumberedBody)
+        onward new = andThen (lastLink address new) (λ next. mapDone (λ ls. new ++ ls) (linesBefore profile l (suc k) (leastBehind least new) next lines))
 
-      read : ((next : ℕ) → crunchLines l (suc k) next lines ≡ linesBefore l (suc k) next lines) → (a : Answer (List NumberedBody))
-          → andThen a (λ new. andThen (lastLink address new) (λ next. mapDone (λ ls. new ++ ls) (crunchLines l (suc k) next lines))) ≡ andThen a onward
-      read f (done new) = linked f new (lastLink address new)
-      read f (refused r) = refl
+        linked : ((m next : ℕ) → crunchLines profile l (suc k) m next lines ≡ linesBefore profile l (suc k) m next lines) → (new : List NumberedBody) (a : Answer ℕ)
+            → andThen a (λ next. mapDone (λ ls. new ++ ls) (crunchLines profile l (suc k) (leastBehind least new) next lines))
+            ≡ andThen a (λ next. mapDone (λ ls. new ++ ls) (linesBefore profile l (suc k) (leastBehind least new) next lines))
+        linked f new (done next) = ap (mapDone (λ ls. new ++ ls)) (f (leastBehind least new) next)
+        linked f new (refused r) = refl
+
+        read : ((m next : ℕ) → crunchLines profile l (suc k) m next lines ≡ linesBefore profile l (suc k) m next lines) → (a : Answer (List NumberedBody))
+            → andThen a (λ new. andThen (lastLink address new) (λ next. mapDone (λ ls. new ++ ls) (crunchLines profile l (suc k) (leastBehind least new) next lines))) ≡ andThen a onward
+        read f (done new) = linked f new (lastLink address new)
+        read f (refused r) = refl
 
 -- ---- the guess never uses short forms
 
@@ -126,26 +134,26 @@ module _ (o : Options) (off : o .forms ≡ false) (text : List ℕ) where
       let s = wordSets (o .dialect) text in
       ap (λ (b : Bool). withForms b s) (off ∙ sym (guess-off (o .dialect) text))
 
-  pub answers-off : crunchedLines o text ≡ crunchedBefore (o .load) (o .dialect) text
+  pub answers-off : crunchedLines o text ≡ crunchedBefore (o .profile) (o .load) (o .dialect) text
   unfolding crunchedLines crunchedBefore
   answers-off =
-      ap (λ (s : Sets). andThen (checkedText text) (λ _. crunchLines (lexicon s) 1 (o .load) (textLines AfterCr text))) words-off
+      ap (λ (s : Sets). andThen (checkedText text) (λ _. crunchLines (o .profile) (lexicon s) 1 0 (o .load) (textLines AfterCr text))) words-off
       ∙ go (checkedText text)
     where
-      go : (a : Answer (Unit {0})) → andThen a (λ _. crunchLines (lexicon (wordSets (o .dialect) text)) 1 (o .load) (textLines AfterCr text))
-          ≡ andThen a (λ _. linesBefore (lexicon (wordSets (o .dialect) text)) 1 (o .load) (textLines AfterCr text))
-      go (done u) = lines-off (lexicon (wordSets (o .dialect) text)) (guess-off (o .dialect) text) (textLines AfterCr text) 1 (o .load)
+      go : (a : Answer (Unit {0})) → andThen a (λ _. crunchLines (o .profile) (lexicon (wordSets (o .dialect) text)) 1 0 (o .load) (textLines AfterCr text))
+          ≡ andThen a (λ _. linesBefore (o .profile) (lexicon (wordSets (o .dialect) text)) 1 0 (o .load) (textLines AfterCr text))
+      go (done u) = lines-off (lexicon (wordSets (o .dialect) text)) (guess-off (o .dialect) text) (o .profile) (textLines AfterCr text) 1 0 (o .load)
       go (refused r) = refl
 
   -- the image, and with it the room and what is left in a buffer
-  pub image-off : crunched o text ≡ mapDone (imageOf (o .load)) (crunchedBefore (o .load) (o .dialect) text)
+  pub image-off : crunched o text ≡ mapDone (imageOf (o .load)) (crunchedBefore (o .profile) (o .load) (o .dialect) text)
   unfolding crunched
   image-off = ap (mapDone (imageOf (o .load))) answers-off
 
   -- a measured line
   pub measured-off : (place : ℕ)
       → lineMeasured o place text
-      ≡ mapDone (entryFrom place 1) (mapDone (λ ls. withTextLines (linesAt (o .load) 2 ls) (nonblankLines text)) (crunchedBefore (o .load) (o .dialect) text))
+      ≡ mapDone (entryFrom place 1) (mapDone (λ ls. withTextLines (linesAt (o .load) 2 ls) (nonblankLines text)) (crunchedBefore (o .profile) (o .load) (o .dialect) text))
   unfolding lineMeasured measuredLines
   measured-off place =
       ap (λ (a : Answer (List NumberedBody)). mapDone (entryFrom place 1) (mapDone (λ ls. withTextLines (linesAt (o .load) 2 ls) (nonblankLines text)) a)) answers-off

@@ -2,7 +2,7 @@
 -- (document 02, No. 7: "With the option off, each answer is what it was").
 -- Assumes nothing.
 use Prim.Native.Nat.{ℕ, suc}
-use mathlib.Core.Bool.{true, false}
+use mathlib.Core.Bool.{Bool, true, false, cond}
 use mathlib.Core.List.{List, [], _∷_, _++_}
 use lib.Dec.{eqb}
 use lib.ListN.{length}
@@ -24,6 +24,7 @@ use Rattle.body.specs.declared.moves.Mode.{Mode}
 use Rattle.body.specs.declared.moves.Mode.the-variants.{Plain, String, Remark, Data, DataQuote}
 use Rattle.body.specs.declared.moves.Move.{Move}
 use Rattle.readers.specs.NumberedBody.{NumberedBody}
+use Rattle.profile.specs.Profile.{lineAllowed, allowed, leastBehind}
 use Rattle.image.specs.Crunched.{lastLink}
 
 -- "Plain, first that applies: a quote opens a string; a live TSB word ..; a V2 word ..; one of + - * / ^ > = <; pi; ?; a-z raised; else
@@ -63,15 +64,21 @@ lineBefore words k missingNumber = refused (missingLineNumber k)
 lineBefore words k (numberTooHigh value) = refused (lineNumberOutOfRange k value)
 lineBefore words k (numberedText number text) = done (record { number = number; body = bodyBefore words text } ∷ [])
 
-unfoldable pub linesBefore : Lexicon → ℕ → ℕ → List (List ℕ) → Answer (List NumberedBody)
-unfolding readLine bodyBefore lastLink
-linesBefore words k address [] = done []
-linesBefore words k address (line ∷ lines) =
-    andThen (lineBefore words k (readLine line)) (λ new.
-    andThen (lastLink address new) (λ next.
-    mapDone (λ ls. new ++ ls) (linesBefore words (suc k) next lines)))
+-- where the machine profile is asked for, if it allows them
+unfoldable pub lineUnderBefore : Bool → Lexicon → ℕ → ℕ → List ℕ → Answer (List NumberedBody)
+unfolding readLine bodyBefore lineAllowed
+lineUnderBefore profile words k least line =
+    andThen (lineBefore words k (readLine line)) (λ new. mapDone (λ _. new) (cond profile (allowed k least new) (done tt)))
 
-unfoldable pub crunchedBefore : ℕ → Dialect → List ℕ → Answer (List NumberedBody)
+unfoldable pub linesBefore : Bool → Lexicon → ℕ → ℕ → ℕ → List (List ℕ) → Answer (List NumberedBody)
+unfolding lineUnderBefore lastLink
+linesBefore profile words k least address [] = done []
+linesBefore profile words k least address (line ∷ lines) =
+    andThen (lineUnderBefore profile words k least line) (λ new.
+    andThen (lastLink address new) (λ next.
+    mapDone (λ ls. new ++ ls) (linesBefore profile words (suc k) (leastBehind least new) next lines)))
+
+unfoldable pub crunchedBefore : Bool → ℕ → Dialect → List ℕ → Answer (List NumberedBody)
 unfolding checkedText linesBefore textLines wordSets
-crunchedBefore load dialect text =
-    andThen (checkedText text) (λ _. linesBefore (lexicon (wordSets dialect text)) 1 load (textLines AfterCr text))
+crunchedBefore profile load dialect text =
+    andThen (checkedText text) (λ _. linesBefore profile (lexicon (wordSets dialect text)) 1 0 load (textLines AfterCr text))

@@ -22,9 +22,10 @@ use Rattle.body.specs.Lexicon.{Lexicon}
 use Rattle.readers.specs.NumberedBody.{NumberedBody}
 use Rattle.layout.specs.Layout.{linkOf, endAddress, imageOf}
 use Rattle.layout.proofs.Laying.{image-length, end-above}
-use Rattle.image.specs.Crunched.{textLine, crunchLines}
-use Rattle.image.specs.PassesHelpers.{textImage, given, LineSized, SizedAs, FitsIf, Bounded}
-use Rattle.image.proofs.Lining.{Taken, link-fits, given-is, text-blank, sized-blank, sized-line}
+use Rattle.profile.specs.Profile.{leastBehind}
+use Rattle.image.specs.Crunched.{textLine, lineUnder, crunchLines}
+use Rattle.image.specs.PassesHelpers.{textImage, given, LineSized, FitsIf, Bounded}
+use Rattle.image.proofs.Lining.{Taken, link-fits, given-is, text-blank, read-as, lineOf, line-fits, plain-under}
 use Rattle.image.proofs.Measuring.{Reached, reached-start, reached-turn, reached-end, lineAt, lineBehind}
 
 -- ---- a text line
@@ -38,16 +39,15 @@ bounded-not words line h = record { low = omega arith; gives = λ q k. absurd (o
 
 module _ (words : Lexicon) (line : List ℕ) {m : Numbering} {address : ℕ} where
   pub bounded-blank : m ≡ Blank → m ≡ numbering line → Bounded words address line address
-  unfolding SizedAs endAddress
+  unfolding endAddress
   bounded-blank t e =
-      let blank : (k : ℕ) → textLine words k line ≡ done [] = λ k. sized-blank words k address line t e in
+      let blank : (k : ℕ) → textLine words k line ≡ done [] = λ k. sym (read-as words k line t e) in
       record { low = omega arith; gives = λ h k. given-done (blank k); below = λ h. omega (arith, ap (λ (a : Answer (List NumberedBody)). endAddress address (given a)) (blank 0)) }
 
   module _ {number from to n : ℕ} (b : min (length (crunchedBody words (take (to - from) (drop from line)))) 65536 ≤ n) (t : m ≡ Numbered number from to) (e : m ≡ numbering line) where
     sized : address + 5 + n ≤ 0xFFFF → (k : ℕ)
         → LineSized address (textLine words k line) number (address + 5 + min (length (crunchedBody words (take (to - from) (drop from line)))) 65536)
-    unfolding SizedAs
-    sized h k = sized-line words k address line refl t e (omega (arith, b))
+    sized h k = line-fits address (lineOf words line number from to) (sym (read-as words k line t e)) refl (omega (arith, b))
 
     pub bounded-line : Bounded words address line (address + 5 + n)
     unfolding endAddress
@@ -68,14 +68,15 @@ end-mono a b (l ∷ ls) h = end-mono (linkOf a (l .body)) (linkOf b (l .body)) l
 -- the lines before a text line reach up to an address that is at most this one
 pub record BoundTo (words : Lexicon) (load : ℕ) (text : List ℕ) (at bound : ℕ) : Type 0 where
   pub k : ℕ
+  pub least : ℕ
   pub address : ℕ
-  pub reached : Reached words load text at k address
+  pub reached : Reached false words load text at k least address
   pub below : address ≤ bound
   pub high : bound ≤ 0xFFFF
 
 pub bound-start : (words : Lexicon) (load : ℕ) (text : List ℕ) → Fits w16 load → BoundTo words load text 0 load
 bound-start words load text f =
-    record { k = 0; address = load; reached = reached-start words load text (omega (arith, f .fits)); below = omega arith; high = omega (arith, f .fits) }
+    record { k = 0; least = 0; address = load; reached = reached-start false words load text (omega (arith, f .fits)); below = omega arith; high = omega (arith, f .fits) }
 
 module _ {words : Lexicon} {load : ℕ} {text : List ℕ} {at bound : ℕ} (g : BoundTo words load text at bound) where
   pub bound-low : load ≤ bound
@@ -95,17 +96,18 @@ module _ {words : Lexicon} {load : ℕ} {text : List ℕ} {at bound : ℕ} (g : 
         ∙ b .gives q k
         ∙ ap done (sym (given-is words (lineBehind text r) k (b .gives q k)))
 
-    taken-here : Taken words (suc (g .k)) (g .address) (lineAt text at r) (endAddress (g .address) new)
+    taken-here : Taken false words (suc (g .k)) (g .least) (g .address) (lineAt text at r) (endAddress (g .address) new)
     taken-here =
         let low : endAddress (g .address) new ≤ 0xFFFF = omega (arith, not-above, q) in
-        record { new = new; line-is = gives-new; link-is = link-fits (g .address) new low; next-is = refl; high = low }
+        record { new = new; line-is = plain-under false words (suc (g .k)) (g .least) (lineAt text at r) gives-new; link-is = link-fits (g .address) new low; next-is = refl; high = low }
 
     pub bound-turn : BoundTo words load text (r .next) next
-    bound-turn = record { k = g .k + 1; address = endAddress (g .address) new; reached = reached-turn (g .reached) h is taken-here; below = not-above; high = q }
+    unfolding taken-here
+    bound-turn = record { k = g .k + 1; least = leastBehind (g .least) new; address = endAddress (g .address) new; reached = reached-turn (g .reached) h is taken-here; below = not-above; high = q }
 
-  pub bound-end : {room : ℕ} → length text ≤ at → bound - load + 4 ≤ room → FitsIf true room (textImage words load text)
+  pub bound-end : {room : ℕ} → length text ≤ at → bound - load + 4 ≤ room → FitsIf true room (textImage false words load text)
   unfolding textImage
-  bound-end {room} h f = go (crunchLines words 1 load (textLines AfterCr text)) (reached-end (g .reached) h)
+  bound-end {room} h f = go (crunchLines false words 1 0 load (textLines AfterCr text)) (reached-end (g .reached) h)
     where
       go : (a : Answer (List NumberedBody)) → done (g .reached .before) ≡ a → FitsIf true room (mapDone (imageOf load) a)
       go (done ls) e =

@@ -2,15 +2,16 @@
 -- Assumes nothing.
 use Prim.Native.Nat.{ℕ, suc, _+_, _-_, _≤_, _<_, min}
 use mathlib.Core.Path.{_≡_, refl, sym, ap, _∙_}
-use mathlib.Core.Bool.{Bool, true, false}
+use mathlib.Core.Bool.{Bool, true, false, cond}
 use mathlib.Core.List.{List, [], _∷_, _++_, append-nil, append-assoc}
 use native.Mathlib.Omega.{arith}
-use lib.Dec.{leb}
+use lib.Dec.{leb, ltb}
 use lib.ListN.{length, take, drop}
-use borrow.Author.Tests.{le-leb, lt-leb, leb-true}
+use borrow.Author.Tests.{le-leb, lt-leb, leb-true, lt-ltb, le-ltb, ltb-true, ltb-false}
 use borrow.Rule.Slice.PartMut.{midOf, putMid}
 use Rattle.refusals.specs.Numbers.{Numbered as Refusal·Numbered, addressOverflow}
 use Rattle.refusals.specs.Answer.{Answer, done, refused, mapDone, andThen}
+use Rattle.refusals.specs.declared.Refusal.{Refusal}
 use Rattle.refusals.specs.declared.Refusal.the-variants.{MissingLineNumber, LineNumberOutOfRange, AddressOverflow}
 use Rattle.lent.specs.Stores.{Room, Put}
 use Rattle.lent.proofs.Storing.{room-as, put-as, put-none}
@@ -23,10 +24,16 @@ use Rattle.lines.proofs.Blanks.{blank-trimmed}
 use Rattle.lines.proofs.Numbers.{read-told, numbered-placed, read-space}
 use Rattle.body.specs.Lexicon.{Lexicon}
 use Rattle.body.specs.Body.{crunchedBody}
+use Rattle.body.specs.Zero.{holdsZero}
 use Rattle.readers.specs.NumberedBody.{NumberedBody}
 use Rattle.layout.specs.Layout.{endAddress, linesBytes, lineBytes}
-use Rattle.image.specs.Crunched.{linesRead, textLine, lastLink, crunchLines}
-use Rattle.image.specs.PassesHelpers.{addressBehind, LineSized, SizedAs, given, FrameRoom, Framed}
+use Rattle.profile.specs.Profile.{profileSays, lineAllowed, allowed, leastBehind, allowedAnswer}
+use Rattle.profile.specs.declared.Allowed.{Allowed}
+use Rattle.profile.specs.declared.Allowed.the-variants.{Yes, Refused as Not}
+use Rattle.profile.proofs.Asking.{says-cut}
+use Rattle.image.specs.Crunched.{linesRead, textLine, lineUnder, lastLink, crunchLines}
+use Rattle.image.specs.PassesHelpers.{addressBehind, LineSized, SizedAs, sizedAt, given, FrameRoom, Framed}
+use Rattle.image.specs.declared.measure.Sized.{Sized}
 use Rattle.image.specs.declared.measure.Sized.the-variants.{Blank as Sized·Blank, Numbered as Sized·Numbered, Refused as Sized·Refused}
 use Rattle.image.proofs.Laying.{line-room, body-room, frame-room, framed-line}
 
@@ -41,41 +48,133 @@ link-over address ls h = rw (lastLink, lt-leb _ _ h)
 -- ---- one line, its numbering known
 
 module _ (words : Lexicon) (k : ℕ) (line : List ℕ) {m x : Numbering} (known : m ≡ x) (is : m ≡ numbering line) where
-  read-as : linesRead words k (told line x) ≡ textLine words k line
+  pub read-as : linesRead words k (told line x) ≡ textLine words k line
   unfolding textLine
   read-as = ap (λ (y : Numbering). linesRead words k (told line y)) (sym known) ∙ ap (linesRead words k) (read-told line is)
 
-  refused-as : (address : ℕ) {n : Refusal·Numbered} → andThen (linesRead words k (told line x)) (lastLink address) ≡ refused n → andThen (textLine words k line) (lastLink address) ≡ refused n
-  refused-as address e = ap (λ (a : Answer (List NumberedBody)). andThen a (lastLink address)) (sym read-as) ∙ e
+-- the line that a numbered text line gives
+abbrev pub lineOf : Lexicon → List ℕ → ℕ → ℕ → ℕ → NumberedBody
+lineOf words line number from to = record { number = number; body = crunchedBody words (take (to - from) (drop from line)) }
 
-module _ (words : Lexicon) (k address : ℕ) (line : List ℕ) {m : Numbering} where
-  pub sized-blank : m ≡ Blank → m ≡ numbering line → SizedAs address (textLine words k line) Sized·Blank
+-- such a line at an address, its body measured up to 65,536
+module _ (address : ℕ) (l : NumberedBody) {a : Answer (List NumberedBody)} (gives : a ≡ done (l ∷ [])) {n : ℕ} (is : n ≡ min (length (l .body)) 65536) where
+  pub line-fits : address + 5 + n ≤ 0xFFFF → LineSized address a (l .number) (address + 5 + n)
+  line-fits h = record { body = l .body; gives = gives; behind-is = omega (arith, is); high = h }
+
+  line-over : 0xFFFF < address + 5 + n → andThen a (lastLink address) ≡ refused addressOverflow
+  unfolding endAddress
+  line-over h =
+      let over : 0xFFFF < address + 5 + length (l .body) = omega arith in
+      ap (λ (x : Answer (List NumberedBody)). andThen x (lastLink address)) gives ∙ link-over address (l ∷ []) over
+
+  line-sized : SizedAs address a (sizedAt address (l .number) n)
   unfolding SizedAs
-  sized-blank t e = sym (read-as words k line t e)
+  line-sized = go (ltb 0xFFFF (address + 5 + n)) refl
+    where
+      go : (b : Bool) → ltb 0xFFFF (address + 5 + n) ≡ b → SizedAs address a (cond b (Sized·Refused AddressOverflow) (Sized·Numbered (l .number) (address + 5 + n)))
+      go true p = line-over (ltb-true 0xFFFF (address + 5 + n) p)
+      go false p = line-fits (omega (arith, ltb-false 0xFFFF (address + 5 + n) p))
 
-  pub sized-missing : m ≡ Missing → m ≡ numbering line → SizedAs address (textLine words k line) (Sized·Refused (MissingLineNumber k))
-  unfolding SizedAs
-  sized-missing t e = refused-as words k line t e address refl
+-- ---- under the profile, if it is asked
 
-  pub sized-range : {v : ℕ} → m ≡ OutOfRange v → m ≡ numbering line → SizedAs address (textLine words k line) (Sized·Refused (LineNumberOutOfRange k v))
-  unfolding SizedAs
-  sized-range t e = refused-as words k line t e address refl
+module _ (profile : Bool) (words : Lexicon) (k least : ℕ) (line : List ℕ) where
+  under-as : {a : Answer (List NumberedBody)} → a ≡ textLine words k line
+      → andThen a (λ new. mapDone (λ _. new) (cond profile (allowed k least new) (done tt))) ≡ lineUnder profile words k least line
+  unfolding lineUnder
+  under-as e = ap (λ (a : Answer (List NumberedBody)). andThen a (λ new. mapDone (λ _. new) (cond profile (allowed k least new) (done tt)))) e
 
-  -- a numbered line, whose body is measured up to 65,536
-  module _ {number from to n : ℕ} (is : n ≡ min (length (crunchedBody words (take (to - from) (drop from line)))) 65536)
-      (t : m ≡ Numbered number from to) (e : m ≡ numbering line) where
-    abbrev here : NumberedBody
-    here = record { number = number; body = crunchedBody words (take (to - from) (drop from line)) }
+  -- what it allows is what the text line gives
+  pub under-plain : {new : List NumberedBody} → lineUnder profile words k least line ≡ done new → textLine words k line ≡ done new
+  unfolding lineUnder
+  under-plain {new} e = go (textLine words k line) refl e
+    where
+      same : (ls : List NumberedBody) (b : Answer (Unit {0})) → mapDone (λ _. ls) b ≡ done new → ls ≡ new
+      same ls (done u) q = cc
+      same ls (refused n) q = let z : _≡_ {A = ℕ} 0 1 = cc in absurd (omega arith)
 
-    pub sized-line : address + 5 + n ≤ 0xFFFF → SizedAs address (textLine words k line) (Sized·Numbered number (address + 5 + n))
+      go : (a : Answer (List NumberedBody)) → textLine words k line ≡ a
+          → andThen a (λ ls. mapDone (λ _. ls) (cond profile (allowed k least ls) (done tt))) ≡ done new → textLine words k line ≡ done new
+      go (done ls) p q = p ∙ ap done (same ls (cond profile (allowed k least ls) (done tt)) q)
+      go (refused n) p q = let z : _≡_ {A = ℕ} 0 1 = cc in absurd (omega arith)
+
+  -- without it nothing is asked
+  pub plain-under : {new : List NumberedBody} → textLine words k line ≡ done new → lineUnder false words k least line ≡ done new
+  unfolding lineUnder
+  plain-under e = ap (λ (a : Answer (List NumberedBody)). andThen a (λ new. mapDone (λ _. new) (cond false (allowed k least new) (done tt)))) e
+
+  module _ (address : ℕ) {m : Numbering} where
+    refused-as : {x : Numbering} {n : Refusal·Numbered} → linesRead words k (told line x) ≡ refused n → m ≡ x → m ≡ numbering line
+        → andThen (lineUnder profile words k least line) (lastLink address) ≡ refused n
+    refused-as {x} {n} r t e = sym (ap (λ (a : Answer (List NumberedBody)). andThen a (lastLink address)) (under-as (sym r ∙ read-as words k line t e)))
+
+    pub sized-blank : m ≡ Blank → m ≡ numbering line → SizedAs address (lineUnder profile words k least line) Sized·Blank
     unfolding SizedAs
-    sized-line h = record { body = here .body; gives = sym (read-as words k line t e); behind-is = omega (arith, is); high = h }
+    sized-blank t e = sym (under-as (read-as words k line t e)) ∙ go profile
+      where
+        go : (b : Bool) → mapDone {B = List NumberedBody} (λ _. []) (cond b (allowed k least []) (done tt)) ≡ done []
+        go true = refl
+        go false = refl
 
-    pub sized-overflow : 0xFFFF < address + 5 + n → SizedAs address (textLine words k line) (Sized·Refused AddressOverflow)
-    unfolding SizedAs endAddress
-    sized-overflow h =
-        let over : 0xFFFF < address + 5 + length (here .body) = omega arith in
-        refused-as words k line t e address (link-over address (here ∷ []) over)
+    pub sized-missing : m ≡ Missing → m ≡ numbering line → SizedAs address (lineUnder profile words k least line) (Sized·Refused (MissingLineNumber k))
+    unfolding SizedAs
+    sized-missing t e = refused-as refl t e
+
+    pub sized-range : {v : ℕ} → m ≡ OutOfRange v → m ≡ numbering line → SizedAs address (lineUnder profile words k least line) (Sized·Refused (LineNumberOutOfRange k v))
+    unfolding SizedAs
+    sized-range t e = refused-as refl t e
+
+    -- a numbered line
+    module _ {number from to n : ℕ} (is : n ≡ min (length (crunchedBody words (take (to - from) (drop from line)))) 65536)
+        (t : m ≡ Numbered number from to) (e : m ≡ numbering line) where
+      abbrev here : NumberedBody
+      here = lineOf words line number from to
+
+      says : Answer (Unit {0})
+      says = cond profile (allowed k least (here ∷ [])) (done tt)
+
+      under-says : {b : Answer (Unit {0})} → says ≡ b → lineUnder profile words k least line ≡ mapDone (λ _. here ∷ []) b
+      unfolding says
+      under-says q = sym (under-as (read-as words k line t e)) ∙ ap (mapDone (λ _. here ∷ [])) q
+
+      sized-says : {r : Sized} → says ≡ done tt → r ≡ sizedAt address number n → SizedAs address (lineUnder profile words k least line) r
+      sized-says q z = rw z (line-sized address here (under-says q) is)
+
+      -- the profile is not asked
+      pub sized-plain : {r : Sized} → r ≡ sizedAt address number n → profile ≡ false → SizedAs address (lineUnder profile words k least line) r
+      unfolding says
+      sized-plain z f = sized-says (ap (λ (b : Bool). cond b (allowed k least (here ∷ [])) (done tt)) f) z
+
+      -- it is asked
+      module _ (p : profile ≡ true) {zero : Bool} (zero-is : zero ≡ holdsZero (crunchedBody words (take (to - from) (drop from line)))) (x : Allowed)
+          (told-is : allowedAnswer x ≡ profileSays k least number zero n) where
+        line-says : allowedAnswer x ≡ lineAllowed k least here
+        unfolding lineAllowed
+        line-says =
+            told-is ∙ ap (λ (b : Bool). profileSays k least number b n) zero-is ∙ ap (profileSays k least number (holdsZero (here .body))) is
+            ∙ says-cut k least number (holdsZero (here .body)) (length (here .body))
+
+        says-is : says ≡ andThen (allowedAnswer x) (λ _. done tt)
+        unfolding says
+        says-is =
+            ap (λ (b : Bool). cond b (allowed k least (here ∷ [])) (done tt)) p
+            ∙ ap (λ (b : Answer (Unit {0})). andThen b (λ _. done tt)) (sym line-says)
+
+        pub sized-allowed : {r : Sized} → r ≡ sizedAt address number n → x ≡ Yes → SizedAs address (lineUnder profile words k least line) r
+        sized-allowed z y = sized-says (says-is ∙ ap (λ (v : Allowed). andThen (allowedAnswer v) (λ _. done tt)) y) z
+
+        pub sized-not : {v : Refusal} → x ≡ Not v → SizedAs address (lineUnder profile words k least line) (Sized·Refused v)
+        unfolding SizedAs
+        sized-not y =
+            ap (λ (a : Answer (List NumberedBody)). andThen a (lastLink address))
+            (under-says (says-is ∙ ap (λ (v : Allowed). andThen (allowedAnswer v) (λ _. done tt)) y))
+
+-- the address behind a line
+module _ (address number size : ℕ) where
+  pub size-over : 0xFFFF < address + 5 + size → Sized·Refused AddressOverflow ≡ sizedAt address number size
+  size-over h = rw (lt-ltb 0xFFFF (address + 5 + size) h)
+
+  pub size-here : address + 5 + size ≤ 0xFFFF → Sized·Numbered number (address + 5 + size) ≡ sizedAt address number size
+  size-here h = rw (le-ltb 0xFFFF (address + 5 + size) h)
 
 pub body-up : (line : List ℕ) {m : Numbering} {number from to : ℕ} → m ≡ Numbered number from to → m ≡ numbering line → from ≤ to
 body-up line t e = numbered-placed line t e .up
@@ -146,6 +245,10 @@ pub text-blank : (words : Lexicon) (k b : ℕ) (l : List ℕ) → isBlank b ≡ 
 unfolding textLine
 text-blank words k b l q = ap (linesRead words k) (read-space b l (blank-trimmed b q))
 
+pub under-blank : (profile : Bool) (words : Lexicon) (k least b : ℕ) (l : List ℕ) → isBlank b ≡ true → lineUnder profile words k least (b ∷ l) ≡ lineUnder profile words k least l
+unfolding lineUnder
+under-blank profile words k least b l q = under-as profile words k least l (text-blank words k b l q)
+
 -- ---- a line and the lines behind it
 
 link-end : (address : ℕ) (ls : List NumberedBody) {next : ℕ} → lastLink address ls ≡ done next → (next ≡ endAddress address ls) × (next ≤ 0xFFFF)
@@ -158,29 +261,30 @@ link-end address ls {next} e = go (leb (endAddress address ls) 0xFFFF) refl e
     go false p q = let z : _≡_ {A = ℕ} 0 1 = cc in absurd (omega arith)
 
 -- the k-th text line is taken: the lines that it gives, and the address behind them
-pub record Taken (words : Lexicon) (k address : ℕ) (line : List ℕ) (next : ℕ) : Type 0 where
+pub record Taken (profile : Bool) (words : Lexicon) (k least address : ℕ) (line : List ℕ) (next : ℕ) : Type 0 where
   pub new : List NumberedBody
-  pub line-is : textLine words k line ≡ done new
+  pub line-is : lineUnder profile words k least line ≡ done new
   pub link-is : lastLink address new ≡ done next
   pub next-is : next ≡ endAddress address new
   pub high : next ≤ 0xFFFF
 
-pub taken : {words : Lexicon} {k address : ℕ} {line : List ℕ} {next : ℕ} → addressBehind words k address line ≡ done next → Taken words k address line next
+pub taken : {profile : Bool} {words : Lexicon} {k least address : ℕ} {line : List ℕ} {next : ℕ} → addressBehind profile words k least address line ≡ done next
+    → Taken profile words k least address line next
 unfolding addressBehind
-taken {words} {k} {address} {line} {next} e = go (textLine words k line) refl e
+taken {profile} {words} {k} {least} {address} {line} {next} e = go (lineUnder profile words k least line) refl e
   where
-    go : (a : Answer (List NumberedBody)) → textLine words k line ≡ a → andThen a (lastLink address) ≡ done next → Taken words k address line next
+    go : (a : Answer (List NumberedBody)) → lineUnder profile words k least line ≡ a → andThen a (lastLink address) ≡ done next → Taken profile words k least address line next
     go (done new) p q =
         let l = link-end address new q in record { new = new; line-is = p; link-is = q; next-is = l .0; high = l .1 }
     go (refused n) p q = let z : _≡_ {A = ℕ} 0 1 = cc in absurd (omega arith)
 
 -- as it was measured
-module _ {words : Lexicon} {k address : ℕ} {line : List ℕ} where
-  unfoldable pub taken-blank : address ≤ 0xFFFF → textLine words k line ≡ done [] → Taken words k address line address
+module _ {profile : Bool} {words : Lexicon} {k least address : ℕ} {line : List ℕ} where
+  unfoldable pub taken-blank : address ≤ 0xFFFF → lineUnder profile words k least line ≡ done [] → Taken profile words k least address line address
   unfolding endAddress
   taken-blank h e = record { new = []; line-is = e; link-is = link-fits address [] h; next-is = refl; high = h }
 
-  unfoldable pub taken-line : {number behind : ℕ} (s : LineSized address (textLine words k line) number behind) → Taken words k address line behind
+  unfoldable pub taken-line : {number behind : ℕ} (s : LineSized address (lineUnder profile words k least line) number behind) → Taken profile words k least address line behind
   unfolding endAddress
   taken-line {number} s =
       let new : List NumberedBody = record { number = number; body = s .body } ∷ [] in
@@ -192,18 +296,30 @@ module _ {words : Lexicon} {k address : ℕ} {line : List ℕ} where
         high = s .high;
       }
 
-module _ (words : Lexicon) (k address : ℕ) (line : List ℕ) (lines : List (List ℕ)) where
-  pub cons-taken : {next : ℕ} (t : Taken words k address line next) → crunchLines words k address (line ∷ lines) ≡ mapDone (λ ls. t .new ++ ls) (crunchLines words (suc k) next lines)
+-- what is taken under the profile is taken without it
+unfoldable pub taken-plain : {profile : Bool} {words : Lexicon} {k least address : ℕ} {line : List ℕ} {next : ℕ} → Taken profile words k least address line next → Taken false words k least address line next
+taken-plain {profile} {words} {k} {least} {address} {line} t =
+    record {
+      new = t .new;
+      line-is = plain-under profile words k least line (under-plain profile words k least line (t .line-is));
+      link-is = t .link-is;
+      next-is = t .next-is;
+      high = t .high;
+    }
+
+module _ (profile : Bool) (words : Lexicon) (k least address : ℕ) (line : List ℕ) (lines : List (List ℕ)) where
+  pub cons-taken : {next : ℕ} (t : Taken profile words k least address line next)
+      → crunchLines profile words k least address (line ∷ lines) ≡ mapDone (λ ls. t .new ++ ls) (crunchLines profile words (suc k) (leastBehind least (t .new)) next lines)
   unfolding crunchLines
   cons-taken {next} t =
-      ap (λ (a : Answer (List NumberedBody)). andThen a (λ new. andThen (lastLink address new) (λ n. mapDone (λ ls. new ++ ls) (crunchLines words (suc k) n lines)))) (t .line-is)
-      ∙ ap (λ (a : Answer ℕ). andThen a (λ n. mapDone (λ ls. t .new ++ ls) (crunchLines words (suc k) n lines))) (t .link-is)
+      ap (λ (a : Answer (List NumberedBody)). andThen a (λ new. andThen (lastLink address new) (λ n. mapDone (λ ls. new ++ ls) (crunchLines profile words (suc k) (leastBehind least new) n lines)))) (t .line-is)
+      ∙ ap (λ (a : Answer ℕ). andThen a (λ n. mapDone (λ ls. t .new ++ ls) (crunchLines profile words (suc k) (leastBehind least (t .new)) n lines))) (t .link-is)
 
-  pub cons-refused : {n : Refusal·Numbered} → addressBehind words k address line ≡ refused n → crunchLines words k address (line ∷ lines) ≡ refused n
+  pub cons-refused : {n : Refusal·Numbered} → addressBehind profile words k least address line ≡ refused n → crunchLines profile words k least address (line ∷ lines) ≡ refused n
   unfolding crunchLines addressBehind
-  cons-refused {n} e = go (textLine words k line) e
+  cons-refused {n} e = go (lineUnder profile words k least line) e
     where
-      then-rest : (new : List NumberedBody) (b : Answer ℕ) → b ≡ refused n → andThen b (λ x. mapDone (λ ls. new ++ ls) (crunchLines words (suc k) x lines)) ≡ refused n
+      then-rest : (new : List NumberedBody) (b : Answer ℕ) → b ≡ refused n → andThen b (λ x. mapDone (λ ls. new ++ ls) (crunchLines profile words (suc k) (leastBehind least new) x lines)) ≡ refused n
       then-rest new (done x) q = let z : _≡_ {A = ℕ} 0 1 = cc in absurd (omega arith)
       then-rest new (refused m) q = ap refused (same q)
         where
@@ -211,7 +327,7 @@ module _ (words : Lexicon) (k address : ℕ) (line : List ℕ) (lines : List (Li
           same p = cc
 
       go : (a : Answer (List NumberedBody)) → andThen a (lastLink address) ≡ refused n
-          → andThen a (λ new. andThen (lastLink address new) (λ x. mapDone (λ ls. new ++ ls) (crunchLines words (suc k) x lines))) ≡ refused n
+          → andThen a (λ new. andThen (lastLink address new) (λ x. mapDone (λ ls. new ++ ls) (crunchLines profile words (suc k) (leastBehind least new) x lines))) ≡ refused n
       go (done new) q = then-rest new (lastLink address new) q
       go (refused m) q = let s : m ≡ n = cc in ap refused s
 

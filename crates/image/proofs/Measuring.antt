@@ -2,6 +2,7 @@
 -- Assumes nothing.
 use Prim.Native.Nat.{ℕ, suc, _+_, _-_, _≤_, _<_}
 use mathlib.Core.Path.{_≡_, refl, sym, ap, _∙_, subst}
+use mathlib.Core.Bool.{Bool}
 use mathlib.Core.List.{List, [], _∷_, _++_, append-nil, append-assoc}
 use mathlib.Core.Option.{some}
 use native.Mathlib.Numerals.{add-one}
@@ -14,7 +15,7 @@ use Rattle.refusals.specs.Answer.{Answer, done, refused, mapDone}
 use Rattle.refusals.specs.declared.Refusal.{Refusal}
 use Rattle.ascii.specs.Trim.{trim}
 use Rattle.lent.specs.Lent.{roomFor}
-use Rattle.lent.specs.declared.Outcome.the-variants.{Done, Refused}
+use Rattle.lent.specs.declared.Outcome.the-variants.{Done}
 use Rattle.lines.specs.declared.split.TextLine.{TextLine}
 use Rattle.lines.specs.declared.split.LineRule.the-variants.{AfterCr}
 use Rattle.lines.specs.SplitHelpers.{lineFrom}
@@ -26,40 +27,43 @@ use Rattle.readers.specs.NumberedBody.{NumberedBody}
 use Rattle.layout.specs.Layout.{linkOf, endAddress, imageOf}
 use Rattle.layout.specs.Reads.{placedLine, linesAt}
 use Rattle.layout.proofs.Laying.{image-length, end-append, end-above}
-use Rattle.image.specs.Crunched.{textLine, crunchLines}
+use Rattle.profile.specs.Profile.{leastBehind}
+use Rattle.image.specs.Crunched.{textLine, lineUnder, crunchLines}
 use Rattle.image.specs.Measured.{unlessBlank, nonblankFrom, nonblankLines, withTextLines, entryFrom, lineAnswer}
-use Rattle.image.specs.PassesHelpers.{textImage, textPlaced, PassedAs, addressBehind, LineSized, SizedAs, Span, lineBetween}
+use Rattle.image.specs.PassesHelpers.{textImage, textPlaced, PassedAs, refusedPass, addressBehind, LineSized, SizedAs, Span, lineBetween}
 use Rattle.image.specs.declared.LineMeasured.{LineMeasured}
-use Rattle.image.specs.declared.LineMeasured.the-variants.{There, NoSuchLine, Refused as Line·Refused}
+use Rattle.image.specs.declared.LineMeasured.the-variants.{There, NoSuchLine}
 use Rattle.image.specs.declared.MeasuredLine.{MeasuredLine}
+use Rattle.image.specs.declared.measure.Pass.{Pass}
 use Rattle.image.specs.declared.measure.Sized.{Sized}
 use Rattle.image.specs.declared.measure.Sized.the-variants.{Blank, Numbered, Refused as Sized·Refused}
-use Rattle.image.proofs.Lining.{Taken, taken-blank, taken-line, cons-taken, cons-refused, before-new, text-blank}
+use Rattle.image.proofs.Lining.{Taken, taken-blank, taken-line, cons-taken, cons-refused, before-new, under-plain, under-blank}
 use Rattle.image.proofs.Placing.{lines-at-more, lines-at-length, with-length, with-more, entry-here, entry-past, blank-place, line-place}
 
 -- all that is known where so many lines of the image come before a text line
-pub record Reached (words : Lexicon) (load : ℕ) (text : List ℕ) (at k address : ℕ) : Type 0 where
+pub record Reached (profile : Bool) (words : Lexicon) (load : ℕ) (text : List ℕ) (at k least address : ℕ) : Type 0 where
   pub before : List NumberedBody
   pub stands : address ≡ endAddress load before
   pub high : address ≤ 0xFFFF
   pub counted : k ≤ at
   pub within : at ≤ length text
-  pub gives : mapDone (λ ls. before ++ ls) (crunchLines words (suc k) address (textLines AfterCr (drop at text))) ≡ crunchLines words 1 load (textLines AfterCr text)
+  pub gives : mapDone (λ ls. before ++ ls) (crunchLines profile words (suc k) least address (textLines AfterCr (drop at text)))
+      ≡ crunchLines profile words 1 0 load (textLines AfterCr text)
 
 pub none-before : (a : Answer (List NumberedBody)) → mapDone (λ ls. [] ++ ls) a ≡ a
 none-before (done ls) = refl
 none-before (refused n) = refl
 
-unfoldable pub reached-start : (words : Lexicon) (load : ℕ) (text : List ℕ) → load ≤ 0xFFFF → Reached words load text 0 0 load
+unfoldable pub reached-start : (profile : Bool) (words : Lexicon) (load : ℕ) (text : List ℕ) → load ≤ 0xFFFF → Reached profile words load text 0 0 0 load
 unfolding endAddress
-reached-start words load text h =
+reached-start profile words load text h =
     record {
       before = [];
       stands = refl;
       high = h;
       counted = omega arith;
       within = omega arith;
-      gives = none-before (crunchLines words 1 load (textLines AfterCr text));
+      gives = none-before (crunchLines profile words 1 0 load (textLines AfterCr text));
     }
 
 -- the text line at a place
@@ -70,16 +74,18 @@ lineAt text at r = take (r .end - at) (drop at text)
 abbrev pub lineBehind : List ℕ → TextLine → List ℕ
 lineBehind text r = take (r .end - r .begin) (drop (r .begin) text)
 
-module _ {words : Lexicon} {load : ℕ} {text : List ℕ} {at k address : ℕ} (g : Reached words load text at k address) where
+module _ {profile : Bool} {words : Lexicon} {load : ℕ} {text : List ℕ} {at k least address : ℕ} (g : Reached profile words load text at k least address) where
   module _ {r : TextLine} (h : at < length text) (is : r ≡ lineFrom AfterCr text at) where
     step : Stepped AfterCr text at r
     step = line-step AfterCr text at h is
 
-    line-here : crunchLines words (suc k) address (textLines AfterCr (drop at text)) ≡ crunchLines words (suc k) address (lineAt text at r ∷ textLines AfterCr (drop (r .next) text))
-    line-here = ap (crunchLines words (suc k) address) (step .lines)
+    line-here :
+        crunchLines profile words (suc k) least address (textLines AfterCr (drop at text))
+        ≡ crunchLines profile words (suc k) least address (lineAt text at r ∷ textLines AfterCr (drop (r .next) text))
+    line-here = ap (crunchLines profile words (suc k) least address) (step .lines)
 
-    module _ {next : ℕ} (t : Taken words (suc k) address (lineAt text at r) next) where
-      pub reached-turn : Reached words load text (r .next) (k + 1) next
+    module _ {next : ℕ} (t : Taken profile words (suc k) least address (lineAt text at r) next) where
+      pub reached-turn : Reached profile words load text (r .next) (k + 1) (leastBehind least (t .new)) next
       reached-turn =
           record {
             before = g .before ++ t .new;
@@ -89,8 +95,8 @@ module _ {words : Lexicon} {load : ℕ} {text : List ℕ} {at k address : ℕ} (
             within = step .within;
             gives =
                 rw add-one
-                (before-new (g .before) (t .new) (crunchLines words (suc (suc k)) next (textLines AfterCr (drop (r .next) text)))
-                ∙ ap (mapDone (λ ls. g .before ++ ls)) (sym (cons-taken words (suc k) address (lineAt text at r) (textLines AfterCr (drop (r .next) text)) t) ∙ sym line-here)
+                (before-new (g .before) (t .new) (crunchLines profile words (suc (suc k)) (leastBehind least (t .new)) next (textLines AfterCr (drop (r .next) text)))
+                ∙ ap (mapDone (λ ls. g .before ++ ls)) (sym (cons-taken profile words (suc k) least address (lineAt text at r) (textLines AfterCr (drop (r .next) text)) t) ∙ sym line-here)
                 ∙ g .gives);
           }
 
@@ -98,23 +104,23 @@ module _ {words : Lexicon} {load : ℕ} {text : List ℕ} {at k address : ℕ} (
       unfolding reached-turn
       turn-before = refl
 
-    pub reached-refused : {n : Refusal·Numbered} → addressBehind words (suc k) address (lineAt text at r) ≡ refused n → refused n ≡ crunchLines words 1 load (textLines AfterCr text)
+    pub reached-refused : {n : Refusal·Numbered} → addressBehind profile words (suc k) least address (lineAt text at r) ≡ refused n → refused n ≡ crunchLines profile words 1 0 load (textLines AfterCr text)
     reached-refused e =
-        sym (ap (mapDone (λ ls. g .before ++ ls)) (line-here ∙ cons-refused words (suc k) address (lineAt text at r) (textLines AfterCr (drop (r .next) text)) e))
+        sym (ap (mapDone (λ ls. g .before ++ ls)) (line-here ∙ cons-refused profile words (suc k) least address (lineAt text at r) (textLines AfterCr (drop (r .next) text)) e))
         ∙ g .gives
 
-  pub reached-end : length text ≤ at → done (g .before) ≡ crunchLines words 1 load (textLines AfterCr text)
+  pub reached-end : length text ≤ at → done (g .before) ≡ crunchLines profile words 1 0 load (textLines AfterCr text)
   unfolding crunchLines
   reached-end h =
       ap done (sym (append-nil (g .before)))
-      ∙ sym (ap (mapDone (λ ls. g .before ++ ls)) (ap (crunchLines words (suc k) address) (lines-end AfterCr text at h)))
+      ∙ sym (ap (mapDone (λ ls. g .before ++ ls)) (ap (crunchLines profile words (suc k) least address) (lines-end AfterCr text at h)))
       ∙ g .gives
 
 -- ---- the measuring pass
 
 -- besides, the line at a place, if it is among those lines; they are counted, and each has its text line
-pub record MeasuredTo (words : Lexicon) (load place : ℕ) (text : List ℕ) (at k address count : ℕ) (found : LineMeasured) : Type 0 where
-  pub reached : Reached words load text at k address
+pub record MeasuredTo (profile : Bool) (words : Lexicon) (load place : ℕ) (text : List ℕ) (at k least address count : ℕ) (found : LineMeasured) : Type 0 where
+  pub reached : Reached profile words load text at k least address
   pub texts : List ℕ
   pub counted : count ≡ length (reached .before)
   pub paired : count ≡ length texts
@@ -122,11 +128,11 @@ pub record MeasuredTo (words : Lexicon) (load place : ℕ) (text : List ℕ) (at
   pub rest : texts ++ nonblankFrom (suc k) (textLines AfterCr (drop at text)) ≡ nonblankLines text
   pub placed : lineAnswer found ≡ done (entryFrom place 1 (withTextLines (linesAt load 2 (reached .before)) texts))
 
-pub measured-start : (words : Lexicon) (load place : ℕ) (text : List ℕ) → Fits w16 load → MeasuredTo words load place text 0 0 load 0 NoSuchLine
+pub measured-start : (profile : Bool) (words : Lexicon) (load place : ℕ) (text : List ℕ) → Fits w16 load → MeasuredTo profile words load place text 0 0 0 load 0 NoSuchLine
 unfolding reached-start linesAt withTextLines entryFrom
-measured-start words load place text f =
+measured-start profile words load place text f =
     record {
-      reached = reached-start words load text (omega (arith, f .fits));
+      reached = reached-start profile words load text (omega (arith, f .fits));
       texts = [];
       counted = refl;
       paired = refl;
@@ -135,11 +141,12 @@ measured-start words load place text f =
       placed = refl;
     }
 
-module _ {words : Lexicon} {load place : ℕ} {text : List ℕ} {at k address count : ℕ} {found : LineMeasured} (m : MeasuredTo words load place text at k address count found) where
+module _ {profile : Bool} {words : Lexicon} {load place : ℕ} {text : List ℕ} {at k least address count : ℕ} {found : LineMeasured}
+    (m : MeasuredTo profile words load place text at k least address count found) where
   pub measured-low : load ≤ address
   measured-low = omega (arith, m .reached .stands, end-above load (m .reached .before))
 
-  pub measured-end : length text ≤ at → PassedAs words load place text (record { room = Done (address - load + 4); line = found })
+  pub measured-end : length text ≤ at → PassedAs profile words load place text (record { room = Done (address - load + 4); line = found })
   unfolding textImage textPlaced nonblankFrom
   measured-end h =
       let g = m .reached in
@@ -156,12 +163,14 @@ module _ {words : Lexicon} {load place : ℕ} {text : List ℕ} {at k address co
 
   module _ {r : TextLine} (is : r ≡ lineFrom AfterCr text at) (h : at < length text) where
     -- what is told of the line, which is the one behind k others
-    told-line : {s x : Sized} → s ≡ x → SizedAs address (textLine words (k + 1) (lineBehind text r)) s → SizedAs address (textLine words (suc k) (lineAt text at r)) x
+    told-line : {s x : Sized} → s ≡ x → SizedAs address (lineUnder profile words (k + 1) least (lineBehind text r)) s
+        → SizedAs address (lineUnder profile words (suc k) least (lineAt text at r)) x
     told-line {x = x} told e =
         let o : k + 1 ≡ suc k = omega arith in
         subst (λ (a : Answer (List NumberedBody)). SizedAs address a x)
-        (line-behind (textLine words (k + 1)) (text-blank words (k + 1)) AfterCr text at is ∙ ap (λ (n : ℕ). textLine words n (lineAt text at r)) o)
-        (subst (SizedAs address (textLine words (k + 1) (lineBehind text r))) told e)
+        (line-behind (lineUnder profile words (k + 1) least) (under-blank profile words (k + 1) least) AfterCr text at is
+        ∙ ap (λ (n : ℕ). lineUnder profile words n least (lineAt text at r)) o)
+        (subst (SizedAs address (lineUnder profile words (k + 1) least (lineBehind text r))) told e)
 
     -- the place of the line, unless it is blank
     abbrev new-text : List ℕ
@@ -175,8 +184,8 @@ module _ {words : Lexicon} {load place : ℕ} {text : List ℕ} {at k address co
         ∙ m .rest
 
     -- a turn, by what the line gives
-    turn : {next more : ℕ} {after : LineMeasured} (t : Taken words (suc k) address (lineAt text at r) next) → more ≡ length (m .reached .before ++ t .new) → more ≡ length (m .texts ++ new-text) → more ≤ k + 1
-        → lineAnswer after ≡ done (entryFrom place 1 (withTextLines (linesAt load 2 (m .reached .before ++ t .new)) (m .texts ++ new-text))) → MeasuredTo words load place text (r .next) (k + 1) next more after
+    turn : {next more : ℕ} {after : LineMeasured} (t : Taken profile words (suc k) least address (lineAt text at r) next) → more ≡ length (m .reached .before ++ t .new) → more ≡ length (m .texts ++ new-text) → more ≤ k + 1
+        → lineAnswer after ≡ done (entryFrom place 1 (withTextLines (linesAt load 2 (m .reached .before ++ t .new)) (m .texts ++ new-text))) → MeasuredTo profile words load place text (r .next) (k + 1) (leastBehind least (t .new)) next more after
     unfolding reached-turn
     turn t c p f e =
         record {
@@ -189,34 +198,38 @@ module _ {words : Lexicon} {load place : ℕ} {text : List ℕ} {at k address co
           placed = e;
         }
 
-    module _ {s : Sized} (e : SizedAs address (textLine words (k + 1) (lineBehind text r)) s) where
-      pub measured-blank : s ≡ Blank → MeasuredTo words load place text (r .next) (k + 1) address count found
+    module _ {s : Sized} (e : SizedAs address (lineUnder profile words (k + 1) least (lineBehind text r)) s) where
+      pub measured-blank : s ≡ Blank → MeasuredTo profile words load place text (r .next) (k + 1) least address count found
       unfolding SizedAs taken-blank
       measured-blank told =
-          let q : textLine words (suc k) (lineAt text at r) ≡ done [] = told-line told e in
-          let none : new-text ≡ [] = blank-place words (suc k) (lineAt text at r) q in
+          let q : lineUnder profile words (suc k) least (lineAt text at r) ≡ done [] = told-line told e in
+          let none : new-text ≡ [] = blank-place words (suc k) (lineAt text at r) (under-plain profile words (suc k) least (lineAt text at r) q) in
           turn (taken-blank (m .reached .high) q)
           (rw (append-nil (m .reached .before)) (m .counted))
           (rw (none, append-nil (m .texts)) (m .paired))
           (omega (arith, m .few))
           (rw (append-nil (m .reached .before), none, append-nil (m .texts)) (m .placed))
 
-      pub measured-refused : {x : Refusal} → s ≡ Sized·Refused x → PassedAs words load place text (record { room = Refused x; line = Line·Refused x })
+      pub measured-refused : {x : Refusal} {p : Pass} → p ≡ refusedPass x → s ≡ Sized·Refused x → PassedAs profile words load place text p
       unfolding SizedAs textImage textPlaced addressBehind
-      measured-refused told =
+      measured-refused z told =
           let q = reached-refused (m .reached) h is (told-line told e) in
-          record {
+          rw z
+          (record {
             sized = ap (λ (a : Answer (List NumberedBody)). roomFor (mapDone (imageOf load) a)) q;
             placed = ap (mapDone (λ ls. entryFrom place 1 (withTextLines (linesAt load 2 ls) (nonblankLines text)))) q;
-          }
+          })
 
       module _ {number behind : ℕ} (told : s ≡ Numbered number behind) where
-        size : LineSized address (textLine words (suc k) (lineAt text at r)) number behind
+        size : LineSized address (lineUnder profile words (suc k) least (lineAt text at r)) number behind
         unfolding SizedAs
         size = told-line told e
 
         pub measured-span : Span load address behind
         measured-span = record { low = measured-low; some = omega (arith, size .behind-is); high = size .high }
+
+        place-is : new-text ≡ suc k ∷ []
+        place-is = line-place words (suc k) (lineAt text at r) (under-plain profile words (suc k) least (lineAt text at r) (size .gives))
 
         new-line : NumberedBody
         new-line = record { number = number; body = size .body }
@@ -241,7 +254,7 @@ module _ {words : Lexicon} {load place : ℕ} {text : List ℕ} {at k address co
         all-is : withTextLines (linesAt load 2 (m .reached .before ++ new-line ∷ [])) (m .texts ++ new-text) ≡ before ++ here ∷ []
         unfolding before new-line
         all-is =
-            ap (λ (ts : List ℕ). withTextLines (linesAt load 2 (m .reached .before ++ new-line ∷ [])) (m .texts ++ ts)) (line-place words (suc k) (lineAt text at r) (size .gives))
+            ap (λ (ts : List ℕ). withTextLines (linesAt load 2 (m .reached .before ++ new-line ∷ [])) (m .texts ++ ts)) place-is
             ∙ ap (λ (ls : List Line). withTextLines ls (m .texts ++ suc k ∷ [])) (lines-at-more (m .reached .before) new-line load 2)
             ∙ with-more (linesAt load 2 (m .reached .before)) (m .texts) _ (suc k) long
             ∙ ap (λ (x : MeasuredLine). before ++ x ∷ []) here-is
@@ -255,23 +268,25 @@ module _ {words : Lexicon} {load place : ℕ} {text : List ℕ} {at k address co
             with-length (linesAt load 2 (m .reached .before)) (m .texts) (omega (arith, lines-at-length (m .reached .before) load 2, m .counted, m .paired))
             ∙ omega (arith, lines-at-length (m .reached .before) load 2, m .counted)
 
-        turn-line : {after : LineMeasured} → lineAnswer after ≡ done (entryFrom place 1 (before ++ here ∷ [])) → MeasuredTo words load place text (r .next) (k + 1) behind (count + 1) after
+        turn-line : {after : LineMeasured} → lineAnswer after ≡ done (entryFrom place 1 (before ++ here ∷ [])) → MeasuredTo profile words load place text (r .next) (k + 1) (number + 1) behind (count + 1) after
         unfolding taken-line new-line
-        turn-line q =
-            turn (taken-line size)
+        turn-line {after} q =
+            let o : suc number ≡ number + 1 = omega arith in
+            subst (λ (n : ℕ). MeasuredTo profile words load place text (r .next) (k + 1) n behind (count + 1) after) o
+            (turn (taken-line size)
             (omega (arith, length-append (m .reached .before) (new-line ∷ []), m .counted))
-            (rw (line-place words (suc k) (lineAt text at r) (size .gives)) (omega (arith, length-append (m .texts) (suc k ∷ []), m .paired)))
+            (rw place-is (omega (arith, length-append (m .texts) (suc k ∷ []), m .paired)))
             (omega (arith, m .few))
-            (q ∙ ap (λ (xs : List MeasuredLine). done (entryFrom place 1 xs)) (sym all-is))
+            (q ∙ ap (λ (xs : List MeasuredLine). done (entryFrom place 1 xs)) (sym all-is)))
 
         pub measured-here : {l : Line} → count + 1 ≡ place → l ≡ lineBetween load address number behind
-            → MeasuredTo words load place text (r .next) (k + 1) behind (count + 1) (There (record { line = l; origin = k + 1 }))
+            → MeasuredTo profile words load place text (r .next) (k + 1) (number + 1) behind (count + 1) (There (record { line = l; origin = k + 1 }))
         measured-here c i =
             turn-line
             (ap (λ (x : Line). done (some (record { line = x; origin = k + 1 }))) i
             ∙ ap done (sym (entry-here place 1 before here (omega (arith, before-length)))))
 
-        pub measured-past : (count + 1 ≡ place → ⊥) → MeasuredTo words load place text (r .next) (k + 1) behind (count + 1) found
+        pub measured-past : (count + 1 ≡ place → ⊥) → MeasuredTo profile words load place text (r .next) (k + 1) (number + 1) behind (count + 1) found
         unfolding before
         measured-past c =
             turn-line (m .placed ∙ ap done (sym (entry-past place 1 before here (λ q. c (omega (arith, before-length))))))

@@ -1,9 +1,9 @@
 -- From the check of a text to its image: what was measured, and what is then stored.
 -- Assumes nothing.
-use Prim.Native.Nat.{ℕ, _≤_, _<_}
+use Prim.Native.Nat.{ℕ, suc, _≤_, _<_}
 use mathlib.Core.Path.{_≡_, refl, sym, ap, _∙_, subst}
 use mathlib.Core.Bool.{Bool, true, false}
-use mathlib.Core.List.{List}
+use mathlib.Core.List.{List, [], _∷_, _++_}
 use native.Mathlib.Omega.{arith}
 use lib.ListN.{length}
 use Rattle.refusals.specs.Answer.{Answer, done, refused, numbered, mapDone, andThen}
@@ -27,12 +27,13 @@ use Rattle.body.specs.Lexicon.{Lexicon, lexicon}
 use Rattle.readers.specs.NumberedBody.{NumberedBody}
 use Rattle.layout.specs.Layout.{imageOf}
 use Rattle.layout.specs.Reads.{linesAt}
+use Rattle.profile.specs.Profile.{leastBehind}
 use Rattle.image.specs.Crunched.{crunchLines, textLexicon, crunchedLines, crunched}
 use Rattle.image.specs.Measured.{nonblankLines, withTextLines, entryFrom, measuredLines, lineMeasured, lineAnswer}
-use Rattle.image.specs.PassesHelpers.{textImage, textPlaced, PassedAs, MeasuredAs, FitsIf}
-use Rattle.image.specs.declared.LineMeasured.the-variants.{Refused as Line·Refused}
+use Rattle.image.specs.PassesHelpers.{textImage, textPlaced, PassedAs, MeasuredAs, refusedPass, addressBehind, FitsIf}
 use Rattle.image.specs.declared.measure.Pass.{Pass}
 use Rattle.image.specs.declared.Options.{Options}
+use Rattle.image.proofs.Lining.{Taken, taken, taken-plain, cons-taken, cons-refused}
 
 -- ---- what is measured
 
@@ -43,10 +44,10 @@ mapped-twice f g (refused n) = refl
 module _ (o : Options) (place : ℕ) (text : List ℕ) where
   -- the lines of the text, by what its bytes are
   lines-by : {c x : TextCheck} → c ≡ x → textCheckAnswer c ≡ checkedText text
-      → andThen (textCheckAnswer x) (λ _. crunchLines (textLexicon o text) 1 (o .load) (textLines AfterCr text)) ≡ crunchedLines o text
+      → andThen (textCheckAnswer x) (λ _. crunchLines (o .profile) (textLexicon o text) 1 0 (o .load) (textLines AfterCr text)) ≡ crunchedLines o text
   unfolding crunchedLines
   lines-by told is =
-      ap (λ (a : Answer (Unit {0})). andThen a (λ _. crunchLines (textLexicon o text) 1 (o .load) (textLines AfterCr text))) (ap textCheckAnswer (sym told) ∙ is)
+      ap (λ (a : Answer (Unit {0})). andThen a (λ _. crunchLines (o .profile) (textLexicon o text) 1 0 (o .load) (textLines AfterCr text))) (ap textCheckAnswer (sym told) ∙ is)
 
   image-by : {a : Answer (List NumberedBody)} → a ≡ crunchedLines o text → mapDone (imageOf (o .load)) a ≡ crunched o text
   unfolding crunched
@@ -60,17 +61,17 @@ module _ (o : Options) (place : ℕ) (text : List ℕ) where
 
   module _ {c : TextCheck} where
     lines-fine : {sets guessed : Sets} → sets ≡ withForms (o .forms) guessed → guessed ≡ wordSets (o .dialect) text → c ≡ Fine → textCheckAnswer c ≡ checkedText text
-        → crunchLines (lexicon sets) 1 (o .load) (textLines AfterCr text) ≡ crunchedLines o text
+        → crunchLines (o .profile) (lexicon sets) 1 0 (o .load) (textLines AfterCr text) ≡ crunchedLines o text
     lines-fine w s t e =
-        ap (λ (x : Sets). crunchLines (lexicon x) 1 (o .load) (textLines AfterCr text)) (w ∙ ap (withForms (o .forms)) s) ∙ lines-by t e
+        ap (λ (x : Sets). crunchLines (o .profile) (lexicon x) 1 0 (o .load) (textLines AfterCr text)) (w ∙ ap (withForms (o .forms)) s) ∙ lines-by t e
 
-    pub measured-fine : {sets guessed : Sets} {p : Pass} → PassedAs (lexicon sets) (o .load) place text p → sets ≡ withForms (o .forms) guessed → guessed ≡ wordSets (o .dialect) text
+    pub measured-fine : {sets guessed : Sets} {p : Pass} → PassedAs (o .profile) (lexicon sets) (o .load) place text p → sets ≡ withForms (o .forms) guessed → guessed ≡ wordSets (o .dialect) text
         → c ≡ Fine → textCheckAnswer c ≡ checkedText text → MeasuredAs o place text p
     unfolding textImage textPlaced
     measured-fine r w s t e = record { sized = r .sized ∙ ap roomFor (image-by (lines-fine w s t e)); placed = r .placed ∙ placed-by (lines-fine w s t e) }
 
-    pub measured-outside : {x : Refusal} → c ≡ Check·Refused x → textCheckAnswer c ≡ checkedText text → MeasuredAs o place text (record { room = Refused x; line = Line·Refused x })
-    measured-outside t e = record { sized = ap roomFor (image-by (lines-by t e)); placed = placed-by (lines-by t e) }
+    pub measured-outside : {x : Refusal} {p : Pass} → p ≡ refusedPass x → c ≡ Check·Refused x → textCheckAnswer c ≡ checkedText text → MeasuredAs o place text p
+    measured-outside z t e = rw z (record { sized = ap roomFor (image-by (lines-by t e)); placed = placed-by (lines-by t e) })
 
 module _ {o : Options} {place : ℕ} {text : List ℕ} {p : Pass} where
   pub whole-room : MeasuredAs o place text p → outcomeAnswer (p .room) ≡ roomFor (crunched o text)
@@ -82,7 +83,7 @@ module _ {o : Options} {place : ℕ} {text : List ℕ} {p : Pass} where
 -- ---- what is stored
 
 module _ (o : Options) (text buffer : List ℕ) {c : TextCheck} where
-  pub whole-fine : {sets guessed : Sets} (r : Outcome) {after : List ℕ} → left r after ≡ intoBuffer (textImage (lexicon sets) (o .load) text) buffer
+  pub whole-fine : {sets guessed : Sets} (r : Outcome) {after : List ℕ} → left r after ≡ intoBuffer (textImage (o .profile) (lexicon sets) (o .load) text) buffer
       → sets ≡ withForms (o .forms) guessed → guessed ≡ wordSets (o .dialect) text → c ≡ Fine → textCheckAnswer c ≡ checkedText text → left r after ≡ intoBuffer (crunched o text) buffer
   unfolding textImage
   whole-fine r q w s t e = q ∙ ap (λ (a : Answer (List ℕ)). intoBuffer a buffer) (image-by o 0 text (lines-fine o 0 text w s t e))
@@ -90,22 +91,68 @@ module _ (o : Options) (text buffer : List ℕ) {c : TextCheck} where
   pub whole-outside : {x : Refusal} → c ≡ Check·Refused x → textCheckAnswer c ≡ checkedText text → left (Refused x) buffer ≡ intoBuffer (crunched o text) buffer
   whole-outside t e = into-refused buffer (crunched o text) (ap roomFor (image-by o 0 text (lines-by o 0 text t e)))
 
+-- the lines that the profile accepts are those of plain crunching
+pub lines-plain : (profile : Bool) (words : Lexicon) (lines : List (List ℕ)) (k least address : ℕ) {ls : List NumberedBody}
+    → crunchLines profile words k least address lines ≡ done ls → crunchLines false words k least address lines ≡ done ls
+unfolding crunchLines taken-plain
+lines-plain profile words [] k least address e = e
+lines-plain profile words (line ∷ lines) k least address {ls} e = go (addressBehind profile words k least address line) refl (λ more next rest q. lines-plain profile words lines (suc k) more next q)
+  where
+    go : (a : Answer ℕ) → addressBehind profile words k least address line ≡ a
+        → ((more next : ℕ) (rest : List NumberedBody) → crunchLines profile words (suc k) more next lines ≡ done rest → crunchLines false words (suc k) more next lines ≡ done rest)
+        → crunchLines false words k least address (line ∷ lines) ≡ done ls
+    go (done next) p more =
+        let t : Taken profile words k least address line next = taken p in
+        cons-taken false words k least address line lines (taken-plain t)
+        ∙ same (crunchLines profile words (suc k) (leastBehind least (t .new)) next lines) (crunchLines false words (suc k) (leastBehind least (t .new)) next lines) (t .new)
+        (more (leastBehind least (t .new)) next)
+        (sym (cons-taken profile words k least address line lines t) ∙ e)
+      where
+        same : (a : Answer (List NumberedBody)) (b : Answer (List NumberedBody)) (new : List NumberedBody) → ((rest : List NumberedBody) → a ≡ done rest → b ≡ done rest)
+            → mapDone (λ xs. new ++ xs) a ≡ done ls → mapDone (λ xs. new ++ xs) b ≡ done ls
+        same (done rest) b new f q = ap (mapDone (λ xs. new ++ xs)) (f rest refl) ∙ q
+        same (refused n) b new f q = let z : _≡_ {A = ℕ} 0 1 = cc in absurd (omega arith)
+    go (refused n) p more = let c : refused n ≡ done ls = sym (cons-refused profile words k least address line lines p) ∙ e in let z : _≡_ {A = ℕ} 0 1 = cc in absurd (omega arith)
+
 module _ (words : Lexicon) (load : ℕ) (text buffer : List ℕ) where
   -- the bound settles it
-  pub fits-room : {r : Bool} → r ≡ true → FitsIf r (length buffer) (textImage words load text) → HasRoom buffer (textImage words load text)
-  fits-room t f = go (textImage words load text) (rw t at f)
+  pub fits-room : {r : Bool} → r ≡ true → FitsIf r (length buffer) (textImage false words load text) → HasRoom buffer (textImage false words load text)
+  fits-room t f = go (textImage false words load text) (rw t at f)
     where
       go : (a : Answer (List ℕ)) → FitsIf true (length buffer) a → HasRoom buffer a
       go (done bytes) h = record { room = omega (arith, h) }
       go (refused n) h = absurd h
 
+module _ (profile : Bool) (words : Lexicon) (load : ℕ) (text buffer : List ℕ) where
+  -- so is the image, where there is one
+  image-plain : {n : ℕ} → done n ≡ roomFor (textImage profile words load text) → textImage false words load text ≡ textImage profile words load text
+  unfolding textImage
+  image-plain {n} e = go (crunchLines profile words 1 0 load (textLines AfterCr text)) refl e
+    where
+      go : (a : Answer (List NumberedBody)) → crunchLines profile words 1 0 load (textLines AfterCr text) ≡ a → done n ≡ roomFor (mapDone (imageOf load) a)
+          → mapDone (imageOf load) (crunchLines false words 1 0 load (textLines AfterCr text)) ≡ mapDone (imageOf load) (crunchLines profile words 1 0 load (textLines AfterCr text))
+      go (done ls) p q = ap (mapDone (imageOf load)) (lines-plain profile words (textLines AfterCr text) 1 0 load p ∙ sym p)
+      go (refused m) p q = let z : _≡_ {A = ℕ} 0 1 = cc in absurd (omega arith)
+
+  -- the bound has settled it
+  pub fits-put : (r : Outcome) {after : List ℕ} → left r after ≡ intoBuffer (textImage false words load text) buffer → profile ≡ false
+      → left r after ≡ intoBuffer (textImage profile words load text) buffer
+  fits-put r q f = q ∙ ap (λ (b : Bool). intoBuffer (textImage b words load text) buffer) (sym f)
+
   -- or the length that was measured
   module _ {place : ℕ} {p : Pass} where
-    pub room-short : {n : ℕ} → p .room ≡ Done n → PassedAs words load place text p → length buffer < n → left (Refused (NoRoom n)) buffer ≡ intoBuffer (textImage words load text) buffer
-    room-short told k h = into-none buffer (textImage words load text) (told-outcome told (k .sized)) h
+    pub room-short : {n : ℕ} → p .room ≡ Done n → PassedAs profile words load place text p → length buffer < n
+        → left (Refused (NoRoom n)) buffer ≡ intoBuffer (textImage profile words load text) buffer
+    room-short told k h = into-none buffer (textImage profile words load text) (told-outcome told (k .sized)) h
 
-    pub room-enough : {n : ℕ} → p .room ≡ Done n → PassedAs words load place text p → n ≤ length buffer → HasRoom buffer (textImage words load text)
-    room-enough told k h = has-room buffer (textImage words load text) (told-outcome told (k .sized)) h
+    pub room-enough : {n : ℕ} → p .room ≡ Done n → PassedAs profile words load place text p → n ≤ length buffer → HasRoom buffer (textImage false words load text)
+    room-enough told k h =
+        let e = told-outcome told (k .sized) in
+        rw (image-plain e) (has-room buffer (textImage profile words load text) e h)
 
-    pub room-refused : {x : Refusal} → p .room ≡ Refused x → PassedAs words load place text p → left (Refused x) buffer ≡ intoBuffer (textImage words load text) buffer
-    room-refused told k = into-refused buffer (textImage words load text) (told-outcome told (k .sized))
+    pub room-put : (r : Outcome) {n : ℕ} {after : List ℕ} → left r after ≡ intoBuffer (textImage false words load text) buffer → p .room ≡ Done n → PassedAs profile words load place text p
+        → left r after ≡ intoBuffer (textImage profile words load text) buffer
+    room-put r q told k = q ∙ ap (λ (a : Answer (List ℕ)). intoBuffer a buffer) (image-plain (told-outcome told (k .sized)))
+
+    pub room-refused : {x : Refusal} → p .room ≡ Refused x → PassedAs profile words load place text p → left (Refused x) buffer ≡ intoBuffer (textImage profile words load text) buffer
+    room-refused told k = into-refused buffer (textImage profile words load text) (told-outcome told (k .sized))

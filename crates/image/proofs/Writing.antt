@@ -2,6 +2,7 @@
 -- Assumes nothing.
 use Prim.Native.Nat.{ℕ, suc, _+_, _-_, _≤_, _<_}
 use mathlib.Core.Path.{_≡_, refl, sym, ap, _∙_, subst}
+use mathlib.Core.Bool.{false}
 use mathlib.Core.List.{List, [], _∷_, _++_, append-nil, append-assoc}
 use native.Mathlib.Omega.{arith}
 use lib.ListN.{length, take, drop, length-append}
@@ -21,21 +22,23 @@ use Rattle.body.specs.Lexicon.{Lexicon}
 use Rattle.readers.specs.NumberedBody.{NumberedBody}
 use Rattle.layout.specs.Layout.{twoBytes, linesBytes, endAddress, imageOf}
 use Rattle.layout.proofs.Laying.{image-length, lines-length, lines-append, end-append, end-above}
+use Rattle.profile.specs.Profile.{leastBehind}
 use Rattle.image.specs.Crunched.{textLine, crunchLines}
 use Rattle.image.specs.PassesHelpers.{textImage, addressBehind, given}
 use borrow.Rule.Slice.PartMut.{midOf, putMid}
 use mir.Syntax.{w16, w64}
 use mir.Val.{Fits}
 use Rattle.image.proofs.Laying.{part-room, part-put}
-use Rattle.image.proofs.Lining.{Taken, taken, given-is, text-blank}
+use Rattle.image.proofs.Lining.{Taken, taken, given-is, text-blank, under-plain}
 use Rattle.image.proofs.Measuring.{Reached, reached-start, reached-turn, turn-before, reached-refused, reached-end, lineAt, lineBehind}
 
 -- the lines before a text line are stored behind the load address
 pub record Written (words : Lexicon) (load : ℕ) (text buffer : List ℕ) (from at : ℕ) (out : List ℕ) (to : ℕ) : Type 0 where
   pub k : ℕ
+  pub least : ℕ
   pub address : ℕ
-  pub reached : Reached words load text at k address
-  pub room : HasRoom buffer (textImage words load text)
+  pub reached : Reached false words load text at k least address
+  pub room : HasRoom buffer (textImage false words load text)
   pub begins : from ≡ 2
   pub put : Put buffer from (linesBytes load (reached .before)) to out
 
@@ -54,23 +57,24 @@ room-before buffer load before (refused n) w e r =
     absurd (subst (λ (x : Answer (List NumberedBody)). HasRoom buffer (mapDone (imageOf load) x)) (sym e) r)
 
 module _ (words : Lexicon) (load : ℕ) (text buffer : List ℕ) where
-  room-reached : {at k address : ℕ} → HasRoom buffer (textImage words load text) → (g : Reached words load text at k address) → length (linesBytes load (g .before)) + 4 ≤ length buffer
+  room-reached : {at k least address : ℕ} → HasRoom buffer (textImage false words load text) → (g : Reached false words load text at k least address) → length (linesBytes load (g .before)) + 4 ≤ length buffer
   unfolding textImage
-  room-reached {at} {k} {address} r g =
-      room-before buffer load (g .before) (crunchLines words (suc k) address (textLines AfterCr (drop at text))) (crunchLines words 1 load (textLines AfterCr text)) (g .gives) r
+  room-reached {at} {k} {least} {address} r g =
+      room-before buffer load (g .before) (crunchLines false words (suc k) least address (textLines AfterCr (drop at text))) (crunchLines false words 1 0 load (textLines AfterCr text)) (g .gives) r
 
-  pub room-load : HasRoom buffer (textImage words load text) → Fits w16 load → Room buffer 0 (twoBytes load)
+  pub room-load : HasRoom buffer (textImage false words load text) → Fits w16 load → Room buffer 0 (twoBytes load)
   unfolding reached-start
-  room-load r h = record { room = omega (arith, room-reached r (reached-start words load text (omega (arith, h .fits)))) }
+  room-load r h = record { room = omega (arith, room-reached r (reached-start false words load text (omega (arith, h .fits)))) }
 
-  pub written-start : {from : ℕ} {out : List ℕ} → Put buffer 0 (twoBytes load) from out → HasRoom buffer (textImage words load text) → Fits w16 load → Written words load text out from 0 out from
+  pub written-start : {from : ℕ} {out : List ℕ} → Put buffer 0 (twoBytes load) from out → HasRoom buffer (textImage false words load text) → Fits w16 load → Written words load text out from 0 out from
   unfolding reached-start linesBytes
   written-start {from} {out} p r h =
       record {
         k = 0;
+        least = 0;
         address = load;
-        reached = reached-start words load text (omega (arith, h .fits));
-        room = room-alike buffer out (put-long p) (textImage words load text) r;
+        reached = reached-start false words load text (omega (arith, h .fits));
+        room = room-alike buffer out (put-long p) (textImage false words load text) r;
         begins = omega (arith, p .ends);
         put = put-none out from;
       }
@@ -100,21 +104,21 @@ module _ {words : Lexicon} {load : ℕ} {text buffer : List ℕ} {from at : ℕ}
 
   module _ {r : TextLine} (is : r ≡ lineFrom AfterCr text at) (h : at < length text) where
     -- a text that has an image is refused at no line
-    found : (a : Answer ℕ) → addressBehind words (suc (w .k)) (w .address) (lineAt text at r) ≡ a → (next : ℕ) × Taken words (suc (w .k)) (w .address) (lineAt text at r) next
+    found : (a : Answer ℕ) → addressBehind false words (suc (w .k)) (w .least) (w .address) (lineAt text at r) ≡ a → (next : ℕ) × Taken false words (suc (w .k)) (w .least) (w .address) (lineAt text at r) next
     unfolding textImage
     found (done next) e = (next, taken e)
     found (refused n) e =
         absurd (subst (λ (x : Answer (List NumberedBody)). HasRoom buffer (mapDone (imageOf load) x)) (sym (reached-refused (w .reached) h is e)) (w .room))
 
-    here : (next : ℕ) × Taken words (suc (w .k)) (w .address) (lineAt text at r) next
-    here = found (addressBehind words (suc (w .k)) (w .address) (lineAt text at r)) refl
+    here : (next : ℕ) × Taken false words (suc (w .k)) (w .least) (w .address) (lineAt text at r) next
+    here = found (addressBehind false words (suc (w .k)) (w .least) (w .address) (lineAt text at r)) refl
 
-    next-reached : Reached words load text (r .next) (w .k + 1) (here .0)
+    next-reached : Reached false words load text (r .next) (w .k + 1) (leastBehind (w .least) (here .1 .new)) (here .0)
     next-reached = reached-turn (w .reached) h is (here .1)
 
     -- what the line gives
     new-is : given (textLine words 0 (lineBehind text r)) ≡ here .1 .new
-    new-is = ap given (line-behind (textLine words 0) (text-blank words 0) AfterCr text at is) ∙ given-is words (lineAt text at r) (suc (w .k)) (here .1 .line-is)
+    new-is = ap given (line-behind (textLine words 0) (text-blank words 0) AfterCr text at is) ∙ given-is words (lineAt text at r) (suc (w .k)) (under-plain false words (suc (w .k)) (w .least) (lineAt text at r) (here .1 .line-is))
 
     bytes-is : linesBytes (load + to - 2) (given (textLine words 0 (lineBehind text r))) ≡ linesBytes (endAddress load (w .reached .before)) (here .1 .new)
     bytes-is = ap (linesBytes (load + to - 2)) new-is ∙ ap (λ (a : ℕ). linesBytes a (here .1 .new)) (address-is .1 ∙ w .reached .stands)
@@ -143,6 +147,7 @@ module _ {words : Lexicon} {load : ℕ} {text buffer : List ℕ} {from at : ℕ}
       written-turn =
           record {
             k = w .k + 1;
+            least = leastBehind (w .least) (here .1 .new);
             address = here .0;
             reached = next-reached;
             room = w .room;
@@ -155,12 +160,12 @@ module _ {words : Lexicon} {load : ℕ} {text buffer : List ℕ} {from at : ℕ}
   pub written-same : {n : ℕ} {after whole : List ℕ} → Put out to (twoBytes 0) n after → Put whole 0 (twoBytes load) from buffer → length after ≡ length whole
   written-same last first = put-long last ∙ written-long ∙ put-long first
 
-  pub written-end : {n : ℕ} {after whole : List ℕ} → Put out to (twoBytes 0) n after → length text ≤ at → Put whole 0 (twoBytes load) from buffer → HasRoom whole (textImage words load text)
-      → _≡_ {A = Lent} (record { answer = done n; buffer = after }) (intoBuffer (textImage words load text) whole)
+  pub written-end : {n : ℕ} {after whole : List ℕ} → Put out to (twoBytes 0) n after → length text ≤ at → Put whole 0 (twoBytes load) from buffer → HasRoom whole (textImage false words load text)
+      → _≡_ {A = Lent} (record { answer = done n; buffer = after }) (intoBuffer (textImage false words load text) whole)
   unfolding textImage imageOf
   written-end {n} {after} {whole} last h first room =
       let lines = linesBytes load (w .reached .before) in
-      into-done whole (textImage words load text)
+      into-done whole (textImage false words load text)
       (ap (mapDone (imageOf load)) (reached-end (w .reached) h))
       room
       (put-both (twoBytes load ++ lines) (twoBytes 0) (put-both (twoBytes load) lines first (w .put)) last)

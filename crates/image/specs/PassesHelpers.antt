@@ -2,12 +2,16 @@
 -- Assumes nothing.
 use Prim.Native.Nat.{ℕ, _+_, _-_, _/_, _%_, _≤_}
 use mathlib.Core.Path.{_≡_}
-use mathlib.Core.Bool.{Bool, true, false}
+use mathlib.Core.Bool.{Bool, true, false, cond}
 use mathlib.Core.List.{List, [], _∷_}
 use mathlib.Core.Option.{Option}
+use lib.Dec.{ltb}
 use lib.ListN.{length, set}
+use Rattle.refusals.specs.declared.Refusal.{Refusal}
+use Rattle.refusals.specs.declared.Refusal.the-variants.{AddressOverflow}
 use Rattle.refusals.specs.Answer.{Answer, done, refused, numbered, mapDone, andThen}
 use Rattle.lent.specs.Lent.{roomFor, outcomeAnswer}
+use Rattle.lent.specs.declared.Outcome.the-variants.{Refused as Outcome·Refused}
 use Rattle.lines.specs.declared.split.LineRule.the-variants.{AfterCr}
 use Rattle.lines.specs.TextLines.{textLines}
 use Rattle.body.specs.Lexicon.{Lexicon}
@@ -15,8 +19,9 @@ use Rattle.readers.specs.NumberedBody.{NumberedBody}
 use Rattle.readers.specs.declared.Line.{Line}
 use Rattle.layout.specs.Layout.{linkOf, endAddress, imageOf}
 use Rattle.layout.specs.Reads.{linesAt}
-use Rattle.image.specs.Crunched.{textLine, lastLink, crunchLines, crunched}
+use Rattle.image.specs.Crunched.{textLine, lineUnder, lastLink, crunchLines, crunched}
 use Rattle.image.specs.Measured.{nonblankLines, withTextLines, entryFrom, lineMeasured, lineAnswer}
+use Rattle.image.specs.declared.LineMeasured.the-variants.{Refused as Line·Refused}
 use Rattle.image.specs.declared.MeasuredLine.{MeasuredLine}
 use Rattle.image.specs.declared.Options.{Options}
 use Rattle.image.specs.declared.measure.Pass.{Pass}
@@ -24,27 +29,31 @@ use Rattle.image.specs.declared.measure.Sized.{Sized}
 use Rattle.image.specs.declared.measure.Sized.the-variants.{Blank, Numbered, Refused}
 
 -- the image of a text that is in the domain
-unfoldable pub textImage : Lexicon → ℕ → List ℕ → Answer (List ℕ)
-textImage words load text = mapDone (imageOf load) (crunchLines words 1 load (textLines AfterCr text))
+unfoldable pub textImage : Bool → Lexicon → ℕ → List ℕ → Answer (List ℕ)
+textImage profile words load text = mapDone (imageOf load) (crunchLines profile words 1 0 load (textLines AfterCr text))
 
 -- the line at a place of it
-unfoldable pub textPlaced : Lexicon → ℕ → ℕ → List ℕ → Answer (Option MeasuredLine)
-textPlaced words load place text =
-    mapDone (λ ls. entryFrom place 1 (withTextLines (linesAt load 2 ls) (nonblankLines text))) (crunchLines words 1 load (textLines AfterCr text))
+unfoldable pub textPlaced : Bool → Lexicon → ℕ → ℕ → List ℕ → Answer (Option MeasuredLine)
+textPlaced profile words load place text =
+    mapDone (λ ls. entryFrom place 1 (withTextLines (linesAt load 2 ls) (nonblankLines text))) (crunchLines profile words 1 0 load (textLines AfterCr text))
 
 -- what the measuring pass answers of such a text
-pub record PassedAs (words : Lexicon) (load place : ℕ) (text : List ℕ) (p : Pass) : Type 0 where
-  pub sized : outcomeAnswer (p .room) ≡ roomFor (textImage words load text)
-  pub placed : lineAnswer (p .line) ≡ textPlaced words load place text
+pub record PassedAs (profile : Bool) (words : Lexicon) (load place : ℕ) (text : List ℕ) (p : Pass) : Type 0 where
+  pub sized : outcomeAnswer (p .room) ≡ roomFor (textImage profile words load text)
+  pub placed : lineAnswer (p .line) ≡ textPlaced profile words load place text
 
 -- a text that was checked and measured: the room for its image, and the line at a place
 pub record MeasuredAs (o : Options) (place : ℕ) (text : List ℕ) (p : Pass) : Type 0 where
   pub sized : outcomeAnswer (p .room) ≡ roomFor (crunched o text)
   pub placed : lineAnswer (p .line) ≡ lineMeasured o place text
 
+-- of a text that is refused
+abbrev pub refusedPass : Refusal → Pass
+refusedPass r = record { room = Outcome·Refused r; line = Line·Refused r }
+
 -- the address behind the k-th text line
-unfoldable pub addressBehind : Lexicon → ℕ → ℕ → List ℕ → Answer ℕ
-addressBehind words k address line = andThen (textLine words k line) (lastLink address)
+unfoldable pub addressBehind : Bool → Lexicon → ℕ → ℕ → ℕ → List ℕ → Answer ℕ
+addressBehind profile words k least address line = andThen (lineUnder profile words k least line) (lastLink address)
 
 -- a text line gives one line, with this number; behind it is this address
 pub record LineSized (address : ℕ) (a : Answer (List NumberedBody)) (number behind : ℕ) : Type 0 where
@@ -58,6 +67,10 @@ unfoldable pub SizedAs : ℕ → Answer (List NumberedBody) → Sized → Type 0
 SizedAs address a Blank = a ≡ done []
 SizedAs address a (Numbered number behind) = LineSized address a number behind
 SizedAs address a (Refused r) = andThen a (lastLink address) ≡ refused (numbered r)
+
+-- a line at an address, whose body has so many bytes
+abbrev pub sizedAt : ℕ → ℕ → ℕ → Sized
+sizedAt address number size = cond (ltb 0xFFFF (address + 5 + size)) (Refused AddressOverflow) (Numbered number (address + 5 + size))
 
 -- a line from one address to another, in an image at a load address
 pub record Span (load address behind : ℕ) : Type 0 where

@@ -5,6 +5,7 @@ use lines::split;
 use lines::split::LineRule;
 use tables::sets::Sets;
 ghost use Prim.Native.Nat.{_≤_};
+ghost use mathlib.Core.Bool.{false};
 ghost use Rattle.tables.specs.WordsHelpers.{SpellsWords};
 ghost use Rattle.body.specs.Lexicon.{lexicon};
 ghost use Rattle.image.specs.PassesHelpers.{textImage, FitsIf, Bounded};
@@ -12,7 +13,7 @@ ghost use Rattle.image.specs.PassesHelpers.{textImage, FitsIf, Bounded};
 // Whether every line has its number, and the image surely has an address and the room. Where not, the exact length decides.
 pub fn fits(text: &[u8], load: u16, room: usize, bytes: &[u8], index: &[u16], sets: Sets) -> bool
     requires { ⌜ SpellsWords (now bytes) (now index) ⌝ }
-    ensures { λ r. ⌜ FitsIf r room (textImage (lexicon sets) load (now (text .entry))) ⌝ }
+    ensures { λ r. ⌜ FitsIf r room (textImage false (lexicon sets) load (now (text .entry))) ⌝ }
 {
     let first = load as usize;
     let mut address = first;

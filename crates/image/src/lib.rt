@@ -21,10 +21,12 @@ mod bound;
 mod measure;
 mod write;
 
-// What a text is crunched with: where its image begins, its dialect, and whether short forms of V2 words are taken.
+// What a text is crunched with: where its image begins, its dialect, whether the machine profile is asked, line by line, and whether short
+// forms of V2 words are taken.
 pub struct Options {
     pub load: u16,
     pub dialect: Dialect,
+    pub profile: bool,
     pub forms: bool,
 }
 
@@ -100,28 +102,33 @@ fn crunch_with(
             let dialect = options.dialect;
             let guessed = resolve::word_sets(text, dialect, bytes, index);
             let sets = sets::with_forms(guessed, options.forms);
-            into_buffer(out, text, options.load, bytes, index, sets)
+            into_buffer(out, text, options, bytes, index, sets)
         }
         TextCheck::Refused(refusal) => Outcome::Refused(refusal),
     }
 }
 
-// Where the bound does not settle it, the image is measured first: a buffer that is too small is left as it is.
+// Where the bound does not settle it, the image is measured first: a buffer that is too small is left as it is. The bound knows nothing of the
+// profile, which is asked in measuring; what it accepts is written as without it.
 fn into_buffer(
     out: &mut [u8],
     text: &[u8],
-    load: u16,
+    options: Options,
     bytes: &[u8],
     index: &[u16],
     sets: Sets,
 ) -> Outcome
     requires { ⌜ SpellsWords (now bytes) (now index) ⌝ }
-    ensures { λ r. ⌜ left r (now (out .exit)) ≡ intoBuffer (textImage (lexicon sets) load (now (text .entry))) (now (out .entry)) ⌝ }
+    ensures { λ r. ⌜ left r (now (out .exit)) ≡ intoBuffer (textImage (options .profile) (lexicon sets) (options .load) (now (text .entry))) (now (out .entry)) ⌝ }
 {
-    if bound::fits(text, load, out.len(), bytes, index, sets) {
-        return Outcome::Done(write::write(out, text, load, bytes, index, sets));
+    let load = options.load;
+    let profile = options.profile;
+    if !profile {
+        if bound::fits(text, load, out.len(), bytes, index, sets) {
+            return Outcome::Done(write::write(out, text, load, bytes, index, sets));
+        }
     }
-    let pass = measure::measure(text, load, 0, bytes, index, sets);
+    let pass = measure::measure(text, options, 0, bytes, index, sets);
     let room = pass.room;
     match room {
         Outcome::Done(needed) => {

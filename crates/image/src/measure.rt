@@ -2,6 +2,7 @@
 use crate::LineMeasured;
 use crate::MeasuredLine;
 use crate::Options;
+use body::zero;
 use guess::resolve;
 use lent::Outcome;
 use lines::domain;
@@ -10,6 +11,7 @@ use lines::number;
 use lines::number::Numbering;
 use lines::split;
 use lines::split::LineRule;
+use profile::Allowed;
 use readers::Line;
 use refusals::Refusal;
 use tables::sets;
@@ -18,8 +20,8 @@ ghost use mathlib.Core.Path.{_≡_};
 ghost use Prim.Native.Nat.{_≤_};
 ghost use Rattle.tables.specs.WordsHelpers.{SpellsWords};
 ghost use Rattle.body.specs.Lexicon.{lexicon};
-ghost use Rattle.image.specs.Crunched.{textLine};
-ghost use Rattle.image.specs.PassesHelpers.{PassedAs, MeasuredAs, SizedAs, Span, lineBetween};
+ghost use Rattle.image.specs.Crunched.{lineUnder};
+ghost use Rattle.image.specs.PassesHelpers.{PassedAs, MeasuredAs, SizedAs, sizedAt, refusedPass, Span, lineBetween};
 
 // What measuring a text answers: the room that its image needs, and the line at a place of that image.
 pub struct Pass {
@@ -34,6 +36,15 @@ pub enum Sized {
     Refused(Refusal),
 }
 
+// Where a text line is met: whether the profile is asked, the line's place from 1, the least number that it may have, and the address of its
+// own line.
+pub struct Spot {
+    pub profile: bool,
+    pub k: usize,
+    pub least: usize,
+    pub address: usize,
+}
+
 // Checks a text and measures it.
 pub fn measured(text: &[u8], options: Options, place: usize, bytes: &[u8], index: &[u16]) -> Pass
     requires { ⌜ SpellsWords (now bytes) (now index) ⌝ }
@@ -44,32 +55,40 @@ pub fn measured(text: &[u8], options: Options, place: usize, bytes: &[u8], index
             let dialect = options.dialect;
             let guessed = resolve::word_sets(text, dialect, bytes, index);
             let sets = sets::with_forms(guessed, options.forms);
-            measure(text, options.load, place, bytes, index, sets)
+            measure(text, options, place, bytes, index, sets)
         }
-        TextCheck::Refused(refusal) => {
-            let room = Outcome::Refused(refusal);
-            let line = LineMeasured::Refused(refusal);
-            Pass { room, line }
-        }
+        TextCheck::Refused(refusal) => refused(refusal),
     }
+}
+
+// Of a text that is refused.
+fn refused(refusal: Refusal) -> Pass
+    ensures { λ r. ⌜ r ≡ refusedPass refusal ⌝ }
+{
+    let room = Outcome::Refused(refusal);
+    let line = LineMeasured::Refused(refusal);
+    Pass { room, line }
 }
 
 // Measures a text that is in the domain, its words known.
 pub fn measure(
     text: &[u8],
-    load: u16,
+    options: Options,
     place: usize,
     bytes: &[u8],
     index: &[u16],
     sets: Sets,
 ) -> Pass
     requires { ⌜ SpellsWords (now bytes) (now index) ⌝ }
-    ensures { λ r. ⌜ PassedAs (lexicon sets) load place (now (text .entry)) r ⌝ }
+    ensures { λ r. ⌜ PassedAs (options .profile) (lexicon sets) (options .load) place (now (text .entry)) r ⌝ }
 {
+    let profile = options.profile;
+    let load = options.load;
     let first = load as usize;
     let mut address = first;
     let mut at: usize = 0;
     let mut k: usize = 0;
+    let mut least: usize = 0;
     let mut count: usize = 0;
     let mut found = LineMeasured::NoSuchLine;
     while at < text.len() {
@@ -77,10 +96,17 @@ pub fn measure(
         let begin = next.begin;
         let end = next.end;
         k += 1;
-        match measure_line(&text[begin..end], k, address, bytes, index, sets) {
+        let spot = Spot {
+            profile,
+            k,
+            least,
+            address,
+        };
+        match measure_line(&text[begin..end], spot, bytes, index, sets) {
             Sized::Blank => {}
             Sized::Numbered { number, behind } => {
                 count += 1;
+                least = number as usize + 1;
                 if count == place {
                     let line = line_between(first, address, number, behind);
                     found = LineMeasured::There(MeasuredLine { line, origin: k });
@@ -88,11 +114,7 @@ pub fn measure(
                 address = behind;
             }
             Sized::Refused(refusal) => {
-                let room = Outcome::Refused(refusal);
-                return Pass {
-                    room,
-                    line: LineMeasured::Refused(refusal),
-                };
+                return refused(refusal);
             }
         }
         at = next.next;
@@ -116,18 +138,12 @@ fn line_between(first: usize, address: usize, number: u16, behind: usize) -> Lin
     }
 }
 
-// The k-th text line, its own line at an address.
-fn measure_line(
-    line: &[u8],
-    k: usize,
-    address: usize,
-    bytes: &[u8],
-    index: &[u16],
-    sets: Sets,
-) -> Sized
-    requires { ⌜ SpellsWords (now bytes) (now index) × (address ≤ 0xFFFF) ⌝ }
-    ensures { λ r. ⌜ SizedAs address (textLine (lexicon sets) k (now (line .entry))) r ⌝ }
+// A text line.
+fn measure_line(line: &[u8], spot: Spot, bytes: &[u8], index: &[u16], sets: Sets) -> Sized
+    requires { ⌜ SpellsWords (now bytes) (now index) × (spot .address ≤ 0xFFFF) ⌝ }
+    ensures { λ r. ⌜ SizedAs (spot .address) (lineUnder (spot .profile) (lexicon sets) (spot .k) (spot .least) (now (line .entry))) r ⌝ }
 {
+    let k = spot.k;
     match number::number_line(line) {
         Numbering::Blank => Sized::Blank,
         Numbering::Missing => Sized::Refused(Refusal::MissingLineNumber { line: k }),
@@ -141,11 +157,27 @@ fn measure_line(
             body_to,
         } => {
             let length = body::measure_body(&line[body_from..body_to], bytes, index, sets);
-            let behind = address + 5 + length;
-            if behind > 0xFFFF {
-                return Sized::Refused(Refusal::AddressOverflow);
+            let profile = spot.profile;
+            if !profile {
+                return size_line(spot.address, number, length);
             }
-            Sized::Numbered { number, behind }
+            let zero = zero::holds_zero(&line[body_from..body_to], bytes, index, sets);
+            match profile::allow_line(k, spot.least, number, zero, length) {
+                Allowed::Yes => size_line(spot.address, number, length),
+                Allowed::Refused(refusal) => Sized::Refused(refusal),
+            }
         }
     }
+}
+
+// A line at an address, with a body of so many bytes.
+fn size_line(address: usize, number: u16, length: usize) -> Sized
+    requires { ⌜ (address ≤ 0xFFFF) × (length ≤ 65536) ⌝ }
+    ensures { λ r. ⌜ r ≡ sizedAt address number length ⌝ }
+{
+    let behind = address + 5 + length;
+    if behind > 0xFFFF {
+        return Sized::Refused(Refusal::AddressOverflow);
+    }
+    Sized::Numbered { number, behind }
 }

@@ -7,6 +7,7 @@ use lines::split::LineRule;
 use tables::sets::Sets;
 ghost use mathlib.Core.Path.{_≡_};
 ghost use Prim.Native.Nat.{_≤_};
+ghost use mathlib.Core.Bool.{false};
 ghost use Rattle.lent.specs.Lent.{intoBuffer, left};
 ghost use Rattle.lent.specs.Stores.{Room, Put, HasRoom};
 ghost use Rattle.tables.specs.WordsHelpers.{SpellsWords};
@@ -24,8 +25,8 @@ pub fn write(
     index: &[u16],
     sets: Sets,
 ) -> usize
-    requires { ⌜ SpellsWords (now bytes) (now index) × HasRoom (now out) (textImage (lexicon sets) load (now text)) ⌝ }
-    ensures { λ r. ⌜ left (Outcome.Done r) (now (out .exit)) ≡ intoBuffer (textImage (lexicon sets) load (now (text .entry))) (now (out .entry)) ⌝ }
+    requires { ⌜ SpellsWords (now bytes) (now index) × HasRoom (now out) (textImage false (lexicon sets) load (now text)) ⌝ }
+    ensures { λ r. ⌜ left (Outcome.Done r) (now (out .exit)) ≡ intoBuffer (textImage false (lexicon sets) load (now (text .entry))) (now (out .entry)) ⌝ }
 {
     let first = load as usize;
     let mut to = put_two(out, 0, load);

@@ -117,6 +117,7 @@ fn show_in(dialect: Dialect) {
         AskedNumber::Known(load) => show_under(Options {
             load,
             dialect,
+            profile: false,
             forms: false,
         }),
         AskedNumber::Ended => {}

@@ -37,15 +37,15 @@ module _ (o : Outcome) {c : Code} (code : c ≡ lengthCode (outcomeAnswer o)) wh
   tells-room q = code ∙ ap lengthCode q
 
 module _ (number load : ℕ) (text : List ℕ) {n : Named} (answer : namedAnswer n ≡ byNumber number) where
-  crunched-with : {m : Named} → n ≡ m → andThen (namedAnswer m) (λ d. crunched (record { load = load; dialect = d; forms = false }) text) ≡ crunchedBy number load text
-  crunched-with e = ap (λ (a : Answer Dialect). andThen a (λ d. crunched (record { load = load; dialect = d; forms = false }) text)) (ap namedAnswer (sym e) ∙ answer)
+  crunched-with : {m : Named} → n ≡ m → andThen (namedAnswer m) (λ d. crunched (record { load = load; dialect = d; profile = false; forms = false }) text) ≡ crunchedBy number load text
+  crunched-with e = ap (λ (a : Answer Dialect). andThen a (λ d. crunched (record { load = load; dialect = d; profile = false; forms = false }) text)) (ap namedAnswer (sym e) ∙ answer)
 
   module _ {d : Dialect} (e : n ≡ Known d) (o : Outcome) {c : Code} (code : c ≡ lengthCode (outcomeAnswer o)) where
-    pub tells-image : (buffer : List ℕ) {b : List ℕ} → left o b ≡ intoBuffer (crunched (record { load = load; dialect = d; forms = false }) text) buffer
+    pub tells-image : (buffer : List ℕ) {b : List ℕ} → left o b ≡ intoBuffer (crunched (record { load = load; dialect = d; profile = false; forms = false }) text) buffer
         → _≡_ {A = Told} (record { code = c; buffer = b }) (toldCode (intoBuffer (crunchedBy number load text) buffer))
     tells-image buffer {b} q = tells o code (q ∙ ap (λ (a : Answer (List ℕ)). intoBuffer a buffer) (crunched-with e))
 
-    pub tells-image-room : outcomeAnswer o ≡ roomFor (crunched (record { load = load; dialect = d; forms = false }) text) → c ≡ lengthCode (roomFor (crunchedBy number load text))
+    pub tells-image-room : outcomeAnswer o ≡ roomFor (crunched (record { load = load; dialect = d; profile = false; forms = false }) text) → c ≡ lengthCode (roomFor (crunchedBy number load text))
     tells-image-room q = tells-room o code (q ∙ ap roomFor (crunched-with e))
 
   module _ {r : Refusal} (e : n ≡ Refused r) {c : Code} (code : c ≡ codeOf (numbered r)) where

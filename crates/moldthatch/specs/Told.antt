@@ -30,7 +30,7 @@ toldCode l = record { code = lengthCode (l .answer); buffer = l .buffer }
 
 -- the image of a text, the dialect given by its number; no short forms are taken
 abbrev pub crunchedBy : ℕ → ℕ → List ℕ → Answer (List ℕ)
-crunchedBy dialect load text = andThen (byNumber dialect) (λ d. crunched (record { load = load; dialect = d; forms = false }) text)
+crunchedBy dialect load text = andThen (byNumber dialect) (λ d. crunched (record { load = load; dialect = d; profile = false; forms = false }) text)
 
 -- the listing of an image under a dialect, as document 02, No. 5, has it: remarks are bytes like others
 abbrev pub oldMode : Dialect → ListOptions

@@ -34,6 +34,7 @@ pub extern "C" fn moldthatch_crunch(text: &[u8], load: u16, dialect: u8, out: &m
             Options {
                 load,
                 dialect: known,
+                profile: false,
                 forms: false,
             },
             out,
@@ -53,6 +54,7 @@ pub extern "C" fn moldthatch_crunch_room(text: &[u8], load: u16, dialect: u8) ->
             Options {
                 load,
                 dialect: known,
+                profile: false,
                 forms: false,
             },
         )),

@@ -1,2 +1,1 @@
-pub mod Accepting
-pub mod Table
+pub mod Asking

@@ -32,10 +32,11 @@ use Rattle.layout.specs.Changed.{ChangedLines, ChangedLinks, linesNow}
 use Rattle.layout.proofs.Laying.{end-append}
 use Rattle.layout.proofs.ReadBack.{read-back-by-links, read-back-by-terminators, all-or-none, all-found}
 use Rattle.layout.proofs.Damage.{changed-outside, changed-places, damage-by-links, damage-by-terminators, links-changed, same-image, same-program}
+use Rattle.profile.specs.Profile.{leastBehind}
 use Rattle.image.specs.Crunched.{linesRead, textLine, crunchLines, textLexicon, crunchedLines, crunched}
 use Rattle.image.specs.PassesHelpers.{addressBehind}
 use Rattle.image.specs.declared.Options.{Options}
-use Rattle.image.proofs.Lining.{Taken, taken, cons-taken, cons-refused}
+use Rattle.image.proofs.Lining.{Taken, taken, under-plain, cons-taken, cons-refused}
 use Rattle.read_back.specs.ReadsBack.{ReadsBack, ReadsDamaged}
 use Rattle.read_back.specs.ReadingBack.{LentRead, readingBack, leftRead}
 use Rattle.read_back.specs.declared.ReadBack.{ReadBack}
@@ -73,32 +74,33 @@ behind new ls (done rest) e = let s : ls ≡ new ++ rest = cc in record { rest =
 behind new ls (refused n) e = let z : _≡_ {A = ℕ} 0 1 = cc in absurd (omega arith)
 
 -- for any words
-pub lines-laid : (words : Lexicon) (lines : List (List ℕ)) (k address : ℕ) (ls : List NumberedBody) → address ≤ 0xFFFF → crunchLines words k address lines ≡ done ls → Laid address ls
+pub lines-laid : (profile : Bool) (words : Lexicon) (lines : List (List ℕ)) (k least address : ℕ) (ls : List NumberedBody) → address ≤ 0xFFFF
+    → crunchLines profile words k least address lines ≡ done ls → Laid address ls
 unfolding crunchLines endAddress
-lines-laid words [] k address ls h e =
+lines-laid profile words [] k least address ls h e =
     let s : [] ≡ ls = cc in subst (Laid address) s (record { fits = h; numbers = tt })
-lines-laid words (line ∷ lines) k address ls h e = go (addressBehind words k address line) refl (lines-laid words lines (suc k))
+lines-laid profile words (line ∷ lines) k least address ls h e = go (addressBehind profile words k least address line) refl (lines-laid profile words lines (suc k))
   where
-    go : (a : Answer ℕ) → addressBehind words k address line ≡ a
-        → ((next : ℕ) (rest : List NumberedBody) → next ≤ 0xFFFF → crunchLines words (suc k) next lines ≡ done rest → Laid next rest) → Laid address ls
+    go : (a : Answer ℕ) → addressBehind profile words k least address line ≡ a
+        → ((more next : ℕ) (rest : List NumberedBody) → next ≤ 0xFFFF → crunchLines profile words (suc k) more next lines ≡ done rest → Laid next rest) → Laid address ls
     go (done next) p more =
-        let t : Taken words k address line next = taken p in
-        let b = behind (t .new) ls (crunchLines words (suc k) next lines) (sym (cons-taken words k address line lines t) ∙ e) in
-        let r : Laid next (b .rest) = more next (b .rest) (t .high) (b .answer) in
+        let t : Taken profile words k least address line next = taken p in
+        let b = behind (t .new) ls (crunchLines profile words (suc k) (leastBehind least (t .new)) next lines) (sym (cons-taken profile words k least address line lines t) ∙ e) in
+        let r : Laid next (b .rest) = more (leastBehind least (t .new)) next (b .rest) (t .high) (b .answer) in
         subst (Laid address) (sym (b .whole))
         (record {
           fits = rw (end-append address (t .new) (b .rest), sym (t .next-is)) (r .fits);
-          numbers = each-append (t .new) (b .rest) (new-fit words k line (t .new) (t .line-is)) (r .numbers);
+          numbers = each-append (t .new) (b .rest) (new-fit words k line (t .new) (under-plain profile words k least line (t .line-is))) (r .numbers);
         })
-    go (refused n) p more = let c : refused n ≡ done ls = sym (cons-refused words k address line lines p) ∙ e in let z : _≡_ {A = ℕ} 0 1 = cc in absurd (omega arith)
+    go (refused n) p more = let c : refused n ≡ done ls = sym (cons-refused profile words k least address line lines p) ∙ e in let z : _≡_ {A = ℕ} 0 1 = cc in absurd (omega arith)
 
 module _ (o : Options) (text : List ℕ) {ls : List NumberedBody} (low : o .load ≤ 0xFFFF) (e : crunchedLines o text ≡ done ls) where
   pub crunched-laid : Laid (o .load) ls
   unfolding crunchedLines
   crunched-laid = go (checkedText text) e
     where
-      go : (a : Answer (Unit {0})) → andThen a (λ _. crunchLines (textLexicon o text) 1 (o .load) (textLines AfterCr text)) ≡ done ls → Laid (o .load) ls
-      go (done u) p = lines-laid (textLexicon o text) (textLines AfterCr text) 1 (o .load) ls low p
+      go : (a : Answer (Unit {0})) → andThen a (λ _. crunchLines (o .profile) (textLexicon o text) 1 0 (o .load) (textLines AfterCr text)) ≡ done ls → Laid (o .load) ls
+      go (done u) p = lines-laid (o .profile) (textLexicon o text) (textLines AfterCr text) 1 0 (o .load) ls low p
       go (refused n) p = let z : _≡_ {A = ℕ} 0 1 = cc in absurd (omega arith)
 
   crunched-image : crunched o text ≡ done (imageOf (o .load) ls)

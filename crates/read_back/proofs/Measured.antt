@@ -2,6 +2,7 @@
 -- Assumes nothing.
 use Prim.Native.Nat.{ℕ, suc, _+_, _-_, _≤_}
 use mathlib.Core.Path.{_≡_, refl, sym, ap, _∙_, subst}
+use mathlib.Core.Bool.{Bool}
 use mathlib.Core.List.{List, [], _∷_, _++_, map}
 use native.Mathlib.Omega.{arith}
 use lib.ListN.{length, length-append}
@@ -17,12 +18,13 @@ use Rattle.readers.specs.NumberedBody.{NumberedBody}
 use Rattle.layout.specs.Layout.{endAddress, imageOf}
 use Rattle.layout.specs.Reads.{leastLoad, linesAt, LinksLead}
 use Rattle.layout.proofs.ReadBack.{links-lead, marker-read, end-marker}
+use Rattle.profile.specs.Profile.{leastBehind}
 use Rattle.image.specs.Crunched.{crunchLines, textLexicon, crunchedLines, crunched}
 use Rattle.image.specs.PassesHelpers.{addressBehind}
 use Rattle.image.specs.Measured.{unlessBlank, nonblankFrom, nonblankLines, withTextLines, measuredLines}
 use Rattle.image.specs.declared.MeasuredLine.{MeasuredLine}
 use Rattle.image.specs.declared.Options.{Options}
-use Rattle.image.proofs.Lining.{Taken, taken, cons-taken, cons-refused}
+use Rattle.image.proofs.Lining.{Taken, taken, under-plain, cons-taken, cons-refused}
 use Rattle.image.proofs.Placing.{lines-at-length, as-many}
 use Rattle.read_back.specs.MeasuredBack.{AscendFrom, imageLines, origins, ComeFrom, MeasuredBack}
 use Rattle.read_back.proofs.Demand.{Behind, behind, crunched-laid, read-back}
@@ -44,19 +46,20 @@ ascending k (line ∷ lines) = ascend-line k (trim line) (nonblankFrom (suc k) l
 
 -- ---- there is one for each line of the image
 
-counted : (words : Lexicon) (lines : List (List ℕ)) (k address : ℕ) {ls : List NumberedBody} → crunchLines words k address lines ≡ done ls → length (nonblankFrom k lines) ≡ length ls
+counted : (profile : Bool) (words : Lexicon) (lines : List (List ℕ)) (k least address : ℕ) {ls : List NumberedBody} → crunchLines profile words k least address lines ≡ done ls
+    → length (nonblankFrom k lines) ≡ length ls
 unfolding crunchLines nonblankFrom
-counted words [] k address {ls} e = let s : [] ≡ ls = cc in ap length s
-counted words (line ∷ lines) k address {ls} e = go (addressBehind words k address line) refl (λ next rest q. counted words lines (suc k) next q)
+counted profile words [] k least address {ls} e = let s : [] ≡ ls = cc in ap length s
+counted profile words (line ∷ lines) k least address {ls} e = go (addressBehind profile words k least address line) refl (λ more next rest q. counted profile words lines (suc k) more next q)
   where
-    go : (a : Answer ℕ) → addressBehind words k address line ≡ a
-        → ((next : ℕ) (rest : List NumberedBody) → crunchLines words (suc k) next lines ≡ done rest → length (nonblankFrom (suc k) lines) ≡ length rest)
+    go : (a : Answer ℕ) → addressBehind profile words k least address line ≡ a
+        → ((more next : ℕ) (rest : List NumberedBody) → crunchLines profile words (suc k) more next lines ≡ done rest → length (nonblankFrom (suc k) lines) ≡ length rest)
         → length (unlessBlank k (trim line) ++ nonblankFrom (suc k) lines) ≡ length ls
     go (done next) p more =
-        let t : Taken words k address line next = taken p in
-        let b = behind (t .new) ls (crunchLines words (suc k) next lines) (sym (cons-taken words k address line lines t) ∙ e) in
-        omega (arith, length-append (unlessBlank k (trim line)) (nonblankFrom (suc k) lines), length-append (t .new) (b .rest), ap length (b .whole), as-many words k line (t .line-is), more next (b .rest) (b .answer))
-    go (refused n) p more = let c : refused n ≡ done ls = sym (cons-refused words k address line lines p) ∙ e in let z : _≡_ {A = ℕ} 0 1 = cc in absurd (omega arith)
+        let t : Taken profile words k least address line next = taken p in
+        let b = behind (t .new) ls (crunchLines profile words (suc k) (leastBehind least (t .new)) next lines) (sym (cons-taken profile words k least address line lines t) ∙ e) in
+        omega (arith, length-append (unlessBlank k (trim line)) (nonblankFrom (suc k) lines), length-append (t .new) (b .rest), ap length (b .whole), as-many words k line (under-plain profile words k least line (t .line-is)), more (leastBehind least (t .new)) next (b .rest) (b .answer))
+    go (refused n) p more = let c : refused n ≡ done ls = sym (cons-refused profile words k least address line lines p) ∙ e in let z : _≡_ {A = ℕ} 0 1 = cc in absurd (omega arith)
 
 lines-kept : (ls : List Line) (ts : List ℕ) → length ts ≡ length ls → imageLines (withTextLines ls ts) ≡ ls
 unfolding withTextLines
@@ -85,9 +88,9 @@ module _ (o : Options) (text : List ℕ) {ls : List NumberedBody} (e : crunchedL
   unfolding crunchedLines
   paired = go (checkedText text) e
     where
-      go : (a : Answer (Unit {0})) → andThen a (λ _. crunchLines (textLexicon o text) 1 (o .load) (textLines AfterCr text)) ≡ done ls
+      go : (a : Answer (Unit {0})) → andThen a (λ _. crunchLines (o .profile) (textLexicon o text) 1 0 (o .load) (textLines AfterCr text)) ≡ done ls
           → length (nonblankLines text) ≡ length (linesAt (o .load) 2 ls)
-      go (done u) p = counted (textLexicon o text) (textLines AfterCr text) 1 (o .load) p ∙ sym (lines-at-length ls (o .load) 2)
+      go (done u) p = counted (o .profile) (textLexicon o text) (textLines AfterCr text) 1 0 (o .load) p ∙ sym (lines-at-length ls (o .load) 2)
       go (refused n) p = let z : _≡_ {A = ℕ} 0 1 = cc in absurd (omega arith)
 
   come-from : ComeFrom text told

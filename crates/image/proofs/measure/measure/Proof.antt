@@ -11,11 +11,11 @@ use Rattle.image.proofs.measure.measure.Statement.{statement}
 use Rattle.image.proofs.measure.measure.Tie as tie
 
 abbrev Inv-loop : tie.InvT-loop
-Inv-loop text load place bytes index sets first address₀ at₀ k₀ count₀ found₀ address at k count found =
-    MeasuredTo (lexicon sets) load place text at k address count found
+Inv-loop text place bytes index sets profile load first address₀ at₀ k₀ least₀ count₀ found₀ address at k least count found =
+    MeasuredTo profile (lexicon sets) load place text at k least address count found
 
 abbrev μ-loop : tie.MeasureT-loop
-μ-loop text load place bytes index sets first address₀ at₀ k₀ count₀ found₀ address at k count found = length text - at
+μ-loop text place bytes index sets profile load first address₀ at₀ k₀ least₀ count₀ found₀ address at k least count found = length text - at
 
 loop-holds : tie.Need-loop-holds Inv-loop μ-loop
 loop-holds c = search measured-start
@@ -71,6 +71,7 @@ measure-spec =
     (tie.spec
     Inv-loop
     μ-loop
+    (λ c. search needs)
     loop-holds
     (λ c κs. search needs)
     add-k
@@ -81,8 +82,11 @@ measure-spec =
     (λ c. search needs)
     (λ c. search needs)
     add-count
+    (λ c. search needs)
+    (λ c. search needs)
     line-between-requires
     (λ c. search needs)
+    (λ c κs. search needs)
     returns
     loop-less
     loop-again

@@ -12,9 +12,9 @@ use Rattle.tables.specs.Tsb.{tsbWords}
 use Rattle.escapes.specs.Numbers.{digitOf, numberAfter, numberOf, hexOf, unsigned, countOf}
 use Rattle.escapes.specs.Keys.{keyNames, controlByte, keyWith, keyed, keyEscape}
 use Rattle.escapes.specs.Escape.{nameEscape, repeated, starred, countedName}
-use Rattle.profile.specs.Examples.{ProfileTable}
-use Rattle.profile.specs.Profile.{profiledLines}
+use Rattle.image.specs.Crunched.{crunchedLines}
+use Rattle.profile_laws.specs.Examples.{ProfileTable}
 
 pub profile-table : ProfileTable
-unfolding profiledLines v2Words operators tsbWords nameIn meaning countedName starred repeated nameEscape keyEscape keyed keyWith controlByte keyNames countOf unsigned hexOf numberOf numberAfter digitOf escapeNames cbmLetters ctrlDigits last trim upper between
-profile-table = (refl, refl, refl, refl, refl, refl, refl, refl, refl, refl)
+unfolding crunchedLines v2Words operators tsbWords nameIn meaning countedName starred repeated nameEscape keyEscape keyed keyWith controlByte keyNames countOf unsigned hexOf numberOf numberAfter digitOf escapeNames cbmLetters ctrlDigits last trim upper between
+profile-table = (refl, refl, refl, refl, refl, refl, refl, refl, refl, refl, refl, refl)

@@ -1,9 +1,8 @@
 -- What is known of the lines of a text that the machine profile accepts (document 02, No. 1).
 -- Assumes nothing.
-use Prim.Native.Nat.{ℕ, _≤_, _<_}
+use Prim.Native.Nat.{ℕ, suc, _≤_}
 use mathlib.Core.Path.{_≡_}
 use mathlib.Core.List.{List, [], _∷_}
-use mathlib.Core.Option.{Option, none, some}
 use lib.ListN.{length}
 use Rattle.refusals.specs.Answer.{done}
 use Rattle.readers.specs.declared.Line.{Line}
@@ -20,14 +19,10 @@ pub record FitsMachine (l : NumberedBody) : Type 0 where
   pub some : 1 ≤ length (l .body)
   pub few : length (l .body) ≤ 250
 
-abbrev pub Above : Option ℕ → ℕ → Type 0
-Above none n = Unit {0}
-Above (some m) n = m < n
-
--- "strictly ascending": each line fits, and its number is above the one before
-abbrev pub FitMachine : Option ℕ → List NumberedBody → Type 0
-FitMachine before [] = Unit {0}
-FitMachine before (l ∷ ls) = Above before (l .number) × FitsMachine l × FitMachine (some (l .number)) ls
+-- "strictly ascending": each line fits, and its number is at least this one, which is 0 at first and then the next above the number before
+abbrev pub FitMachine : ℕ → List NumberedBody → Type 0
+FitMachine least [] = Unit {0}
+FitMachine least (l ∷ ls) = (least ≤ l .number) × FitsMachine l × FitMachine (suc (l .number)) ls
 
 -- "both readers return the same lines"
 pub record ReadAlike (s : List ℕ) : Type 0 where

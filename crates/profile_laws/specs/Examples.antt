@@ -3,7 +3,7 @@
 use Prim.Native.Nat.{ℕ}
 use Prim.Native.String.{String}
 use mathlib.Core.Path.{_≡_}
-use mathlib.Core.Bool.{false}
+use mathlib.Core.Bool.{true, false}
 use mathlib.Core.List.{List, [], _∷_, _++_}
 use lib.ListN.{length, replicate}
 use Rattle.refusals.specs.Answer.{Answer, done, refused, mapDone}
@@ -11,11 +11,11 @@ use Rattle.refusals.specs.Numbers.{addressOverflow}
 use Rattle.words.specs.Spelling.{bytesOf}
 use Rattle.dialect.specs.declared.Dialect.the-variants.{Auto}
 use Rattle.readers.specs.NumberedBody.{NumberedBody}
-use Rattle.profile.specs.Profile.{profiledLines}
+use Rattle.image.specs.Crunched.{crunchedLines}
 
 infix 60 _profiledAt_
 abbrev pub _profiledAt_ : List ℕ → ℕ → Answer (List NumberedBody)
-text profiledAt load = profiledLines (record { load = load; dialect = Auto; forms = false }) text
+text profiledAt load = crunchedLines (record { load = load; dialect = Auto; profile = true; forms = false }) text
 
 -- two text lines
 abbrev pub twoTexts : String → String → List ℕ
@@ -39,6 +39,9 @@ ProfileTable =
     × (twoTexts "10 A" "10 B" profiledAt 0x0801 ≡ refusedWith 16 2)
     -- the accident
     × (bytesOf "10 PRINT \"{0}\"" profiledAt 0x0801 ≡ refusedWith 17 1)
+    -- behind a body that is too long a zero is still 17, and without it the body is 18
+    × (bytesOf "1 \"{red*300}{0}" profiledAt 0x0801 ≡ refusedWith 17 1)
+    × (bytesOf "1 \"{red*300}" profiledAt 0x0801 ≡ refusedWith 18 1)
     -- a body of 0 bytes, of 250, of 251
     × (bytesOf "10" profiledAt 0x0801 ≡ refusedWith 18 1)
     × (mapDone length (quoteAnd 249 profiledAt 0x0801) ≡ done 1)
