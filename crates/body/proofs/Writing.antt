@@ -7,7 +7,7 @@ use mathlib.Core.Bool.{Bool, true, false}
 use mathlib.Core.List.{List, [], _++_}
 use native.Mathlib.Omega.{arith}
 use lib.Dec.{T}
-use lib.ListN.{length, getD, take, drop, set, replicate, length-append, length-set, length-drop, length-replicate, drop-of-length-le}
+use lib.ListN.{length, getD, drop, set, replicate, length-append, length-set, length-drop, length-replicate, drop-of-length-le}
 use lib.Seq.{sets, drop-drop}
 use mir.Syntax.{w64}
 use mir.Val.{Fits}

@@ -8,7 +8,7 @@ use native.Mathlib.Decide.{decLe}
 use native.Mathlib.Numerals.{add-one}
 use native.Mathlib.Omega.{arith}
 use lib.Dec.{eqb, ltb}
-use lib.ListN.{length, take, drop, length-take, length-drop, drop-of-length-le}
+use lib.ListN.{length, take, drop, length-take, drop-of-length-le}
 use lib.Seq.{take-all, take-take, length-take-le, drop-drop}
 use borrow.Author.Tests.{eqb-true, lt-ltb, le-ltb, not-true}
 use Rattle.ascii.specs.Bytes.{between, isSpace}
