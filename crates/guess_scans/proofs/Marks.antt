@@ -177,6 +177,12 @@ module _ {blank : Kind} {line marks levels : List ℕ} {size room count : ℕ} {
         stands = rw from-there (stands-other _ q (k .stands) a b);
       }
 
+pub marking-space : {blank : Kind} {line marks levels : List ℕ} {size room count : ℕ} {ahead : Bool} {n : ℕ} → Marking blank line size room marks levels count ahead n → n < length line
+    → getD line (length line - 1 - n) 0 ≡ 0x20 → ofKind blank 0x20 ≡ true → Marking blank line size room marks levels count ahead (n + 1)
+marking-space {blank} {line} {marks} {levels} {size} {room} {count} {ahead} {n} k h e t =
+    let b : ℕ = getD line (length line - 1 - n) 0 in
+    marking-on k h (sym (ap (λ (x : Bool). cond x ahead (eqb b 0x3D)) (ap (ofKind blank) e ∙ t))) (λ f. omega arith) (λ f. omega arith)
+
 -- ---- marks of a part, and what they say
 
 marked-drop : (blank : Kind) (marks : List ℕ) (a : ℕ) (t : List ℕ) → Marked blank marks t → Marked blank marks (drop a t)

@@ -3,7 +3,7 @@
 use ascii::search;
 use ascii::search::Kind;
 ghost use mathlib.Core.Path.{_≡_};
-ghost use mathlib.Core.Bool.{cond};
+ghost use mathlib.Core.Bool.{true, cond};
 ghost use Prim.Native.Nat.{_-_, _*_, _^_, _≤_, _<_};
 ghost use lib.Dec.{eqb};
 ghost use lib.ListN.{length};
@@ -74,8 +74,9 @@ fn equals_ahead(b: u8, blank: Kind, behind: bool) -> bool
 }
 
 // Each ) adds a bit to `levels`: whether = follows. Each ( takes the last one away, which is that of the ) that ends its list.
+// A space is asked for first, since no byte is more frequent.
 pub fn mark_lists(line: &[u8], blank: Kind, marks: &mut [u8], levels: &mut [u8])
-    requires { ⌜ (length (now line) ≤ 8 * length (now marks)) × (length (now line) ≤ 8 * length (now levels)) ⌝ }
+    requires { ⌜ (length (now line) ≤ 8 * length (now marks)) × (length (now line) ≤ 8 * length (now levels)) × (ofKind blank 0x20 ≡ true) ⌝ }
     ensures { λ r. ⌜ MarksOf blank (now (line .entry)) (now (marks .exit)) ⌝ }
 {
     let mut count: usize = 0;
@@ -83,21 +84,25 @@ pub fn mark_lists(line: &[u8], blank: Kind, marks: &mut [u8], levels: &mut [u8])
     let mut n: usize = 0;
     while n < line.len() {
         let b = line[line.len() - 1 - n];
-        if b == 0x29 {
-            put_bit(levels, count, ahead);
-            count += 1;
-            ahead = equals_ahead(b, blank, ahead);
+        if b == 0x20 {
             n += 1;
         } else {
-            if b == 0x28 {
-                let follows = last_bit(levels, count);
-                put_bit(marks, n, follows);
-                count = one_less(count);
+            if b == 0x29 {
+                put_bit(levels, count, ahead);
+                count += 1;
                 ahead = equals_ahead(b, blank, ahead);
                 n += 1;
             } else {
-                ahead = equals_ahead(b, blank, ahead);
-                n += 1;
+                if b == 0x28 {
+                    let follows = last_bit(levels, count);
+                    put_bit(marks, n, follows);
+                    count = one_less(count);
+                    ahead = equals_ahead(b, blank, ahead);
+                    n += 1;
+                } else {
+                    ahead = equals_ahead(b, blank, ahead);
+                    n += 1;
+                }
             }
         }
     }

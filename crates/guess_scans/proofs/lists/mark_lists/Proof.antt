@@ -2,7 +2,7 @@
 -- Assumes nothing.
 use Prim.Native.Nat.{_-_}
 use lib.ListN.{length}
-use Rattle.guess_scans.proofs.Marks.{Marking, marking-start, marking-close, marking-open, marking-on, marking-end}
+use Rattle.guess_scans.proofs.Marks.{Marking, marking-start, marking-space, marking-close, marking-open, marking-on, marking-end}
 use Rattle.steps.proofs.The.{the}
 use borrow.Author.Needs.{needs}
 use Rattle.guess_scans.proofs.lists.mark_lists.Statement.{statement}
@@ -18,13 +18,16 @@ loop-holds : tie.Need-loop-holds Inv-loop μ-loop
 loop-holds c = search marking-start
 
 loop-again : tie.Need-loop-again Inv-loop μ-loop
-loop-again c = search marking-close
+loop-again c = search marking-space
 
 loop-again-2 : tie.Need-loop-again-2 Inv-loop μ-loop
-loop-again-2 c = search (marking-open, the (tie.At-loop Inv-loop μ-loop) (search) .loop .inv)
+loop-again-2 c = search marking-close
 
 loop-again-3 : tie.Need-loop-again-3 Inv-loop μ-loop
-loop-again-3 c = search (marking-on, the (tie.Else1 Inv-loop μ-loop) (search) .if1 .left, the (tie.Else2 Inv-loop μ-loop) (search) .if2 .left)
+loop-again-3 c = search (marking-open, the (tie.At-loop Inv-loop μ-loop) (search) .loop .inv)
+
+loop-again-4 : tie.Need-loop-again-4 Inv-loop μ-loop
+loop-again-4 c = search (marking-on, the (tie.Else2 Inv-loop μ-loop) (search) .if2 .left, the (tie.Else3 Inv-loop μ-loop) (search) .if3 .left)
 
 returns : tie.Need-returns Inv-loop μ-loop
 returns c = search marking-end
@@ -39,23 +42,26 @@ mark-lists-spec =
     (λ c. search needs)
     (λ c. search needs)
     (λ c. search needs)
-    (λ c κs. search needs)
-    (λ c. search needs)
-    (λ c κs. search needs)
     (λ c. search needs)
     (λ c. search needs)
     loop-again
     (λ c κs. search needs)
-    (λ c κs. search needs)
-    (λ c κs. search needs)
+    (λ c. search needs)
     (λ c κs. search needs)
     (λ c. search needs)
     (λ c. search needs)
     loop-again-2
     (λ c κs. search needs)
+    (λ c κs. search needs)
+    (λ c κs. search needs)
+    (λ c κs. search needs)
     (λ c. search needs)
     (λ c. search needs)
     loop-again-3
+    (λ c κs. search needs)
+    (λ c. search needs)
+    (λ c. search needs)
+    loop-again-4
     (λ c. search needs)
     (λ c. search needs)
     returns)

@@ -1,0 +1,20 @@
+-- `guess_scans::evidence::longest_evidence` meets its contract.
+-- Assumes nothing.
+use mathlib.Core.Path.{refl}
+use borrow.Author.Needs.{needs}
+use Rattle.guess_scans.proofs.evidence.longest_evidence.Statement.{statement}
+use Rattle.guess_scans.proofs.evidence.longest_evidence.Tie as tie
+
+mark-lists-requires : tie.Need-mark-lists-requires
+mark-lists-requires c κs = (search needs, search needs, refl)
+
+pub longest-evidence-spec : {M : Type 1} → statement M
+longest-evidence-spec =
+    tie.close
+    (tie.spec
+    (λ c. search needs)
+    (λ c. search needs)
+    mark-lists-requires
+    (λ c. search needs)
+    (λ c κs. search needs)
+    (λ c. search needs))
