@@ -22,7 +22,7 @@ use Rattle.listing.proofs.Joining.{SmallNumber, stretch-held, stretch-nearer, n
 -- something of a line is left, and the buffer is as long as it was
 pub record Writing (body first out : List ℕ) (place : Place) : Type 0 where
   pub kept : length out ≡ length first
-  pub large : 8 ≤ length out
+  pub large : 9 ≤ length out
   pub small : SmallNumber place
   pub more : 0 < placeLeft body place
 
@@ -30,7 +30,7 @@ number-left : (body : List ℕ) (n : ℕ) → 0 < placeLeft body (Number n)
 unfolding placeLeft
 number-left body n = omega arith
 
-pub writing-start : (body out : List ℕ) (n : ℕ) → Fits w16 n → 8 ≤ length out → Writing body out out (Number n)
+pub writing-start : (body out : List ℕ) (n : ℕ) → Fits w16 n → 9 ≤ length out → Writing body out out (Number n)
 writing-start body out n f e = record { kept = refl; large = e; small = omega (arith, f); more = number-left body n }
 
 -- the variants that a match has left behind `Over`

@@ -15,7 +15,7 @@ fn write_first(fd: i32, name: &[u8], buf: &[u8], count: usize) -> bool
     result::write(fd, name, &buf[0..count])
 }
 
-// Writes a line, one stretch after the other. Each brings the line nearer to its end, since a buffer of eight bytes holds every piece.
+// Writes a line, one stretch after the other. Each brings the line nearer to its end, since a buffer of nine bytes holds every piece.
 pub fn write_line(
     fd: i32,
     name: &[u8],
@@ -24,7 +24,7 @@ pub fn write_line(
     options: ListOptions,
     out: &mut [u8],
 ) -> bool
-    requires { ⌜ 8 ≤ length (now out) ⌝ }
+    requires { ⌜ 9 ≤ length (now out) ⌝ }
 {
     let mut place = Place::Number(number);
     loop {
@@ -42,7 +42,7 @@ pub fn write_line(
 
 // Writes the lines of an image that has a listing.
 pub fn write_lines(fd: i32, name: &[u8], image: &[u8], options: ListOptions, out: &mut [u8]) -> bool
-    requires { ⌜ 8 ≤ length (now out) ⌝ }
+    requires { ⌜ 9 ≤ length (now out) ⌝ }
 {
     let by = options.by;
     let mut offset: usize = 2;
