@@ -1,13 +1,14 @@
 //! Crunching under BASIC 3.5, and its words: a model of our own.
 //!
 //! Written from document 02, No. 5, document 01's rules of lines and modes, and the
-//! two machines' words in facts/. The original is asked what an escape gives, and
-//! nothing else.
+//! two machines' words in facts/; short forms are those of `forms`. The original is
+//! asked what an escape gives, and nothing else.
 
 use std::sync::LazyLock;
 
 use crate::dialects::Dialect;
 use crate::domain::{self, PI};
+use crate::forms;
 use crate::library;
 use crate::refusal::Refusal;
 
@@ -16,9 +17,9 @@ const REMARK: u8 = 0x8F;
 const DATA: u8 = 0x83;
 
 /// A word and its token.
-type Word = (u8, &'static str);
+type Word = (&'static str, u8);
 
-/// The words of BASIC V2, the operators among them.
+/// The words of BASIC V2 in document 01's order, the operators among them.
 static V2_WORDS: LazyLock<Vec<Word>> =
     LazyLock::new(|| words_of(include_str!("../../facts/rom-words.tsv")));
 
@@ -31,15 +32,15 @@ fn words_of(rows: &'static str) -> Vec<Word> {
     rows.map(|row| {
         let (token, word) = row.split_once('\t').expect("a row is a token and a word");
         let token = u8::from_str_radix(token, 16).expect("a token is two digits");
-        (token, word)
+        (word, token)
     })
     .collect()
 }
 
 /// The word of a token of BASIC 3.5.
 pub fn word(token: u8) -> Option<&'static str> {
-    let found = WORDS.iter().find(|(own, _)| *own == token);
-    found.map(|&(_, word)| word)
+    let found = WORDS.iter().find(|(_, own)| *own == token);
+    found.map(|&(word, _)| word)
 }
 
 #[derive(Clone, Copy)]
@@ -51,7 +52,7 @@ enum Mode {
     QuotedData,
 }
 
-pub fn crunch(load: u16, text: &[u8]) -> Result<Vec<u8>, Refusal> {
+pub fn crunch(load: u16, forms: bool, text: &[u8]) -> Result<Vec<u8>, Refusal> {
     let text = domain::text(text)?
         .replace("\r\n", "\n")
         .replace('\r', "\n");
@@ -63,7 +64,7 @@ pub fn crunch(load: u16, text: &[u8]) -> Result<Vec<u8>, Refusal> {
         }
         let behind = text.trim_start_matches(|letter: char| letter.is_ascii_digit());
         let number = line_number(line, &text[..text.len() - behind.len()])?;
-        let body = body(behind.trim_start_matches(' ').as_bytes())?;
+        let body = body(forms, behind.trim_start_matches(' ').as_bytes())?;
         let link = usize::from(load) + image.len() - 2 + body.len() + 5;
         let link = u16::try_from(link).map_err(|_| Refusal::AddressOverflow)?;
         image.extend(link.to_le_bytes());
@@ -86,12 +87,12 @@ fn line_number(text_line: u64, digits: &str) -> Result<u16, Refusal> {
     })
 }
 
-fn body(text: &[u8]) -> Result<Vec<u8>, Refusal> {
+fn body(forms: bool, text: &[u8]) -> Result<Vec<u8>, Refusal> {
     let mut body = Vec::new();
     let mut mode = Mode::Plain;
     let mut at = 0;
     while at < text.len() {
-        let (used, bytes, next) = step(mode, &text[at..])?;
+        let (used, bytes, next) = step(forms, mode, &text[at..])?;
         body.extend(bytes);
         mode = next;
         at += used;
@@ -100,13 +101,13 @@ fn body(text: &[u8]) -> Result<Vec<u8>, Refusal> {
 }
 
 /// How many bytes of the text are taken, what they give, and the mode behind them.
-fn step(mode: Mode, text: &[u8]) -> Result<(usize, Vec<u8>, Mode), Refusal> {
+fn step(forms: bool, mode: Mode, text: &[u8]) -> Result<(usize, Vec<u8>, Mode), Refusal> {
     let byte = text[0];
     let raised = byte.to_ascii_uppercase();
     let one = |byte, mode| Ok((1, vec![byte], mode));
     match (mode, byte) {
         (Mode::Plain, QUOTE) => one(QUOTE, Mode::Text),
-        (Mode::Plain, _) => Ok(plain_step(text)),
+        (Mode::Plain, _) => Ok(plain_step(forms, text)),
         (Mode::Text, b'{') => match escape(&text[1..])? {
             Some((used, bytes)) => Ok((used, bytes, Mode::Text)),
             None => one(byte, Mode::Text),
@@ -123,19 +124,15 @@ fn step(mode: Mode, text: &[u8]) -> Result<(usize, Vec<u8>, Mode), Refusal> {
     }
 }
 
-fn plain_step(text: &[u8]) -> (usize, Vec<u8>, Mode) {
-    let matches = |&&(_, word): &&Word| {
-        let front = text.get(..word.len());
-        front.is_some_and(|front| front.eq_ignore_ascii_case(word.as_bytes()))
-    };
-    let words = V2_WORDS.iter().chain(WORDS.iter()).filter(matches);
-    if let Some(&(token, word)) = words.max_by_key(|(_, word)| word.len()) {
+fn plain_step(forms: bool, text: &[u8]) -> (usize, Vec<u8>, Mode) {
+    let short_form = || forms::short_form(&V2_WORDS, text).filter(|_| forms);
+    if let Some((used, token)) = longest_word(text).or_else(short_form) {
         let mode = match token {
             REMARK => Mode::Remark,
             DATA => Mode::Data,
             _ => Mode::Plain,
         };
-        return (word.len(), vec![token], mode);
+        return (used, vec![token], mode);
     }
     match text {
         text if text.starts_with(&PI) => (PI.len(), vec![0xFF], Mode::Plain),
@@ -143,6 +140,17 @@ fn plain_step(text: &[u8]) -> (usize, Vec<u8>, Mode) {
         [byte, ..] => (1, vec![byte.to_ascii_uppercase()], Mode::Plain),
         [] => (0, vec![], Mode::Plain),
     }
+}
+
+/// The length and the token of the longest word of both lists at the text's front.
+fn longest_word(text: &[u8]) -> Option<(usize, u8)> {
+    let matches = |&&(word, _): &&Word| {
+        let front = text.get(..word.len());
+        front.is_some_and(|front| front.eq_ignore_ascii_case(word.as_bytes()))
+    };
+    let words = V2_WORDS.iter().chain(WORDS.iter()).filter(matches);
+    let longest = words.max_by_key(|(word, _)| word.len());
+    longest.map(|&(word, token)| (word.len(), token))
 }
 
 /// What a brace and the text behind it give, if that is a known escape: how many

@@ -4,6 +4,7 @@ use crate::counted;
 use crate::dialects::Dialect;
 use crate::fields::Fields;
 use crate::frames::Request;
+use crate::library::CrunchOptions;
 use crate::modes::ListOptions;
 
 /// The largest room that a call can be lent.
@@ -20,6 +21,8 @@ pub const CHECK_BY_LINKS: u8 = 0x08;
 pub const STEP_BY_LINKS: u8 = 0x09;
 pub const LISTING: u8 = 0x0A;
 pub const LISTING_ROOM: u8 = 0x0B;
+pub const CRUNCH_WITH: u8 = 0x10;
+pub const CRUNCH_ROOM_WITH: u8 = 0x11;
 pub const LINE_BY_NUMBER: u8 = 0x12;
 pub const DEFAULT_LOAD: u8 = 0x13;
 pub const DIALECT_LISTING: u8 = 0x14;
@@ -44,7 +47,7 @@ pub const LINKED_LISTING_ROOM: u8 = 0x31;
 
 /// Whether the original, or a model of our own, can answer an op.
 pub fn is_known(op: u8) -> bool {
-    matches!(op, CRUNCH..=LISTING_ROOM | LINE_BY_NUMBER | DEFAULT_LOAD)
+    matches!(op, CRUNCH..=LISTING_ROOM | CRUNCH_WITH..=DEFAULT_LOAD)
         || matches!(op, ADDRESSED_STEP_BY_TERMINATORS..=JUMP_REPORT)
         || is_under_options(op)
         || is_of_disks(op)
@@ -52,7 +55,12 @@ pub fn is_known(op: u8) -> bool {
 
 /// Whether an op's payload ends with a text.
 pub fn is_of_texts(op: u8) -> bool {
-    matches!(op, CRUNCH..=RESOLVED_DIALECT | MEASURED_LINE)
+    matches!(op, CRUNCH..=RESOLVED_DIALECT) || is_with_options(op)
+}
+
+/// Whether an op crunches as a byte of options asks for it.
+pub fn is_with_options(op: u8) -> bool {
+    matches!(op, CRUNCH_WITH | CRUNCH_ROOM_WITH | MEASURED_LINE)
 }
 
 /// Whether an op lists as options ask for it.
@@ -135,10 +143,17 @@ pub enum Call<'a> {
         options: ListOptions,
         image: &'a [u8],
     },
-    /// Options are no part of it: no request that gives one has landed.
+    CrunchWith {
+        options: CrunchOptions,
+        room: usize,
+        text: &'a [u8],
+    },
+    CrunchRoomWith {
+        options: CrunchOptions,
+        text: &'a [u8],
+    },
     MeasuredLine {
-        load: u16,
-        dialect: Dialect,
+        options: CrunchOptions,
         place: u64,
         text: &'a [u8],
     },
@@ -245,16 +260,20 @@ impl<'a> Call<'a> {
                     image: fields.rest(),
                 }
             }
-            MEASURED_LINE => {
-                let (load, dialect) = (fields.address()?, fields.dialect()?);
-                fields.options()?;
-                Call::MeasuredLine {
-                    load,
-                    dialect,
-                    place: fields.number()?,
-                    text: fields.rest(),
-                }
-            }
+            CRUNCH_WITH => Call::CrunchWith {
+                options: fields.crunch_options()?,
+                room: fields.room()?,
+                text: fields.rest(),
+            },
+            CRUNCH_ROOM_WITH => Call::CrunchRoomWith {
+                options: fields.crunch_options()?,
+                text: fields.rest(),
+            },
+            MEASURED_LINE => Call::MeasuredLine {
+                options: fields.crunch_options()?,
+                place: fields.number()?,
+                text: fields.rest(),
+            },
             COUNT_IMAGES => {
                 let count = fields.count()?;
                 let images = fields.rest();
@@ -363,14 +382,23 @@ impl<'a> Call<'a> {
             Call::DefaultLoad { dialect, rest } => {
                 (DEFAULT_LOAD, vec![dialect_byte(dialect)], rest)
             }
-            Call::MeasuredLine {
-                load,
-                dialect,
-                place: at,
+            Call::CrunchWith {
+                options,
+                room,
                 text,
             } => {
-                let options = vec![0];
-                let fixed = [place(load, dialect), options, at.to_le_bytes().to_vec()];
+                let fixed = [crunch_options(options), length_field(room)];
+                (CRUNCH_WITH, fixed.concat(), text)
+            }
+            Call::CrunchRoomWith { options, text } => {
+                (CRUNCH_ROOM_WITH, crunch_options(options), text)
+            }
+            Call::MeasuredLine {
+                options,
+                place,
+                text,
+            } => {
+                let fixed = [crunch_options(options), place.to_le_bytes().to_vec()];
                 (MEASURED_LINE, fixed.concat(), text)
             }
             Call::CountImages { count, images } => {
@@ -420,6 +448,8 @@ pub fn fixed_part(op: u8) -> usize {
         DIALECT_LISTING_ROOM | SECOND_LISTING_ROOM => 1,
         LINKED_LISTING => 1 + 1 + 4,
         LINKED_LISTING_ROOM => 1 + 1,
+        CRUNCH_WITH => 2 + 1 + 1 + 4,
+        CRUNCH_ROOM_WITH => 2 + 1 + 1,
         MEASURED_LINE => 2 + 1 + 1 + 8,
         COUNT_IMAGES => 4,
         LINE_INDEX | JUMP_REPORT => 4,
@@ -466,6 +496,11 @@ fn addressed_op(by: Reader) -> u8 {
 fn place(load: u16, dialect: Dialect) -> Vec<u8> {
     let [low, high] = load.to_le_bytes();
     vec![low, high, dialect_byte(dialect)]
+}
+
+fn crunch_options(options: CrunchOptions) -> Vec<u8> {
+    let bits = u8::from(options.forms) << 1;
+    [place(options.load, options.dialect), vec![bits]].concat()
 }
 
 /// By terminators the op names the mode, and by links it is a field.

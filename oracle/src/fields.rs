@@ -2,6 +2,7 @@
 
 use crate::calls::{self, Call, ROOM_LIMIT, Reader};
 use crate::dialects::Dialect;
+use crate::library::CrunchOptions;
 use crate::modes::ListOptions;
 
 /// The part of a payload that is not decoded yet.
@@ -39,9 +40,20 @@ impl<'a> Fields<'a> {
         }
     }
 
-    /// The byte of options: no bit of it has landed.
-    pub fn options(&mut self) -> Option<()> {
-        (self.take()? == [0]).then_some(())
+    /// Load address, dialect and the byte of options: bit 1 asks for short forms, no
+    /// other bit has landed.
+    pub fn crunch_options(&mut self) -> Option<CrunchOptions> {
+        let (load, dialect) = (self.address()?, self.dialect()?);
+        let forms = match self.take()? {
+            [0] => false,
+            [2] => true,
+            _ => return None,
+        };
+        Some(CrunchOptions {
+            load,
+            dialect,
+            forms,
+        })
     }
 
     /// The dialect of a listing and, for one by links, its mode.

@@ -106,12 +106,19 @@ fn answer_call(call: &Call) -> Vec<u8> {
         Call::ListingRoomUnder { options, image } => {
             plain(modes::listing(options, image).map(|listing| length(listing.as_bytes())))
         }
+        Call::CrunchWith {
+            options,
+            room,
+            text,
+        } => lent(library::crunch_with(options, text), room),
+        Call::CrunchRoomWith { options, text } => {
+            plain(library::crunch_with(options, text).map(|image| length(&image)))
+        }
         Call::MeasuredLine {
-            load,
-            dialect,
+            options,
             place,
             text,
-        } => plain(measured::line(load, dialect, place, text).map(measured_line)),
+        } => plain(measured::line(options, place, text).map(measured_line)),
         Call::CountImages { images, .. } => counted_images(&counted::totals(images)),
         Call::LineIndex { room, image } => lent(indexes::index(image), room),
         Call::LookUp { number, index } => plain(Ok(held(indexes::look_up(number, index)))),

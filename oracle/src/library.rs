@@ -5,10 +5,11 @@ use crate::calls::Reader;
 use crate::corrections;
 use crate::dialects::Dialect;
 use crate::domain;
+use crate::formed;
 use crate::links;
 use crate::prg::Program;
 use crate::refusal::Refusal;
-use crate::source::{self, TokenizeError};
+use crate::source;
 use crate::tokens;
 
 /// What checking a whole image answers.
@@ -25,20 +26,44 @@ pub struct Step {
     pub body: Vec<u8>,
 }
 
+/// What a text is crunched with.
+#[derive(Debug, Clone, Copy)]
+pub struct CrunchOptions {
+    pub load: u16,
+    pub dialect: Dialect,
+    /// Short forms of words are taken.
+    pub forms: bool,
+}
+
 pub fn crunch(load: u16, dialect: Dialect, text: &[u8]) -> Result<Vec<u8>, Refusal> {
-    let Some(dialect) = dialect.original() else {
-        return basic35::crunch(load, text);
+    let options = CrunchOptions {
+        load,
+        dialect,
+        forms: false,
+    };
+    crunch_with(options, text)
+}
+
+pub fn crunch_with(options: CrunchOptions, text: &[u8]) -> Result<Vec<u8>, Refusal> {
+    let CrunchOptions { load, forms, .. } = options;
+    let Some(dialect) = options.dialect.original() else {
+        return basic35::crunch(load, forms, text);
     };
     let text = domain::text(text)?;
-    let crunched = |text: &str| source::tokenize_program_at_with(text, load, dialect);
+    let crunched = |text: &str| -> Result<Vec<u8>, Refusal> {
+        Ok(match forms {
+            true => formed::tokenize_program_at_with(text, load, dialect)?,
+            false => source::tokenize_program_at_with(text, load, dialect)?,
+        })
+    };
     if let Some(cut) = domain::with_counts_cut(text)
-        && let Err(TokenizeError::AddressOverflow) = crunched(&cut)
+        && let Err(Refusal::AddressOverflow) = crunched(&cut)
     {
         return Err(Refusal::AddressOverflow);
     }
     let image = crunched(text)?;
     match corrections::with_clear(text, &image, |text| crunched(text).ok()) {
-        Some(corrected) => Ok(crunched(&corrected)?),
+        Some(corrected) => crunched(&corrected),
         None => Ok(image),
     }
 }

@@ -7,7 +7,8 @@ use std::path::Path;
 use std::process::ExitCode;
 use std::str::FromStr;
 
-// The modules petscii, prg, source and tokens of the original, unchanged.
+// The modules petscii, prg, source and tokens of the original, unchanged; and formed,
+// its source.rs with short forms of words set in.
 include!(concat!(env!("OUT_DIR"), "/original.rs"));
 
 mod addressed;
@@ -21,6 +22,7 @@ mod disk;
 mod domain;
 mod endings;
 mod fields;
+mod forms;
 mod found;
 mod frames;
 mod generate;

@@ -3,9 +3,8 @@
 //! The original gives the image. Which text line each of its lines comes from, and
 //! where it will stand, was written from document 02, No. 8.
 
-use crate::dialects::Dialect;
 use crate::domain;
-use crate::library;
+use crate::library::{self, CrunchOptions};
 use crate::refusal::Refusal;
 
 /// A line as the measuring pass knows it.
@@ -19,14 +18,13 @@ pub struct MeasuredLine {
     pub text_line: u64,
 }
 
-/// The line at a place, from 1, of the image that the text has at the load address.
+/// The line at a place, from 1, of the image that the text has.
 pub fn line(
-    load: u16,
-    dialect: Dialect,
+    options: CrunchOptions,
     place: u64,
     text: &[u8],
 ) -> Result<Option<MeasuredLine>, Refusal> {
-    let image = library::crunch(load, dialect, text)?;
+    let image = library::crunch_with(options, text)?;
     let text = domain::text(text).expect("a text that was crunched is within the domain");
     let mut lines = lines(&image, &nonblank_lines(text));
     let place = usize::try_from(place).unwrap_or(usize::MAX);

@@ -2,7 +2,7 @@
 //! the requests of document 02.
 
 use crate::prg::ParseError;
-use crate::source::TokenizeError;
+use crate::{formed, source};
 
 /// Why a call gives no result, with the values that the refusal carries.
 #[derive(Debug, Clone, Copy, PartialEq, Eq)]
@@ -119,22 +119,32 @@ fn numbered(number: u8, values: &[u64]) -> Vec<u8> {
     bytes
 }
 
-impl From<TokenizeError> for Refusal {
-    fn from(error: TokenizeError) -> Refusal {
-        match error {
-            TokenizeError::MissingLineNumber(text_line) => Refusal::MissingLineNumber {
-                text_line: text_line as u64,
-            },
-            TokenizeError::LineNumberOutOfRange(text_line, value) => {
-                Refusal::LineNumberOutOfRange {
-                    text_line: text_line as u64,
-                    value: value.into(),
+/// The errors of a module that crunches.
+macro_rules! from_errors_of {
+    ($module:ident) => {
+        impl From<$module::TokenizeError> for Refusal {
+            fn from(error: $module::TokenizeError) -> Refusal {
+                match error {
+                    $module::TokenizeError::MissingLineNumber(text_line) => {
+                        Refusal::MissingLineNumber {
+                            text_line: text_line as u64,
+                        }
+                    }
+                    $module::TokenizeError::LineNumberOutOfRange(text_line, value) => {
+                        Refusal::LineNumberOutOfRange {
+                            text_line: text_line as u64,
+                            value: value.into(),
+                        }
+                    }
+                    $module::TokenizeError::AddressOverflow => Refusal::AddressOverflow,
                 }
             }
-            TokenizeError::AddressOverflow => Refusal::AddressOverflow,
         }
-    }
+    };
 }
+
+from_errors_of!(source);
+from_errors_of!(formed);
 
 impl From<ParseError> for Refusal {
     fn from(error: ParseError) -> Refusal {

@@ -68,15 +68,19 @@ fn of_call(call: &Call) -> String {
         Call::ListingRoomUnder { options, image } => {
             format!("room for the listing, {options:?}: {}", hex(image))
         }
+        Call::CrunchWith {
+            options,
+            room,
+            text,
+        } => format!("crunch, {options:?}, room {room}: {}", quoted(text)),
+        Call::CrunchRoomWith { options, text } => {
+            format!("room for crunching, {options:?}: {}", quoted(text))
+        }
         Call::MeasuredLine {
-            load,
-            dialect,
+            options,
             place,
             text,
-        } => format!(
-            "measured line {place} at {load:04X} under {dialect:?}: {}",
-            quoted(text)
-        ),
+        } => format!("measured line {place}, {options:?}: {}", quoted(text)),
         Call::CountImages { count, images } => {
             format!("counts over {count} images: {}", hex(images))
         }
@@ -119,6 +123,7 @@ pub fn answer(op: u8, body: &[u8]) -> String {
 
 fn of_results(op: u8, results: &[u8]) -> String {
     let shown = match op {
+        calls::CRUNCH_WITH => of_lent(op, results),
         calls::CRUNCH | calls::LISTING | calls::LINE_INDEX | calls::JUMP_REPORT => {
             of_lent(op, results)
         }
@@ -126,6 +131,7 @@ fn of_results(op: u8, results: &[u8]) -> String {
             of_lent(op, results)
         }
         calls::DEFAULT_LOAD => named(&["load address"], results),
+        calls::CRUNCH_ROOM_WITH => named(&["length"], results),
         calls::CRUNCH_ROOM | calls::LISTING_ROOM => named(&["length"], results),
         calls::DIALECT_LISTING_ROOM => named(&["length"], results),
         calls::SECOND_LISTING_ROOM | calls::LINKED_LISTING_ROOM => named(&["length"], results),

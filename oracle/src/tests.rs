@@ -4,6 +4,7 @@
 mod basic35;
 mod counts;
 mod disk;
+mod forms;
 mod indexes;
 mod lines;
 mod modes;

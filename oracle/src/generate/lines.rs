@@ -6,6 +6,7 @@ use super::requests::C64_LOAD;
 use crate::calls::{self, Call, Reader};
 use crate::dialects::Dialect;
 use crate::frames::Request;
+use crate::library::CrunchOptions;
 
 /// Texts whose lines do not stand where they seem to: blank lines of every kind,
 /// every line end, and none at the end.
@@ -93,9 +94,13 @@ fn measured_lines() -> Vec<Request> {
     for text in TEXTS {
         for load in LOADS {
             for place in [0, 1, 2, 3, 4, 5] {
-                let call = Call::MeasuredLine {
+                let options = CrunchOptions {
                     load,
                     dialect: Dialect::Auto,
+                    forms: false,
+                };
+                let call = Call::MeasuredLine {
+                    options,
                     place,
                     text,
                 };

@@ -28,7 +28,7 @@ pub fn listed(op: u8) -> Vec<Request> {
     if let Some(place) = dialect_place(op) {
         payloads.extend(UNKNOWN_DIALECTS.map(|byte| with_field(fixed, place, &[byte])));
     }
-    if op == calls::MEASURED_LINE {
+    if calls::is_with_options(op) {
         payloads.extend(UNKNOWN_OPTIONS.map(|byte| with_field(fixed, 3, &[byte])));
     }
     if matches!(op, calls::LINKED_LISTING | calls::LINKED_LISTING_ROOM) {
@@ -64,8 +64,9 @@ pub fn any(op: u8, random: &mut Random) -> Request {
 /// Where an op's payload has its dialect, if it has one.
 fn dialect_place(op: u8) -> Option<usize> {
     match op {
-        calls::CRUNCH | calls::CRUNCH_ROOM | calls::MEASURED_LINE => Some(2),
+        calls::CRUNCH | calls::CRUNCH_ROOM => Some(2),
         calls::RESOLVED_DIALECT | calls::DEFAULT_LOAD => Some(0),
+        _ if calls::is_with_options(op) => Some(2),
         _ if calls::is_under_options(op) => Some(0),
         _ => None,
     }
@@ -75,6 +76,7 @@ fn dialect_place(op: u8) -> Option<usize> {
 fn room_place(op: u8) -> Option<usize> {
     match op {
         calls::CRUNCH => Some(3),
+        calls::CRUNCH_WITH => Some(4),
         calls::LISTING | calls::READ_FILE => Some(0),
         calls::DIALECT_LISTING | calls::SECOND_LISTING => Some(1),
         calls::LINKED_LISTING => Some(2),

@@ -13,6 +13,7 @@ pub mod disk_damage;
 pub mod disks;
 mod escapes;
 mod examples;
+mod forms;
 mod guesses;
 mod images;
 mod large;
@@ -131,6 +132,10 @@ fn enumerated(op: u8, random: &mut Random) -> Vec<Request> {
         calls::TSB_WORD => requests::of_words(op, &names::listed_words(random)),
         calls::COUNT_IMAGES => archives::enumerated(&images::listed()),
         calls::FORMAT_DISK..=calls::CHECK_DISK | calls::DEFAULT_LOAD => Vec::new(),
+        _ if calls::is_with_options(op) => {
+            let texts = [forms::listed(), texts::listed()].concat();
+            requests::of_texts(op, &texts, random)
+        }
         _ if calls::is_of_texts(op) => requests::of_texts(op, &texts::listed(), random),
         _ if calls::is_under_options(op) => {
             let images = [remarks::listed(), images::listed()].concat();
@@ -148,7 +153,10 @@ fn any(op: u8, random: &mut Random) -> Request {
         calls::FORMAT_DISK..=calls::CHECK_DISK => disk_calls::any(op, random),
         calls::DEFAULT_LOAD => requests::any_default_load(random),
         _ if calls::is_of_texts(op) => {
-            let case = texts::any(random);
+            let case = match calls::is_with_options(op) && random.one_in(2) {
+                true => forms::any(random),
+                false => texts::any(random),
+            };
             requests::of_text(op, &case, random)
         }
         _ => {

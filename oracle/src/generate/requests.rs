@@ -4,7 +4,7 @@ use crate::calls::{self, Call, ROOM_LIMIT, Reader};
 use crate::dialects::{DIALECTS, Dialect};
 use crate::frames::Request;
 use crate::indexes;
-use crate::library;
+use crate::library::{self, CrunchOptions};
 use crate::modes::{self, ListOptions};
 use crate::random::Random;
 
@@ -22,6 +22,7 @@ const HUGE: [u64; 6] = [
 ];
 
 /// A text, and how it is to be crunched.
+#[derive(Clone)]
 pub struct TextCase {
     pub load: u16,
     pub dialect: Dialect,
@@ -71,15 +72,36 @@ pub fn of_text(op: u8, case: &TextCase, random: &mut Random) -> Request {
             text,
         },
         calls::RESOLVED_DIALECT => Call::ResolvedDialect { dialect, text },
+        calls::CRUNCH_WITH => {
+            let options = crunch_options(case, random);
+            let image = library::crunch_with(options, text);
+            Call::CrunchWith {
+                options,
+                room: room(image.ok().map(|image| image.len()), random),
+                text,
+            }
+        }
+        calls::CRUNCH_ROOM_WITH => Call::CrunchRoomWith {
+            options: crunch_options(case, random),
+            text,
+        },
         calls::MEASURED_LINE => Call::MeasuredLine {
-            load,
-            dialect,
+            options: crunch_options(case, random),
             place: line_place(text, random),
             text,
         },
         _ => unreachable!("op {op:02X} takes no text"),
     };
     call.encode()
+}
+
+/// A case with every combination of options, those with short forms more often.
+fn crunch_options(case: &TextCase, random: &mut Random) -> CrunchOptions {
+    CrunchOptions {
+        load: case.load,
+        dialect: case.dialect,
+        forms: !random.one_in(4),
+    }
 }
 
 pub fn of_texts(op: u8, cases: &[TextCase], random: &mut Random) -> Vec<Request> {

@@ -6,14 +6,14 @@ use crate::tables::{TSB_WORDS, V2_WORDS};
 
 /// Every word, those of TSB first.
 pub fn all() -> impl Iterator<Item = &'static str> {
-    let own = basic35::WORDS.iter().map(|&(_, word)| word);
+    let own = basic35::WORDS.iter().map(|&(word, _)| word);
     TSB_WORDS.iter().chain(V2_WORDS.iter()).copied().chain(own)
 }
 
 /// Any word of a list, as often from the original's one as from the other.
 pub fn any(random: &mut Random) -> &'static str {
     match random.below(5) {
-        0 => random.pick(&basic35::WORDS).1,
+        0 => random.pick(&basic35::WORDS).0,
         1 | 2 => random.pick(&TSB_WORDS),
         _ => random.pick(&V2_WORDS),
     }

@@ -4,7 +4,7 @@ use crate::addressed;
 use crate::calls::Reader::{self, Links, Terminators};
 use crate::dialects::Dialect;
 use crate::found;
-use crate::library;
+use crate::library::{self, CrunchOptions};
 use crate::measured::{self, MeasuredLine};
 use crate::refusal::Refusal;
 
@@ -22,7 +22,15 @@ fn address(by: Reader, offset: u64, image: &[u8]) -> Option<u64> {
 }
 
 fn measured(load: u16, place: u64, text: &str) -> Option<MeasuredLine> {
-    measured::line(load, Dialect::Auto, place, text.as_bytes()).unwrap()
+    measured::line(under_auto(load), place, text.as_bytes()).unwrap()
+}
+
+fn under_auto(load: u16) -> CrunchOptions {
+    CrunchOptions {
+        load,
+        dialect: Dialect::Auto,
+        forms: false,
+    }
 }
 
 #[test]
@@ -97,7 +105,7 @@ fn measured_lines() {
     // Below 0100 links have the high byte 0, and the lines are lines all the same.
     let second = measured(0, 2, "1\n2").unwrap();
     assert_eq!((second.address, second.link, second.number), (5, 10, 2));
-    let refused = measured::line(0x0801, Dialect::Auto, 1, b"10A\nX");
+    let refused = measured::line(under_auto(0x0801), 1, b"10A\nX");
     assert_eq!(refused, Err(Refusal::MissingLineNumber { text_line: 2 }));
 }
 
@@ -109,7 +117,7 @@ fn measured_lines_read_back() {
     let mut at = 2;
     for place in 1..=3 {
         let (address, line) = addressed::step(Links, at, &image).unwrap().unwrap();
-        let measured = measured::line(0x0801, Dialect::Auto, place, text)
+        let measured = measured::line(under_auto(0x0801), place, text)
             .unwrap()
             .unwrap();
         assert_eq!(measured.address, address);
