@@ -44,10 +44,11 @@ pub const SCRATCH_FILE: u8 = 0x23;
 pub const CHECK_DISK: u8 = 0x24;
 pub const LINKED_LISTING: u8 = 0x30;
 pub const LINKED_LISTING_ROOM: u8 = 0x31;
+pub const RELINK: u8 = 0x34;
 
 /// Whether the original, or a model of our own, can answer an op.
 pub fn is_known(op: u8) -> bool {
-    matches!(op, CRUNCH..=LISTING_ROOM | CRUNCH_WITH..=DEFAULT_LOAD)
+    matches!(op, CRUNCH..=LISTING_ROOM | CRUNCH_WITH..=DEFAULT_LOAD | RELINK)
         || matches!(op, ADDRESSED_STEP_BY_TERMINATORS..=JUMP_REPORT)
         || is_under_options(op)
         || is_of_disks(op)
@@ -199,6 +200,9 @@ pub enum Call<'a> {
     CheckDisk {
         disk: &'a [u8],
     },
+    Relink {
+        image: &'a [u8],
+    },
 }
 
 impl<'a> Call<'a> {
@@ -317,6 +321,9 @@ impl<'a> Call<'a> {
             CHECK_DISK => Call::CheckDisk {
                 disk: fields.rest(),
             },
+            RELINK => Call::Relink {
+                image: fields.rest(),
+            },
             _ => return None,
         })
     }
@@ -424,6 +431,7 @@ impl<'a> Call<'a> {
             ),
             Call::ScratchFile { name, disk } => (SCRATCH_FILE, name_field(name), disk),
             Call::CheckDisk { disk } => (CHECK_DISK, vec![], disk),
+            Call::Relink { image } => (RELINK, vec![], image),
         };
         Request {
             op,
@@ -499,7 +507,7 @@ fn place(load: u16, dialect: Dialect) -> Vec<u8> {
 }
 
 fn crunch_options(options: CrunchOptions) -> Vec<u8> {
-    let bits = u8::from(options.forms) << 1;
+    let bits = u8::from(options.profile) | u8::from(options.forms) << 1;
     [place(options.load, options.dialect), vec![bits]].concat()
 }
 

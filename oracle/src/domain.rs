@@ -54,26 +54,32 @@ pub fn dialect_name(word: &[u8]) -> Result<&str, Refusal> {
 }
 
 /// The text with every count after a `*` that is above 65,536, and fits 64 bits,
-/// replaced by 65536; nothing if it holds no such count.
+/// replaced by 65536 in as many digits; nothing if it holds no such count.
 ///
 /// The original pushes a repeated byte as often as its count says, which for
 /// large counts is more than any memory holds. The replaced text stands in for
 /// the given one in a single question: is it refused by AddressOverflow? No line
 /// is longer in the replaced text than in the given one, for a replaced count
-/// had five digits or more, and the two agree in line numbers, in which escapes
+/// keeps its digits' number, and the two agree in line numbers, in which escapes
 /// are known, and in the dialect guess. So the given text is refused too if the
 /// replaced one is. If it is not, no large count took effect before the answer
 /// was clear, and the original can be given the text as it stands. Counts up to
 /// 65,536 are written out by the original: the generator keeps them few.
 pub fn with_counts_cut(text: &str) -> Option<String> {
+    with_counts_above(text, COUNT_BEYOND_ANY_LINE)
+}
+
+/// The text with every count after a `*` that is above a limit, and fits 64 bits,
+/// replaced by the limit in as many digits; nothing if it holds no such count.
+pub fn with_counts_above(text: &str, limit: u64) -> Option<String> {
     let mut cut = String::new();
     let mut copied = 0;
     for (star, _) in text.match_indices('*') {
         let digits = count_after(text, star + 1);
         let count = text[digits.clone()].parse::<u64>();
-        if count.is_ok_and(|count| count > COUNT_BEYOND_ANY_LINE) {
+        if count.is_ok_and(|count| count > limit) {
             cut += &text[copied..digits.start];
-            cut += &COUNT_BEYOND_ANY_LINE.to_string();
+            cut += &format!("{limit:0width$}", width = digits.len());
             copied = digits.end;
         }
     }

@@ -40,19 +40,16 @@ impl<'a> Fields<'a> {
         }
     }
 
-    /// Load address, dialect and the byte of options: bit 1 asks for short forms, no
-    /// other bit has landed.
+    /// Load address, dialect and the byte of options: bit 0 asks for the machine profile,
+    /// bit 1 for short forms, and no other bit has landed.
     pub fn crunch_options(&mut self) -> Option<CrunchOptions> {
         let (load, dialect) = (self.address()?, self.dialect()?);
-        let forms = match self.take()? {
-            [0] => false,
-            [2] => true,
-            _ => return None,
-        };
-        Some(CrunchOptions {
+        let [bits] = self.take()?;
+        (bits <= 3).then_some(CrunchOptions {
             load,
             dialect,
-            forms,
+            forms: bits & 2 != 0,
+            profile: bits & 1 != 0,
         })
     }
 

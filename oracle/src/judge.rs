@@ -14,6 +14,7 @@ use crate::library::{self, Checked, Step};
 use crate::measured::{self, MeasuredLine};
 use crate::modes;
 use crate::refusal::Refusal;
+use crate::relinked::{self, Relinked};
 use crate::show;
 
 /// The whole answer to a malformed request.
@@ -132,6 +133,7 @@ fn answer_call(call: &Call) -> Vec<u8> {
         Call::ReadFile { room, name, disk } => [&lent(disk::read(disk, name), room), disk].concat(),
         Call::ScratchFile { name, disk } => changed(disk, disk::scratch(disk, name)),
         Call::CheckDisk { disk } => [&plain(disk::check(disk).map(checked_disk)), disk].concat(),
+        Call::Relink { image } => plain(relinked::relink(image).map(relinking)),
     }
 }
 
@@ -219,6 +221,15 @@ fn measured_line(found: Option<MeasuredLine>) -> Vec<u8> {
         line.text_line,
     ];
     [vec![1], fields(&numbers)].concat()
+}
+
+fn relinking(found: Relinked) -> Vec<u8> {
+    match found {
+        Relinked::Same => vec![0],
+        Relinked::Changed { offset, link } => [vec![1], fields(&[offset, link])].concat(),
+        Relinked::Leaves => vec![2],
+        Relinked::Endless => vec![3],
+    }
 }
 
 /// The totals stand behind 26 too.

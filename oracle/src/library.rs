@@ -8,6 +8,7 @@ use crate::domain;
 use crate::formed;
 use crate::links;
 use crate::prg::Program;
+use crate::profile;
 use crate::refusal::Refusal;
 use crate::source;
 use crate::tokens;
@@ -33,19 +34,31 @@ pub struct CrunchOptions {
     pub dialect: Dialect,
     /// Short forms of words are taken.
     pub forms: bool,
+    /// Only what the machine can be given is taken.
+    pub profile: bool,
+}
+
+impl CrunchOptions {
+    /// With nothing that has to be asked for.
+    pub fn none(load: u16, dialect: Dialect) -> CrunchOptions {
+        CrunchOptions {
+            load,
+            dialect,
+            forms: false,
+            profile: false,
+        }
+    }
 }
 
 pub fn crunch(load: u16, dialect: Dialect, text: &[u8]) -> Result<Vec<u8>, Refusal> {
-    let options = CrunchOptions {
-        load,
-        dialect,
-        forms: false,
-    };
-    crunch_with(options, text)
+    crunch_with(CrunchOptions::none(load, dialect), text)
 }
 
 pub fn crunch_with(options: CrunchOptions, text: &[u8]) -> Result<Vec<u8>, Refusal> {
     let CrunchOptions { load, forms, .. } = options;
+    if options.profile {
+        profile::check(options, text)?;
+    }
     let Some(dialect) = options.dialect.original() else {
         return basic35::crunch(load, forms, text);
     };

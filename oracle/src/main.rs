@@ -33,9 +33,11 @@ mod links;
 mod measured;
 mod modes;
 mod peers;
+mod profile;
 mod program;
 mod random;
 mod refusal;
+mod relinked;
 mod show;
 mod tables;
 #[cfg(test)]

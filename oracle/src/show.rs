@@ -108,6 +108,7 @@ fn of_call(call: &Call) -> String {
             format!("scratch {} on a {}", quoted(name), disk_of(disk))
         }
         Call::CheckDisk { disk } => format!("check a {}", disk_of(disk)),
+        Call::Relink { image } => format!("relinking: {}", hex(image)),
     }
 }
 
@@ -149,6 +150,7 @@ fn of_results(op: u8, results: &[u8]) -> String {
         calls::COUNT_IMAGES => of_totals(results),
         calls::LOOK_UP => of_line(&["place", "link offset"], results),
         calls::INDEX_ENTRY => of_line(&["first", "second"], results),
+        calls::RELINK => of_relinking(results),
         calls::FORMAT_DISK | calls::SAVE_FILE | calls::SCRATCH_FILE => Some(disk_of(results)),
         calls::READ_FILE => before_disk(&["length"], results),
         calls::CHECK_DISK => before_disk(&["files", "free sectors"], results),
@@ -251,6 +253,16 @@ fn of_line(labels: &[&str], results: &[u8]) -> Option<String> {
             let (fields, body) = line.split_at_checked(8 * labels.len())?;
             Some(format!("{}, body {}", named(labels, fields)?, hex(body)))
         }
+        _ => None,
+    }
+}
+
+fn of_relinking(results: &[u8]) -> Option<String> {
+    match *results {
+        [0] => Some("every link as it was".to_string()),
+        [1, ref fields @ ..] => named(&["offset", "new link"], fields),
+        [2] => Some("leaves the image".to_string()),
+        [3] => Some("never ends".to_string()),
         _ => None,
     }
 }

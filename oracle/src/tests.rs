@@ -8,6 +8,7 @@ mod forms;
 mod indexes;
 mod lines;
 mod modes;
+mod profiles;
 
 use std::io::Cursor;
 use std::time::{Duration, Instant};

@@ -94,17 +94,18 @@ fn measured_lines() -> Vec<Request> {
     for text in TEXTS {
         for load in LOADS {
             for place in [0, 1, 2, 3, 4, 5] {
-                let options = CrunchOptions {
-                    load,
-                    dialect: Dialect::Auto,
-                    forms: false,
-                };
-                let call = Call::MeasuredLine {
-                    options,
-                    place,
-                    text,
-                };
-                requests.push(call.encode());
+                for profile in [false, true] {
+                    let options = CrunchOptions {
+                        profile,
+                        ..CrunchOptions::none(load, Dialect::Auto)
+                    };
+                    let call = Call::MeasuredLine {
+                        options,
+                        place,
+                        text,
+                    };
+                    requests.push(call.encode());
+                }
             }
         }
     }

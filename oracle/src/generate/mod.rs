@@ -20,6 +20,7 @@ mod large;
 mod lines;
 mod malformed;
 mod names;
+mod profiles;
 mod programs;
 mod remarks;
 mod requests;
@@ -133,10 +134,14 @@ fn enumerated(op: u8, random: &mut Random) -> Vec<Request> {
         calls::COUNT_IMAGES => archives::enumerated(&images::listed()),
         calls::FORMAT_DISK..=calls::CHECK_DISK | calls::DEFAULT_LOAD => Vec::new(),
         _ if calls::is_with_options(op) => {
-            let texts = [forms::listed(), texts::listed()].concat();
+            let texts = [forms::listed(), profiles::texts(), texts::listed()].concat();
             requests::of_texts(op, &texts, random)
         }
         _ if calls::is_of_texts(op) => requests::of_texts(op, &texts::listed(), random),
+        calls::RELINK => {
+            let images = [profiles::images(), images::listed()].concat();
+            requests::of_images(op, &images, random)
+        }
         _ if calls::is_under_options(op) => {
             let images = [remarks::listed(), images::listed()].concat();
             requests::of_images(op, &images, random)
@@ -153,9 +158,10 @@ fn any(op: u8, random: &mut Random) -> Request {
         calls::FORMAT_DISK..=calls::CHECK_DISK => disk_calls::any(op, random),
         calls::DEFAULT_LOAD => requests::any_default_load(random),
         _ if calls::is_of_texts(op) => {
-            let case = match calls::is_with_options(op) && random.one_in(2) {
-                true => forms::any(random),
-                false => texts::any(random),
+            let case = match random.below(4) {
+                0 if calls::is_with_options(op) => forms::any(random),
+                1 if calls::is_with_options(op) => profiles::any(random),
+                _ => texts::any(random),
             };
             requests::of_text(op, &case, random)
         }

@@ -95,12 +95,13 @@ pub fn of_text(op: u8, case: &TextCase, random: &mut Random) -> Request {
     call.encode()
 }
 
-/// A case with every combination of options, those with short forms more often.
+/// A case with every combination of options, those that are asked for more often.
 fn crunch_options(case: &TextCase, random: &mut Random) -> CrunchOptions {
     CrunchOptions {
         load: case.load,
         dialect: case.dialect,
         forms: !random.one_in(4),
+        profile: !random.one_in(3),
     }
 }
 
@@ -187,6 +188,7 @@ pub fn of_image(op: u8, image: &[u8], random: &mut Random) -> Request {
                 image,
             }
         }
+        calls::RELINK => Call::Relink { image },
         calls::LOOK_UP | calls::INDEX_ENTRY => return of_index(op, image, random),
         _ => unreachable!("op {op:02X} takes no image"),
     };

@@ -7,9 +7,8 @@ use crate::tables::V2_WORDS;
 
 fn body(dialect: Dialect, text: &str) -> Vec<u8> {
     let options = CrunchOptions {
-        load: 0x0801,
-        dialect,
         forms: true,
+        ..CrunchOptions::none(0x0801, dialect)
     };
     let image = library::crunch_with(options, text.as_bytes()).unwrap();
     library::step(Links, 2, &image).unwrap().unwrap().body

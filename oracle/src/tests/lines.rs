@@ -26,11 +26,7 @@ fn measured(load: u16, place: u64, text: &str) -> Option<MeasuredLine> {
 }
 
 fn under_auto(load: u16) -> CrunchOptions {
-    CrunchOptions {
-        load,
-        dialect: Dialect::Auto,
-        forms: false,
-    }
+    CrunchOptions::none(load, Dialect::Auto)
 }
 
 #[test]
