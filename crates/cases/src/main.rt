@@ -11,6 +11,7 @@ mod listings;
 mod measured;
 mod modes;
 mod options;
+mod relinked;
 mod rooms;
 mod texts;
 mod words;
@@ -64,6 +65,7 @@ fn answer_request(op: u8, payload: &[u8], room: &mut [u8], disk: &mut [u8]) -> b
         0x24 => disks::check(payload),
         0x30 => modes::list_by_links(payload, room),
         0x31 => modes::room_by_links(payload),
+        0x34 => relinked::relink(payload),
         _ => Answer::malformed().send(),
     }
 }
