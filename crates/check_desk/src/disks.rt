@@ -1,0 +1,59 @@
+// A disk: every program on it is checked, each under the disk's name and its own.
+use crate::Run;
+use crate::check_program;
+use crate::telling;
+use crate::worse;
+use disk_names::put_name;
+use entries::name_at;
+use lent::Outcome;
+use refusals::Refusal;
+use sentences::put::put_text;
+use sound::look;
+ghost use mathlib.Core.Path.{_≡_};
+ghost use Prim.Native.Nat.{_+_, _≤_};
+ghost use lib.ListN.{length};
+ghost use Rattle.entries.specs.EntryHelpers.{Entries};
+
+fn check_entry(name: &[u8], disk: &[u8], p: usize, is_quiet: bool) -> Run
+    requires { ⌜ (length (now disk) ≡ 174848) × (p + 30 ≤ 174848) ⌝ }
+{
+    let mut full = [0u8; 4352];
+    let comma = put_text(&mut full, 0, name);
+    let from = put_text(&mut full, comma, b", ");
+    let n = put_name(&mut full, from, name_at(disk, p));
+    // No file is longer: 664 sectors of 254 bytes.
+    let mut file = [0u8; 168_656];
+    match disk::read(disk, name_at(disk, p), &mut file) {
+        Outcome::Done(count) => check_program(&full[..n], &file[0..count], is_quiet),
+        Outcome::Refused(refusal) => telling::tell_refusal(&full[..n], refusal, is_quiet),
+    }
+}
+
+fn check_entries(name: &[u8], disk: &[u8], files: &[usize], is_quiet: bool) -> Run
+    requires { ⌜ (length (now disk) ≡ 174848) × Entries (now files) ⌝ }
+{
+    let mut run = Run::Fit;
+    let mut i: usize = 0;
+    while i < files.len() {
+        run = worse(run, check_entry(name, disk, files[i], is_quiet));
+        if let Run::Closed = run {
+            return run;
+        }
+        i += 1;
+    }
+    run
+}
+
+pub fn check_disk(name: &[u8], disk: &[u8], is_quiet: bool) -> Run
+    requires { ⌜ length (now disk) ≡ 174848 ⌝ }
+{
+    let mut sectors = [0usize; 18];
+    let mut files = [0usize; 144];
+    let seen = look(disk, &mut sectors, &mut files);
+    if !seen.sound {
+        return telling::tell_refusal(name, Refusal::BadDisk, is_quiet);
+    }
+    let count = seen.files;
+    let run = check_entries(name, disk, &files[..count], is_quiet);
+    telling::tell_disk(name, count, run, is_quiet)
+}

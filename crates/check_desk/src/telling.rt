@@ -1,0 +1,204 @@
+// What was found, in sentences for a person: a line for each, behind the name of the file. A line is one write, so that lines of several
+// processes do not mix.
+use crate::Run;
+use desk::result;
+use fitness::Fault;
+use libc::STDOUT_FILENO;
+use refusals::Refusal;
+use sentences::put::put_decimal;
+use sentences::put::put_text;
+
+fn write_line(line: &[u8]) -> bool {
+    result::write_to(STDOUT_FILENO, b"standard output", line)
+}
+
+fn write_words(name: &[u8], words: &[u8]) -> bool {
+    let mut line = [0u8; 4608];
+    let from = put_text(&mut line, 0, name);
+    let end = put_text(&mut line, from, words);
+    write_line(&line[..end])
+}
+
+// Words, a number, and words.
+fn write_one(name: &[u8], first: &[u8], number: usize, second: &[u8]) -> bool {
+    let mut line = [0u8; 4608];
+    let from = put_text(&mut line, 0, name);
+    let n = put_text(&mut line, from, first);
+    let to = put_decimal(&mut line, n, number);
+    let end = put_text(&mut line, to, second);
+    write_line(&line[..end])
+}
+
+// Words with two numbers between them.
+fn write_two(
+    name: &[u8],
+    first: &[u8],
+    number: usize,
+    second: &[u8],
+    value: usize,
+    third: &[u8],
+) -> bool {
+    let mut line = [0u8; 4608];
+    let from = put_text(&mut line, 0, name);
+    let n = put_text(&mut line, from, first);
+    let to = put_decimal(&mut line, n, number);
+    let v = put_text(&mut line, to, second);
+    let behind = put_decimal(&mut line, v, value);
+    let end = put_text(&mut line, behind, third);
+    write_line(&line[..end])
+}
+
+fn write_target(name: &[u8], number: usize, target: usize) -> bool {
+    if target > 65535 {
+        return write_one(
+            name,
+            b": line ",
+            number,
+            b": it jumps to a line number above 65535\n",
+        );
+    }
+    write_two(
+        name,
+        b": line ",
+        number,
+        b": it jumps to line ",
+        target,
+        b", which is not there\n",
+    )
+}
+
+fn write_fault(name: &[u8], fault: Fault) -> bool {
+    match fault {
+        Fault::OutsideMemory { load, length } => write_two(
+            name,
+            b": it loads at ",
+            load as usize,
+            b" and has ",
+            length,
+            b" bytes, which do not fit into BASIC memory, 2049 to 40959\n",
+        ),
+        Fault::NumberTooHigh { number } => write_one(
+            name,
+            b": line ",
+            number as usize,
+            b": its number is above 63999\n",
+        ),
+        Fault::NotAscending { number } => write_one(
+            name,
+            b": line ",
+            number as usize,
+            b": its number is not above the one before\n",
+        ),
+        Fault::ZeroInBody { number, address } => write_two(
+            name,
+            b": line ",
+            number as usize,
+            b": it holds a zero at address ",
+            address,
+            b": the machine ends it there, and the two readers part\n",
+        ),
+        Fault::BodyLength { number, length } => write_two(
+            name,
+            b": line ",
+            number as usize,
+            b": it has ",
+            length,
+            b" bytes, and not 1 to 250\n",
+        ),
+        Fault::NoTarget { number, target } => write_target(name, number as usize, target),
+        Fault::LinkChanges { number, link } => write_two(
+            name,
+            b": line ",
+            number as usize,
+            b": the machine changes its link to ",
+            link as usize,
+            b" after loading\n",
+        ),
+        Fault::LinksLeave => write_words(
+            name,
+            b": the machine runs past the program's end when it sets the links after loading\n",
+        ),
+        Fault::LinksEndless => write_words(
+            name,
+            b": the machine never ends setting the links after loading\n",
+        ),
+    }
+}
+
+// What a run comes to that was to write a line.
+fn after(written: bool, run: Run) -> Run {
+    if written { run } else { Run::Closed }
+}
+
+pub fn tell_fault(name: &[u8], fault: Fault, is_quiet: bool) -> Run {
+    if is_quiet {
+        return Run::Unfit;
+    }
+    after(write_fault(name, fault), Run::Unfit)
+}
+
+fn write_refusal(name: &[u8], refusal: Refusal) -> bool {
+    let mut line = [0u8; 4608];
+    let n = sentences::message(name, b"", refusals::refusal_code(refusal), &mut line);
+    write_line(&line[..n]) && write_words(name, b": not fit for the master\n")
+}
+
+// What no reader, or no disk, could be made of.
+pub fn tell_refusal(name: &[u8], refusal: Refusal, is_quiet: bool) -> Run {
+    if is_quiet {
+        return Run::Unfit;
+    }
+    after(write_refusal(name, refusal), Run::Unfit)
+}
+
+// The last line of a program.
+pub fn tell_program(name: &[u8], load: u16, lines: usize, run: Run, is_quiet: bool) -> Run {
+    if is_quiet {
+        return run;
+    }
+    match run {
+        Run::Fit => after(
+            write_two(
+                name,
+                b": fit for the master: it loads at ",
+                load as usize,
+                b" and has ",
+                lines,
+                b" lines, the same by both readers and for the machine\n",
+            ),
+            run,
+        ),
+        Run::Unfit => after(
+            write_two(
+                name,
+                b": not fit for the master; it loads at ",
+                load as usize,
+                b" and has ",
+                lines,
+                b" lines\n",
+            ),
+            run,
+        ),
+        Run::Unread => run,
+        Run::Closed => run,
+    }
+}
+
+// The last line of a disk.
+pub fn tell_disk(name: &[u8], files: usize, run: Run, is_quiet: bool) -> Run {
+    if is_quiet {
+        return run;
+    }
+    match run {
+        Run::Fit => after(
+            write_one(name, b": fit for the master: ", files, b" files\n"),
+            run,
+        ),
+        Run::Unfit => after(
+            write_one(name, b": not fit for the master; ", files, b" files\n"),
+            run,
+        ),
+        Run::Unread => run,
+        Run::Closed => run,
+    }
+}
