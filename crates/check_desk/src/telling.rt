@@ -48,18 +48,55 @@ fn write_two(
     write_line(&line[..end])
 }
 
-fn write_target(name: &[u8], number: usize, target: usize) -> bool {
-    if target > 65535 {
-        return write_one(
-            name,
-            b": line ",
-            number,
-            b": it jumps to a line number above 65535\n",
-        );
-    }
+// A sentence about a line.
+fn write_at(name: &[u8], number: u16, words: &[u8]) -> bool {
+    write_one(name, b": line ", number as usize, words)
+}
+
+// The same with a number between its words.
+fn write_value(name: &[u8], number: u16, first: &[u8], value: usize, second: &[u8]) -> bool {
+    write_two(name, b": line ", number as usize, first, value, second)
+}
+
+fn write_memory(name: &[u8], load: u16, length: usize) -> bool {
+    let behind = b" bytes, which do not fit into BASIC memory, 2049 to 40959\n";
     write_two(
         name,
-        b": line ",
+        b": it loads at ",
+        load as usize,
+        b" and has ",
+        length,
+        behind,
+    )
+}
+
+fn write_zero(name: &[u8], number: u16, address: usize) -> bool {
+    let behind = b": the machine ends it there, and the two readers part\n";
+    write_value(
+        name,
+        number,
+        b": it holds a zero at address ",
+        address,
+        behind,
+    )
+}
+
+fn write_length(name: &[u8], number: u16, length: usize) -> bool {
+    write_value(
+        name,
+        number,
+        b": it has ",
+        length,
+        b" bytes, and not 1 to 250\n",
+    )
+}
+
+fn write_target(name: &[u8], number: u16, target: usize) -> bool {
+    if target > 65535 {
+        return write_at(name, number, b": it jumps to a line number above 65535\n");
+    }
+    write_value(
+        name,
         number,
         b": it jumps to line ",
         target,
@@ -67,53 +104,29 @@ fn write_target(name: &[u8], number: usize, target: usize) -> bool {
     )
 }
 
+fn write_link(name: &[u8], number: u16, link: usize) -> bool {
+    write_value(
+        name,
+        number,
+        b": the machine changes its link to ",
+        link,
+        b" after loading\n",
+    )
+}
+
 fn write_fault(name: &[u8], fault: Fault) -> bool {
     match fault {
-        Fault::OutsideMemory { load, length } => write_two(
+        Fault::OutsideMemory { load, length } => write_memory(name, load, length),
+        Fault::NumberTooHigh { number } => write_at(name, number, b": its number is above 63999\n"),
+        Fault::NotAscending { number } => write_at(
             name,
-            b": it loads at ",
-            load as usize,
-            b" and has ",
-            length,
-            b" bytes, which do not fit into BASIC memory, 2049 to 40959\n",
-        ),
-        Fault::NumberTooHigh { number } => write_one(
-            name,
-            b": line ",
-            number as usize,
-            b": its number is above 63999\n",
-        ),
-        Fault::NotAscending { number } => write_one(
-            name,
-            b": line ",
-            number as usize,
+            number,
             b": its number is not above the one before\n",
         ),
-        Fault::ZeroInBody { number, address } => write_two(
-            name,
-            b": line ",
-            number as usize,
-            b": it holds a zero at address ",
-            address,
-            b": the machine ends it there, and the two readers part\n",
-        ),
-        Fault::BodyLength { number, length } => write_two(
-            name,
-            b": line ",
-            number as usize,
-            b": it has ",
-            length,
-            b" bytes, and not 1 to 250\n",
-        ),
-        Fault::NoTarget { number, target } => write_target(name, number as usize, target),
-        Fault::LinkChanges { number, link } => write_two(
-            name,
-            b": line ",
-            number as usize,
-            b": the machine changes its link to ",
-            link as usize,
-            b" after loading\n",
-        ),
+        Fault::ZeroInBody { number, address } => write_zero(name, number, address),
+        Fault::BodyLength { number, length } => write_length(name, number, length),
+        Fault::NoTarget { number, target } => write_target(name, number, target),
+        Fault::LinkChanges { number, link } => write_link(name, number, link as usize),
         Fault::LinksLeave => write_words(
             name,
             b": the machine runs past the program's end when it sets the links after loading\n",
