@@ -1,0 +1,81 @@
+// A line of standard output about a file, in one write, so that the lines of two programs do not mix.
+use crate::checks;
+use desk::result;
+use libc::STDERR_FILENO;
+use libc::STDOUT_FILENO;
+use refusals::Refusal;
+use sentences::place::Place;
+use sentences::put;
+
+// Adds bytes to a line, as many as fit.
+fn add(line: &mut [u8], at: usize, text: &[u8]) -> usize {
+    if at > line.len() {
+        return at;
+    }
+    put::put_text(line, at, text)
+}
+
+fn add_number(line: &mut [u8], at: usize, n: usize) -> usize {
+    if at > line.len() {
+        return at;
+    }
+    put::put_decimal(line, at, n)
+}
+
+// The name of a file and the place in it.
+fn add_place(line: &mut [u8], name: &[u8], place: Place) -> usize {
+    let a = add(line, 0, name);
+    let b = add(line, a, b":");
+    let c = add_number(line, b, place.line);
+    let d = add(line, c, b":");
+    let e = add_number(line, d, place.column);
+    add(line, e, b": ")
+}
+
+// Writes a line that was begun, with its end; whether it could be written.
+fn write(fd: i32, line: &mut [u8], at: usize) -> bool {
+    let n = add(line, at, b"\n");
+    if n > line.len() {
+        return false;
+    }
+    result::write_to(fd, b"standard output", &line[0..n])
+}
+
+// Writes a sentence about a place, with a part of the text in it.
+pub fn tell(name: &[u8], place: Place, before: &[u8], part: &[u8], behind: &[u8]) -> bool {
+    let mut line = [0u8; 9216];
+    let a = add_place(&mut line, name, place);
+    let b = add(&mut line, a, before);
+    let c = add(&mut line, b, part);
+    let d = add(&mut line, c, behind);
+    write(STDOUT_FILENO, &mut line, d)
+}
+
+// Writes the last line about a file, with a number in it.
+pub fn close(name: &[u8], before: &[u8], n: usize, behind: &[u8]) -> bool {
+    let mut line = [0u8; 9216];
+    let a = add(&mut line, 0, name);
+    let b = add(&mut line, a, before);
+    let c = add_number(&mut line, b, n);
+    let d = add(&mut line, c, behind);
+    write(STDOUT_FILENO, &mut line, d)
+}
+
+// The same without a number.
+pub fn close_bare(name: &[u8], text: &[u8]) -> bool {
+    let mut line = [0u8; 9216];
+    let a = add(&mut line, 0, name);
+    let b = add(&mut line, a, text);
+    write(STDOUT_FILENO, &mut line, b)
+}
+
+// Says on standard error why there is no result.
+pub fn refuse(name: &[u8], refusal: Refusal) -> bool {
+    let mut text = [0u8; 128];
+    let n = sentences::sentence(refusals::refusal_code(refusal), &mut text);
+    let mut line = [0u8; 9216];
+    let a = add(&mut line, 0, name);
+    let b = add(&mut line, a, b": ");
+    let c = add(&mut line, b, checks::first(&text, n));
+    write(STDERR_FILENO, &mut line, c)
+}
