@@ -340,6 +340,8 @@ fn check_room(tally: Tally, name: &[u8], text: &[u8]) -> Tally {
     let options = Options {
         load: 0x0801,
         dialect: Dialect::Auto,
+        profile: false,
+        forms: false,
     };
     let at = Place { line: 1, column: 1 };
     match image::room(text, options) {
