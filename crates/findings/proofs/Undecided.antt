@@ -8,12 +8,12 @@ use native.Mathlib.Omega.{arith}
 use lib.ListN.{length, take, drop}
 use mir.Syntax.{w64}
 use mir.Val.{Fits}
-use Rattle.lines.specs.SplitHelpers.{lineFrom}
-use Rattle.lines.specs.TextLines.{textLines}
-use Rattle.lines.specs.declared.split.LineRule.{LineRule}
-use Rattle.lines.specs.declared.split.TextLine.{TextLine}
-use Rattle.lines.proofs.Splitting.{line-step, lines-end}
-use Rattle.lines.proofs.Parts.{taken, left}
+use Rattle.text_lines.specs.SplitHelpers.{lineFrom}
+use Rattle.text_lines.specs.TextLines.{textLines}
+use Rattle.text_lines.specs.declared.LineRule.{LineRule}
+use Rattle.text_lines.specs.declared.TextLine.{TextLine}
+use Rattle.text_lines.proofs.Splitting.{line-step, lines-end}
+use Rattle.ascii.proofs.Choice.{taken, left}
 use Rattle.guess_scans.specs.Evidence.{lineEvidence}
 use Rattle.guess.specs.Guess.{anyEvidence, evidence}
 use Rattle.findings.specs.Deciding.{decidedBehind, decidingLine}

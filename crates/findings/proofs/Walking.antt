@@ -12,7 +12,7 @@ use mir.Syntax.{w64}
 use mir.Val.{Fits}
 use Rattle.steps.proofs.Nearer.{Nearer, again-on}
 use Rattle.ascii.proofs.Searching.{tail}
-use Rattle.lines.proofs.Parts.{taken, left}
+use Rattle.ascii.proofs.Choice.{taken, left}
 use Rattle.tables.specs.declared.sets.Sets.{Sets}
 use Rattle.body.specs.Lexicon.{Lexicon, lexicon}
 use Rattle.body.specs.Steps.{crunchStep}

@@ -3,8 +3,8 @@
 use Prim.Native.Nat.{ℕ, suc, _+_}
 use mathlib.Core.Bool.{true, false}
 use mathlib.Core.List.{List, [], _∷_}
-use Rattle.lines.specs.TextLines.{textLines}
-use Rattle.lines.specs.declared.split.LineRule.{LineRule}
+use Rattle.text_lines.specs.TextLines.{textLines}
+use Rattle.text_lines.specs.declared.LineRule.{LineRule}
 use Rattle.guess_scans.specs.Evidence.{lineEvidence}
 use Rattle.findings.specs.declared.deciding.Decided.{Decided}
 use Rattle.findings.specs.declared.deciding.Decided.the-variants.{ByLine, ByNone}

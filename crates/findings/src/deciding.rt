@@ -2,10 +2,9 @@
 use dialect::Dialect;
 use guess::resolve;
 use guess_scans::evidence;
-use lines::split;
-use lines::split::LineRule;
 use tables::sets::Sets;
 use tables::spellings;
+use text_lines::LineRule;
 ghost use mathlib.Core.Path.{_≡_};
 ghost use Prim.Native.Nat.{min};
 ghost use lib.ListN.{length};
@@ -36,7 +35,7 @@ fn deciding_with(text: &[u8], rule: LineRule, bytes: &[u8], index: &[u16]) -> De
     let mut at: usize = 0;
     let mut k: usize = 0;
     while at < text.len() {
-        let line = split::next_line(text, at, rule);
+        let line = text_lines::next_line(text, at, rule);
         let end = line.end;
         k += 1;
         if evidence::line_evidence(&text[at..end], bytes, index) {

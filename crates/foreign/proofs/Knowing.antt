@@ -18,10 +18,10 @@ use Rattle.refusals.specs.declared.Refusal.{Refusal}
 use Rattle.ascii.specs.Bytes.{between}
 use Rattle.ascii.proofs.Searching.{tail}
 use Rattle.words.specs.Compare.{begins}
-use Rattle.lines.specs.Domain.{domainLength, checkedText, textCheckAnswer}
-use Rattle.lines.specs.declared.domain.TextCheck.{TextCheck}
-use Rattle.lines.specs.declared.domain.TextCheck.the-variants.{Fine, Refused}
-use Rattle.lines.proofs.Parts.{taken, left}
+use Rattle.domain.specs.Domain.{domainLength, checkedText, textCheckAnswer}
+use Rattle.domain.specs.declared.TextCheck.{TextCheck}
+use Rattle.domain.specs.declared.TextCheck.the-variants.{Fine, Refused}
+use Rattle.ascii.proofs.Choice.{taken, left}
 use Rattle.foreign.specs.Foreign.{isInner, innerBehind, innerAsked, widthOf, isUtf16, isMarkOfOrder, isCurlyQuote, isNoBreakSpace, isLongDash, kindOf, strangerIn, firstStranger}
 use Rattle.foreign.specs.declared.Foreign.{Foreign}
 use Rattle.foreign.specs.declared.Foreign.the-variants.{OrderMark, CurlyQuote, NoBreakSpace, LongDash, Character, LoneByte}

@@ -8,7 +8,7 @@ use lib.Dec.{leb, ltb}
 use lib.ListN.{length, getD, drop}
 use Rattle.ascii.specs.Bytes.{between}
 use Rattle.words.specs.Compare.{begins}
-use Rattle.lines.specs.Domain.{domainLength}
+use Rattle.domain.specs.Domain.{domainLength}
 use Rattle.foreign.specs.declared.Foreign.{Foreign}
 use Rattle.foreign.specs.declared.Foreign.the-variants.{OrderMark, CurlyQuote, NoBreakSpace, LongDash, Character, LoneByte}
 use Rattle.foreign.specs.declared.Stranger.{Stranger}

@@ -1,6 +1,5 @@
 // Bytes that no text may hold, and what they are: mostly characters of UTF-8 that an author's editor has put in.
-use lines::domain;
-use lines::domain::TextCheck;
+use domain::TextCheck;
 ghost use mathlib.Core.Path.{_≡_};
 ghost use lib.ListN.{getD};
 ghost use Rattle.foreign.specs.Foreign.{isInner, innerBehind, innerAsked, widthOf, isUtf16, isMarkOfOrder, isCurlyQuote, isNoBreakSpace, isLongDash, kindOf, firstStranger};

@@ -16,10 +16,10 @@ use Rattle.tables.specs.declared.sets.Sets.{Sets}
 use Rattle.forms.proofs.Standing.{form-off}
 use Rattle.dialect.specs.declared.Dialect.{Dialect}
 use Rattle.dialect.specs.declared.Dialect.the-variants.{Auto, BasicV2, Tsb, Basic35}
-use Rattle.lines.specs.declared.split.LineRule.the-variants.{AfterCr}
-use Rattle.lines.specs.Domain.{checkedText}
-use Rattle.lines.specs.Numbering.{ReadLine, blankLine, missingNumber, numberTooHigh, numberedText, readLine}
-use Rattle.lines.specs.TextLines.{textLines}
+use Rattle.text_lines.specs.declared.LineRule.the-variants.{AfterCr}
+use Rattle.domain.specs.Domain.{checkedText}
+use Rattle.line_numbers.specs.Numbering.{ReadLine, blankLine, missingNumber, numberTooHigh, numberedText, readLine}
+use Rattle.text_lines.specs.TextLines.{textLines}
 use Rattle.guess.specs.Guess.{evidence, names, noneDemoted, wordSets}
 use Rattle.body.specs.Body.{written, moveThen, crunchOn, crunchedFrom, crunchedBody}
 use Rattle.body.specs.Lexicon.{Lexicon, lexicon}

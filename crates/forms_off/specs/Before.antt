@@ -12,10 +12,10 @@ use Rattle.refusals.specs.Numbers.{missingLineNumber, lineNumberOutOfRange}
 use Rattle.words.specs.declared.Match.the-variants.{Word, Nothing}
 use Rattle.tables.specs.Sets.{liveWord, plainWord}
 use Rattle.dialect.specs.declared.Dialect.{Dialect}
-use Rattle.lines.specs.declared.split.LineRule.the-variants.{AfterCr}
-use Rattle.lines.specs.Domain.{checkedText}
-use Rattle.lines.specs.Numbering.{ReadLine, blankLine, missingNumber, numberTooHigh, numberedText, readLine}
-use Rattle.lines.specs.TextLines.{textLines}
+use Rattle.text_lines.specs.declared.LineRule.the-variants.{AfterCr}
+use Rattle.domain.specs.Domain.{checkedText}
+use Rattle.line_numbers.specs.Numbering.{ReadLine, blankLine, missingNumber, numberTooHigh, numberedText, readLine}
+use Rattle.text_lines.specs.TextLines.{textLines}
 use Rattle.guess.specs.Guess.{wordSets}
 use Rattle.body.specs.Body.{moveThen}
 use Rattle.body.specs.Lexicon.{Lexicon, lexicon}

@@ -11,8 +11,8 @@ use Rattle.dialect.specs.Dialects.{isBasic35}
 use Rattle.dialect.specs.declared.Dialect.{Dialect}
 use Rattle.dialect.specs.declared.Dialect.the-variants.{Auto, BasicV2, Tsb, Basic35}
 use Rattle.tables.specs.declared.sets.Sets.{Sets}
-use Rattle.lines.specs.Domain.{checkedText}
-use Rattle.lines.specs.declared.split.LineRule.the-variants.{AsGiven, AfterCr}
+use Rattle.domain.specs.Domain.{checkedText}
+use Rattle.text_lines.specs.declared.LineRule.the-variants.{AsGiven, AfterCr}
 use Rattle.guess.specs.Guess.{evidence, noneDemoted, guessedDialect, resolved, wordSets}
 
 either : {A : Type 0} (P : A → Type 0) (b : Bool) (x y : A) → P x → P y → P (elim b [ true ↦ x | false ↦ y ])

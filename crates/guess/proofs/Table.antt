@@ -11,7 +11,7 @@ use Rattle.words.specs.Spelling.{bytesOf}
 use Rattle.tables.specs.Tsb.{tsbWords}
 use Rattle.dialect.specs.declared.Dialect.{Dialect}
 use Rattle.dialect.specs.declared.Dialect.the-variants.{Auto, BasicV2, Tsb}
-use Rattle.lines.specs.declared.split.LineRule.the-variants.{AsGiven, AfterCr}
+use Rattle.text_lines.specs.declared.LineRule.the-variants.{AsGiven, AfterCr}
 use Rattle.guess.specs.Guess.{evidence, names, resolved, wordSets}
 
 -- the words of a list that a set holds

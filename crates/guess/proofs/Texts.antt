@@ -11,16 +11,16 @@ use Rattle.refusals.specs.declared.Refusal.{Refusal}
 use Rattle.dialect.specs.Dialects.{isBasic35}
 use Rattle.dialect.specs.declared.Dialect.{Dialect}
 use Rattle.dialect.specs.declared.Dialect.the-variants.{Auto, BasicV2, Tsb, Basic35}
-use Rattle.lines.specs.Domain.{checkedText, textCheckAnswer}
-use Rattle.lines.specs.SplitHelpers.{lineFrom}
-use Rattle.lines.specs.TextLines.{textLines}
-use Rattle.lines.specs.declared.domain.TextCheck.{TextCheck}
-use Rattle.lines.specs.declared.domain.TextCheck.the-variants.{Fine, Refused}
-use Rattle.lines.specs.declared.split.LineRule.{LineRule}
-use Rattle.lines.specs.declared.split.LineRule.the-variants.{AsGiven, AfterCr}
-use Rattle.lines.specs.declared.split.TextLine.{TextLine}
-use Rattle.lines.proofs.Splitting.{line-step, lines-end, line-behind}
-use Rattle.lines.proofs.Parts.{taken, left}
+use Rattle.domain.specs.Domain.{checkedText, textCheckAnswer}
+use Rattle.text_lines.specs.SplitHelpers.{lineFrom}
+use Rattle.text_lines.specs.TextLines.{textLines}
+use Rattle.domain.specs.declared.TextCheck.{TextCheck}
+use Rattle.domain.specs.declared.TextCheck.the-variants.{Fine, Refused}
+use Rattle.text_lines.specs.declared.LineRule.{LineRule}
+use Rattle.text_lines.specs.declared.LineRule.the-variants.{AsGiven, AfterCr}
+use Rattle.text_lines.specs.declared.TextLine.{TextLine}
+use Rattle.text_lines.proofs.Splitting.{line-step, lines-end, line-behind}
+use Rattle.ascii.proofs.Choice.{taken, left}
 use Rattle.guess_scans.specs.Evidence.{lineEvidence}
 use Rattle.guess_scans.specs.Variables.{lineNames}
 use Rattle.guess.specs.Guess.{anyEvidence, evidence, allNames, noneDemoted, names, guessedDialect, resolved, wordSets}

@@ -10,10 +10,10 @@ use Rattle.refusals.specs.Answer.{Answer, done, refused, numbered, andThen}
 use Rattle.dialect.specs.declared.Dialect.{Dialect}
 use Rattle.dialect.specs.declared.Dialect.the-variants.{Auto, BasicV2, Tsb, Basic35}
 use Rattle.tables.specs.declared.sets.Sets.{Sets}
-use Rattle.lines.specs.Domain.{checkedText}
-use Rattle.lines.specs.TextLines.{textLines}
-use Rattle.lines.specs.declared.split.LineRule.{LineRule}
-use Rattle.lines.specs.declared.split.LineRule.the-variants.{AsGiven, AfterCr}
+use Rattle.domain.specs.Domain.{checkedText}
+use Rattle.text_lines.specs.TextLines.{textLines}
+use Rattle.text_lines.specs.declared.LineRule.{LineRule}
+use Rattle.text_lines.specs.declared.LineRule.the-variants.{AsGiven, AfterCr}
 use Rattle.guess_scans.specs.Evidence.{lineEvidence}
 use Rattle.guess_scans.specs.Variables.{lineNames}
 use Rattle.guess.specs.declared.resolve.Resolved.{Resolved}

@@ -1,19 +1,17 @@
 // The dialect of a text, and the TSB words that are live in it.
 use dialect::Dialect;
+use domain::TextCheck;
 use guess_scans::evidence;
 use guess_scans::variables;
-use lines::domain;
-use lines::domain::TextCheck;
-use lines::split;
-use lines::split::LineRule;
 use refusals::Refusal;
 use tables::sets::Sets;
 use tables::spellings;
+use text_lines::LineRule;
 ghost use mathlib.Core.Path.{_≡_};
 ghost use Prim.Native.Nat.{_≤_};
 ghost use lib.ListN.{length};
 ghost use Rattle.tables.specs.WordsHelpers.{SpellsWords};
-ghost use Rattle.lines.specs.TextLines.{textLines};
+ghost use Rattle.text_lines.specs.TextLines.{textLines};
 ghost use Rattle.guess.specs.Guess.{evidence as evidenceOf, allNames, guessedDialect, resolved, resolvedAnswer, wordSets};
 
 pub enum Resolved {
@@ -28,7 +26,7 @@ pub fn text_evidence(text: &[u8], rule: LineRule, bytes: &[u8], index: &[u16]) -
 {
     let mut at: usize = 0;
     while at < text.len() {
-        let line = split::next_line(text, at, rule);
+        let line = text_lines::next_line(text, at, rule);
         // The blanks in front of a line prove nothing.
         let begin = line.begin;
         let end = line.end;
@@ -47,7 +45,7 @@ fn text_names(text: &[u8], rule: LineRule, bytes: &[u8], index: &[u16], found: &
 {
     let mut at: usize = 0;
     while at < text.len() {
-        let line = split::next_line(text, at, rule);
+        let line = text_lines::next_line(text, at, rule);
         let end = line.end;
         variables::line_names(&text[at..end], bytes, index, found);
         at = line.next;

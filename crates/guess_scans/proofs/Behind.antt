@@ -13,7 +13,7 @@ use mir.Val.{Fits}
 use Rattle.ascii.specs.Search.{ofKind, startsWith, front, past}
 use Rattle.ascii.specs.declared.search.Kind.{Kind}
 use Rattle.ascii.proofs.Searching.{tail, here, starts-long}
-use Rattle.lines.proofs.Parts.{taken, left}
+use Rattle.ascii.proofs.Choice.{taken, left}
 use Rattle.guess_scans.specs.Ahead.{closing, behindList, assigns}
 use Rattle.guess_scans.specs.ScanHelpers.{equalsAhead}
 

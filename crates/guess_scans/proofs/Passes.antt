@@ -23,7 +23,7 @@ use Rattle.words.specs.declared.Match.{Match}
 use Rattle.words.specs.declared.Match.the-variants.{Word, Nothing}
 use Rattle.words.specs.Spelling.{bytesOf}
 use Rattle.tables.specs.Tsb.{tsbWords}
-use Rattle.lines.proofs.Parts.{taken, left, either}
+use Rattle.ascii.proofs.Choice.{taken, left, either}
 use Rattle.guess_scans.specs.Ahead.{assigns}
 use Rattle.guess_scans.specs.Places.{isPlain, aside}
 use Rattle.guess_scans.specs.ScanHelpers.{stays}

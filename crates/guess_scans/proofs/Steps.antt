@@ -23,8 +23,8 @@ use Rattle.words.specs.declared.Match.{Match}
 use Rattle.words.specs.declared.Match.the-variants.{Word, Nothing}
 use Rattle.words.specs.Spelling.{bytesOf}
 use Rattle.tables.specs.Tsb.{tsbWords}
-use Rattle.lines.proofs.Blanks.{blank-white}
-use Rattle.lines.proofs.Parts.{taken, left, either}
+use Rattle.text_lines.proofs.Blanks.{blank-white}
+use Rattle.ascii.proofs.Choice.{taken, left, either}
 use Rattle.guess_scans.specs.Ahead.{assigns}
 use Rattle.guess_scans.specs.Evidence.{isElse, assigned, called, proves, wordProves, wordStep, statementStep, evidenceStep, evidenceOn, evidenceFrom, numberLength, lineEvidence}
 use Rattle.guess_scans.specs.Places.{isPlain, isStart, aside}

@@ -22,7 +22,7 @@ use Rattle.words.proofs.Search.{and-left, and-right}
 use Rattle.words.proofs.Sameness.{T-true}
 use Rattle.words.specs.Spelling.{bytesOf}
 use Rattle.tables.specs.Tsb.{tsbWords}
-use Rattle.lines.proofs.Parts.{taken, left}
+use Rattle.ascii.proofs.Choice.{taken, left}
 
 -- ---- each TSB word begins with a letter: one test over the list, carried to each entry
 

@@ -9,14 +9,14 @@ use lib.ListN.{length, take, drop}
 use mir.Syntax.{w16}
 use mir.Val.{Fits}
 use Rattle.refusals.specs.Answer.{Answer, done, refused, mapDone}
-use Rattle.lines.specs.declared.number.Numbering.{Numbering}
-use Rattle.lines.specs.declared.number.Numbering.the-variants.{Blank, Missing, OutOfRange, Numbered}
-use Rattle.lines.specs.NumberHelpers.{numbering}
-use Rattle.lines.specs.declared.split.TextLine.{TextLine}
-use Rattle.lines.specs.declared.split.LineRule.the-variants.{AfterCr}
-use Rattle.lines.specs.SplitHelpers.{lineFrom}
-use Rattle.lines.specs.TextLines.{textLines}
-use Rattle.lines.proofs.Splitting.{line-behind}
+use Rattle.line_numbers.specs.declared.Numbering.{Numbering}
+use Rattle.line_numbers.specs.declared.Numbering.the-variants.{Blank, Missing, OutOfRange, Numbered}
+use Rattle.line_numbers.specs.NumberHelpers.{numbering}
+use Rattle.text_lines.specs.declared.TextLine.{TextLine}
+use Rattle.text_lines.specs.declared.LineRule.the-variants.{AfterCr}
+use Rattle.text_lines.specs.SplitHelpers.{lineFrom}
+use Rattle.text_lines.specs.TextLines.{textLines}
+use Rattle.text_lines.proofs.Splitting.{line-behind}
 use Rattle.body.specs.Body.{crunchedBody}
 use Rattle.body.specs.Lexicon.{Lexicon}
 use Rattle.readers.specs.NumberedBody.{NumberedBody}

@@ -15,13 +15,13 @@ use Rattle.refusals.specs.declared.Refusal.{Refusal}
 use Rattle.refusals.specs.declared.Refusal.the-variants.{MissingLineNumber, LineNumberOutOfRange, AddressOverflow}
 use Rattle.lent.specs.Stores.{Room, Put}
 use Rattle.lent.proofs.Storing.{room-as, put-as, put-none}
-use Rattle.lines.specs.declared.number.Numbering.{Numbering}
-use Rattle.lines.specs.declared.number.Numbering.the-variants.{Blank, Missing, OutOfRange, Numbered}
-use Rattle.lines.specs.Numbering.{ReadLine, blankLine, missingNumber, numberTooHigh, numberedText, readLine}
-use Rattle.lines.specs.NumberHelpers.{numbering, told}
+use Rattle.line_numbers.specs.declared.Numbering.{Numbering}
+use Rattle.line_numbers.specs.declared.Numbering.the-variants.{Blank, Missing, OutOfRange, Numbered}
+use Rattle.line_numbers.specs.Numbering.{ReadLine, blankLine, missingNumber, numberTooHigh, numberedText, readLine}
+use Rattle.line_numbers.specs.NumberHelpers.{numbering, told}
 use Rattle.ascii.specs.Search.{isBlank}
-use Rattle.lines.proofs.Blanks.{blank-trimmed}
-use Rattle.lines.proofs.Numbers.{read-told, numbered-placed, read-space}
+use Rattle.text_lines.proofs.Blanks.{blank-trimmed}
+use Rattle.line_numbers.proofs.Numbers.{read-told, numbered-placed, read-space}
 use Rattle.body.specs.Lexicon.{Lexicon}
 use Rattle.body.specs.Body.{crunchedBody}
 use Rattle.body.specs.Zero.{holdsZero}

@@ -16,11 +16,11 @@ use Rattle.refusals.specs.declared.Refusal.{Refusal}
 use Rattle.ascii.specs.Trim.{trim}
 use Rattle.lent.specs.Lent.{roomFor}
 use Rattle.lent.specs.declared.Outcome.the-variants.{Done}
-use Rattle.lines.specs.declared.split.TextLine.{TextLine}
-use Rattle.lines.specs.declared.split.LineRule.the-variants.{AfterCr}
-use Rattle.lines.specs.SplitHelpers.{lineFrom}
-use Rattle.lines.specs.TextLines.{textLines}
-use Rattle.lines.proofs.Splitting.{Stepped, line-step, lines-end, line-behind}
+use Rattle.text_lines.specs.declared.TextLine.{TextLine}
+use Rattle.text_lines.specs.declared.LineRule.the-variants.{AfterCr}
+use Rattle.text_lines.specs.SplitHelpers.{lineFrom}
+use Rattle.text_lines.specs.TextLines.{textLines}
+use Rattle.text_lines.proofs.Splitting.{Stepped, line-step, lines-end, line-behind}
 use Rattle.body.specs.Lexicon.{Lexicon}
 use Rattle.readers.specs.declared.Line.{Line}
 use Rattle.readers.specs.NumberedBody.{NumberedBody}

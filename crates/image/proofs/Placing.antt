@@ -12,7 +12,7 @@ use borrow.Author.Tests.{eq-eqb, ne-eqb}
 use Rattle.refusals.specs.Answer.{Answer, done, refused}
 use Rattle.ascii.specs.Bytes.{isDigit}
 use Rattle.ascii.specs.Trim.{trim}
-use Rattle.lines.specs.Numbering.{ReadLine, blankLine, missingNumber, numberTooHigh, numberedText, decimalFrom, digitsRead, trimmedRead, readLine}
+use Rattle.line_numbers.specs.Numbering.{ReadLine, blankLine, missingNumber, numberTooHigh, numberedText, decimalFrom, digitsRead, trimmedRead, readLine}
 use Rattle.body.specs.Body.{crunchedBody}
 use Rattle.body.specs.Lexicon.{Lexicon}
 use Rattle.readers.specs.declared.Line.{Line}

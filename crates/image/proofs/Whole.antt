@@ -17,11 +17,11 @@ use Rattle.lent.specs.declared.Outcome.the-variants.{Done, Refused}
 use Rattle.lent.proofs.Outcomes.{told-outcome, has-room, into-refused, into-none}
 use Rattle.tables.specs.Sets.{withForms}
 use Rattle.tables.specs.declared.sets.Sets.{Sets}
-use Rattle.lines.specs.declared.domain.TextCheck.{TextCheck}
-use Rattle.lines.specs.declared.domain.TextCheck.the-variants.{Fine, Refused as Check·Refused}
-use Rattle.lines.specs.declared.split.LineRule.the-variants.{AfterCr}
-use Rattle.lines.specs.Domain.{checkedText, textCheckAnswer}
-use Rattle.lines.specs.TextLines.{textLines}
+use Rattle.domain.specs.declared.TextCheck.{TextCheck}
+use Rattle.domain.specs.declared.TextCheck.the-variants.{Fine, Refused as Check·Refused}
+use Rattle.text_lines.specs.declared.LineRule.the-variants.{AfterCr}
+use Rattle.domain.specs.Domain.{checkedText, textCheckAnswer}
+use Rattle.text_lines.specs.TextLines.{textLines}
 use Rattle.guess.specs.Guess.{wordSets}
 use Rattle.body.specs.Lexicon.{Lexicon, lexicon}
 use Rattle.readers.specs.NumberedBody.{NumberedBody}

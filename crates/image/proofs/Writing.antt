@@ -13,11 +13,11 @@ use Rattle.lent.specs.Stores.{Room, Put}
 use Rattle.lent.proofs.Storing.{put-long, put-both, put-none, put-as}
 use Rattle.lent.specs.Stores.{HasRoom}
 use Rattle.lent.proofs.Outcomes.{into-done}
-use Rattle.lines.specs.declared.split.TextLine.{TextLine}
-use Rattle.lines.specs.declared.split.LineRule.the-variants.{AfterCr}
-use Rattle.lines.specs.SplitHelpers.{lineFrom}
-use Rattle.lines.specs.TextLines.{textLines}
-use Rattle.lines.proofs.Splitting.{line-behind}
+use Rattle.text_lines.specs.declared.TextLine.{TextLine}
+use Rattle.text_lines.specs.declared.LineRule.the-variants.{AfterCr}
+use Rattle.text_lines.specs.SplitHelpers.{lineFrom}
+use Rattle.text_lines.specs.TextLines.{textLines}
+use Rattle.text_lines.proofs.Splitting.{line-behind}
 use Rattle.body.specs.Lexicon.{Lexicon}
 use Rattle.readers.specs.NumberedBody.{NumberedBody}
 use Rattle.layout.specs.Layout.{twoBytes, linesBytes, endAddress, imageOf}

@@ -8,8 +8,8 @@ use mathlib.Core.Option.{Option, none, some}
 use lib.Dec.{eqb}
 use Rattle.refusals.specs.Answer.{Answer, done, refused, numbered, mapDone}
 use Rattle.ascii.specs.Trim.{trim}
-use Rattle.lines.specs.declared.split.LineRule.the-variants.{AfterCr}
-use Rattle.lines.specs.TextLines.{textLines}
+use Rattle.text_lines.specs.declared.LineRule.the-variants.{AfterCr}
+use Rattle.text_lines.specs.TextLines.{textLines}
 use Rattle.readers.specs.declared.Line.{Line}
 use Rattle.layout.specs.Reads.{linesAt}
 use Rattle.image.specs.Crunched.{crunchedLines}

@@ -12,8 +12,8 @@ use Rattle.refusals.specs.declared.Refusal.the-variants.{AddressOverflow}
 use Rattle.refusals.specs.Answer.{Answer, done, refused, numbered, mapDone, andThen}
 use Rattle.lent.specs.Lent.{roomFor, outcomeAnswer}
 use Rattle.lent.specs.declared.Outcome.the-variants.{Refused as Outcome·Refused}
-use Rattle.lines.specs.declared.split.LineRule.the-variants.{AfterCr}
-use Rattle.lines.specs.TextLines.{textLines}
+use Rattle.text_lines.specs.declared.LineRule.the-variants.{AfterCr}
+use Rattle.text_lines.specs.TextLines.{textLines}
 use Rattle.body.specs.Lexicon.{Lexicon}
 use Rattle.readers.specs.NumberedBody.{NumberedBody}
 use Rattle.readers.specs.declared.Line.{Line}

@@ -1,9 +1,7 @@
 // A bound of an image's length, found without going through the bodies that have no }.
-use lines::number;
-use lines::number::Numbering;
-use lines::split;
-use lines::split::LineRule;
+use line_numbers::Numbering;
 use tables::sets::Sets;
+use text_lines::LineRule;
 ghost use Prim.Native.Nat.{_≤_};
 ghost use mathlib.Core.Bool.{false};
 ghost use Rattle.tables.specs.WordsHelpers.{SpellsWords};
@@ -19,7 +17,7 @@ pub fn fits(text: &[u8], load: u16, room: usize, bytes: &[u8], index: &[u16], se
     let mut address = first;
     let mut at: usize = 0;
     while at < text.len() {
-        let next = split::next_line(text, at, LineRule::AfterCr);
+        let next = text_lines::next_line(text, at, LineRule::AfterCr);
         let begin = next.begin;
         let end = next.end;
         let behind = bound_line(&text[begin..end], address, bytes, index, sets);
@@ -40,7 +38,7 @@ fn bound_line(line: &[u8], address: usize, bytes: &[u8], index: &[u16], sets: Se
     requires { ⌜ SpellsWords (now bytes) (now index) × (address ≤ 0xFFFF) ⌝ }
     ensures { λ r. ⌜ Bounded (lexicon sets) address (now (line .entry)) r ⌝ }
 {
-    match number::number_line(line) {
+    match line_numbers::number_line(line) {
         Numbering::Blank => address,
         Numbering::Missing => 0x10000,
         Numbering::OutOfRange { value: _ } => 0x10000,

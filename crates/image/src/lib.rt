@@ -1,9 +1,8 @@
 // A text, crunched to an image.
 use dialect::Dialect;
+use domain::TextCheck;
 use guess::resolve;
 use lent::Outcome;
-use lines::domain;
-use lines::domain::TextCheck;
 use readers::Line;
 use refusals::Refusal;
 use tables::sets;

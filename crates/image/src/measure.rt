@@ -3,19 +3,16 @@ use crate::LineMeasured;
 use crate::MeasuredLine;
 use crate::Options;
 use body::zero;
+use domain::TextCheck;
 use guess::resolve;
 use lent::Outcome;
-use lines::domain;
-use lines::domain::TextCheck;
-use lines::number;
-use lines::number::Numbering;
-use lines::split;
-use lines::split::LineRule;
+use line_numbers::Numbering;
 use profile::Allowed;
 use readers::Line;
 use refusals::Refusal;
 use tables::sets;
 use tables::sets::Sets;
+use text_lines::LineRule;
 ghost use mathlib.Core.Path.{_≡_};
 ghost use Prim.Native.Nat.{_≤_};
 ghost use Rattle.tables.specs.WordsHelpers.{SpellsWords};
@@ -92,7 +89,7 @@ pub fn measure(
     let mut count: usize = 0;
     let mut found = LineMeasured::NoSuchLine;
     while at < text.len() {
-        let next = split::next_line(text, at, LineRule::AfterCr);
+        let next = text_lines::next_line(text, at, LineRule::AfterCr);
         let begin = next.begin;
         let end = next.end;
         k += 1;
@@ -144,7 +141,7 @@ fn measure_line(line: &[u8], spot: Spot, bytes: &[u8], index: &[u16], sets: Sets
     ensures { λ r. ⌜ SizedAs (spot .address) (lineUnder (spot .profile) (lexicon sets) (spot .k) (spot .least) (now (line .entry))) r ⌝ }
 {
     let k = spot.k;
-    match number::number_line(line) {
+    match line_numbers::number_line(line) {
         Numbering::Blank => Sized::Blank,
         Numbering::Missing => Sized::Refused(Refusal::MissingLineNumber { line: k }),
         Numbering::OutOfRange { value } => Sized::Refused(Refusal::LineNumberOutOfRange {

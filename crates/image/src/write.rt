@@ -1,10 +1,8 @@
 // The writing pass: the image of a text that has one, in a buffer that has the room.
 use lent::Outcome;
-use lines::number;
-use lines::number::Numbering;
-use lines::split;
-use lines::split::LineRule;
+use line_numbers::Numbering;
 use tables::sets::Sets;
+use text_lines::LineRule;
 ghost use mathlib.Core.Path.{_≡_};
 ghost use Prim.Native.Nat.{_≤_};
 ghost use mathlib.Core.Bool.{false};
@@ -32,7 +30,7 @@ pub fn write(
     let mut to = put_two(out, 0, load);
     let mut at: usize = 0;
     while at < text.len() {
-        let line = split::next_line(text, at, LineRule::AfterCr);
+        let line = text_lines::next_line(text, at, LineRule::AfterCr);
         let begin = line.begin;
         let end = line.end;
         let address = first + to - 2;
@@ -62,7 +60,7 @@ fn write_line(
     requires { ⌜ SpellsWords (now bytes) (now index) × (address ≤ 0xFFFF) × Room (now out) 0 (linesBytes address (given (textLine (lexicon sets) 0 (now line)))) ⌝ }
     ensures { λ r. ⌜ Put (now (out .entry)) 0 (linesBytes address (given (textLine (lexicon sets) 0 (now (line .entry))))) r (now (out .exit)) ⌝ }
 {
-    match number::number_line(line) {
+    match line_numbers::number_line(line) {
         Numbering::Blank => 0,
         Numbering::Missing => 0,
         Numbering::OutOfRange { value: _ } => 0,

@@ -5,8 +5,7 @@ use desk::output;
 use dialect::Dialect;
 use dialect::Named;
 use libc::STDERR_FILENO;
-use lines::number;
-use number::Numbering;
+use line_numbers::Numbering;
 
 // Where the status goes that a program cannot end with.
 const STATUS_FILENO: i32 = 3;
@@ -65,7 +64,7 @@ fn misuse(word: &[u8]) -> AskedNumber {
 pub fn number(argument: usize) -> AskedNumber {
     let mut word = io::buffer();
     let n = names::name(argument, &mut word);
-    match number::number_line(&word[..n]) {
+    match line_numbers::number_line(&word[..n]) {
         Numbering::Numbered {
             number,
             body_from,

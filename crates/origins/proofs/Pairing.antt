@@ -9,12 +9,12 @@ use lib.ListN.{length, set, take, drop}
 use lib.Seq.{set-out}
 use Rattle.ascii.specs.Trim.{trim}
 use Rattle.ascii.proofs.Laws.{trim-space}
-use Rattle.lines.specs.declared.split.TextLine.{TextLine}
-use Rattle.lines.specs.declared.split.LineRule.the-variants.{AfterCr}
-use Rattle.lines.specs.SplitHelpers.{lineFrom}
-use Rattle.lines.specs.TextLines.{textLines}
-use Rattle.lines.proofs.Blanks.{blank-trimmed}
-use Rattle.lines.proofs.Splitting.{line-step, line-behind, lines-end}
+use Rattle.text_lines.specs.declared.TextLine.{TextLine}
+use Rattle.text_lines.specs.declared.LineRule.the-variants.{AfterCr}
+use Rattle.text_lines.specs.SplitHelpers.{lineFrom}
+use Rattle.text_lines.specs.TextLines.{textLines}
+use Rattle.text_lines.proofs.Blanks.{blank-trimmed}
+use Rattle.text_lines.proofs.Splitting.{line-step, line-behind, lines-end}
 use Rattle.sentences.specs.Clipped.{Clipped}
 use Rattle.sentences.proofs.Clipping.{Owes, owes-all, owes-less, owes-none, clip-as, clip-none}
 use Rattle.image.specs.Measured.{unlessBlank, nonblankFrom, nonblankLines}

@@ -1,6 +1,5 @@
 // Where the lines of an image come from: the text lines that give them, found in one pass.
-use lines::split;
-use lines::split::LineRule;
+use text_lines::LineRule;
 ghost use Prim.Native.Nat.{_≤_};
 ghost use lib.ListN.{length};
 ghost use Rattle.ascii.specs.Trim.{trim as trimOf};
@@ -31,7 +30,7 @@ pub fn origins(text: &[u8], out: &mut [usize]) -> usize
     let mut number: usize = 0;
     let mut to: usize = 0;
     while at < text.len() {
-        let next = split::next_line(text, at, LineRule::AfterCr);
+        let next = text_lines::next_line(text, at, LineRule::AfterCr);
         let begin = next.begin;
         let end = next.end;
         number += 1;

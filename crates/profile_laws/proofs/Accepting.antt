@@ -13,9 +13,9 @@ use Rattle.refusals.specs.Numbers.{Numbered, lineNumberTooHigh, notAscending, z
 use Rattle.refusals.specs.Answer.{Answer, done, refused, mapDone, andThen}
 use Rattle.ascii.specs.Bytes.{between}
 use Rattle.ascii.proofs.Ranges.{between-in}
-use Rattle.lines.specs.declared.split.LineRule.the-variants.{AfterCr}
-use Rattle.lines.specs.Domain.{checkedText}
-use Rattle.lines.specs.TextLines.{textLines}
+use Rattle.text_lines.specs.declared.LineRule.the-variants.{AfterCr}
+use Rattle.domain.specs.Domain.{checkedText}
+use Rattle.text_lines.specs.TextLines.{textLines}
 use Rattle.body.specs.Lexicon.{Lexicon}
 use Rattle.body.specs.Zero.{holdsZero}
 use Rattle.readers.specs.Links.{linkStep}

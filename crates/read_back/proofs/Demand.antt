@@ -12,11 +12,11 @@ use lib.Seq.{sets, sets-eq, take-at}
 use borrow.Author.Tests.{le-leb}
 use Rattle.refusals.specs.Answer.{Answer, done, refused, mapDone, andThen}
 use Rattle.lent.specs.Lent.{intoBuffer}
-use Rattle.lines.specs.declared.split.LineRule.the-variants.{AfterCr}
-use Rattle.lines.specs.Domain.{checkedText}
-use Rattle.lines.specs.Numbering.{ReadLine, blankLine, missingNumber, numberTooHigh, numberedText, readLine}
-use Rattle.lines.specs.TextLines.{textLines}
-use Rattle.lines.proofs.Numbers.{number-fits}
+use Rattle.text_lines.specs.declared.LineRule.the-variants.{AfterCr}
+use Rattle.domain.specs.Domain.{checkedText}
+use Rattle.line_numbers.specs.Numbering.{ReadLine, blankLine, missingNumber, numberTooHigh, numberedText, readLine}
+use Rattle.text_lines.specs.TextLines.{textLines}
+use Rattle.line_numbers.proofs.Numbers.{number-fits}
 use Rattle.body.specs.Body.{crunchedBody}
 use Rattle.body.specs.Lexicon.{Lexicon}
 use Rattle.readers.specs.NumberedBody.{NumberedBody}

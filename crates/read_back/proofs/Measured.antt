@@ -8,9 +8,9 @@ use native.Mathlib.Omega.{arith}
 use lib.ListN.{length, length-append}
 use Rattle.refusals.specs.Answer.{Answer, done, refused, mapDone, andThen}
 use Rattle.ascii.specs.Trim.{trim}
-use Rattle.lines.specs.declared.split.LineRule.the-variants.{AfterCr}
-use Rattle.lines.specs.Domain.{checkedText}
-use Rattle.lines.specs.TextLines.{textLines}
+use Rattle.text_lines.specs.declared.LineRule.the-variants.{AfterCr}
+use Rattle.domain.specs.Domain.{checkedText}
+use Rattle.text_lines.specs.TextLines.{textLines}
 use Rattle.body.specs.Lexicon.{Lexicon}
 use Rattle.readers.specs.Image.{addressAt}
 use Rattle.readers.specs.declared.Line.{Line}

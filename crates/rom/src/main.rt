@@ -16,6 +16,7 @@ fn token_of(text: &[u8], bytes: &[u8], index: &[u16]) -> u8
         tsb: false,
         demoted: [false; 123],
         basic35: true,
+        forms: false,
     };
     match matching::match_plain(text, bytes, index, sets) {
         Match::Word {

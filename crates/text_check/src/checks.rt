@@ -5,6 +5,7 @@ use crate::strange;
 use body::moves::Mode;
 use desk::result;
 use dialect::Dialect;
+use domain::TextCheck;
 use findings::braces;
 use findings::braces::Inside;
 use findings::deciding;
@@ -19,16 +20,12 @@ use guess::resolve::Resolved;
 use image::Options;
 use lent::Outcome;
 use libc::STDOUT_FILENO;
-use lines::domain;
-use lines::domain::TextCheck;
-use lines::number;
-use lines::number::Numbering;
-use lines::split;
-use lines::split::LineRule;
+use line_numbers::Numbering;
 use refusals::Refusal;
 use sentences::place;
 use sentences::place::Place;
 use tables::sets::Sets;
+use text_lines::LineRule;
 
 // What was found so far: whether there is a number before and which, whether a release would refuse the text, whether a line could not be
 // written, whether lines are to be written at all, and whether the text has bytes that no text may hold, and these alone are told.
@@ -296,7 +293,7 @@ fn check_line(tally: Tally, name: &[u8], k: usize, line: &[u8], sets: Sets) -> T
         return strange::check_line(tally, name, k, line);
     }
     let at = Place { line: k, column: 1 };
-    match number::number_line(line) {
+    match line_numbers::number_line(line) {
         Numbering::Blank => tally,
         Numbering::Missing => fault(tally, name, at, b"fault: no line number", b"", b""),
         Numbering::OutOfRange { value: _ } => fault(
@@ -327,7 +324,7 @@ fn check_lines(tally: Tally, name: &[u8], text: &[u8], sets: Sets) -> Tally {
     let mut at: usize = 0;
     let mut k: usize = 0;
     while at < text.len() {
-        let line = split::next_line(text, at, LineRule::AfterCr);
+        let line = text_lines::next_line(text, at, LineRule::AfterCr);
         k = sum(k, 1);
         t = check_line(t, name, k, cut(text, at, line.end), sets);
         at = line.next;

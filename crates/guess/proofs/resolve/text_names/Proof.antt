@@ -2,7 +2,7 @@
 -- Assumes nothing.
 use Prim.Native.Nat.{_-_}
 use lib.ListN.{length}
-use Rattle.lines.specs.TextLines.{textLines}
+use Rattle.text_lines.specs.TextLines.{textLines}
 use Rattle.guess.specs.Guess.{allNames}
 use Rattle.guess.proofs.Texts.{Gathered, gathered-start, gathered-turn, gathered-end, gathered-room, line-high, line-less, line-low}
 use borrow.Author.Needs.{needs}

@@ -1,0 +1,2 @@
+pub mod NumberHelpers
+pub mod Numbering

@@ -1,0 +1,55 @@
+-- `text_lines::next_line` meets its contract.
+-- Assumes nothing.
+use Prim.Native.Nat.{_-_}
+use native.Mathlib.Omega.{arith}
+use lib.ListN.{length}
+use Rattle.ascii.proofs.Searching.{Onward}
+use Rattle.text_lines.specs.SplitHelpers.{lineLength}
+use Rattle.text_lines.proofs.Splitting.{seeking-start, seeking-above, seeking-turn, seeking-found, seeking-end, mark-small}
+use borrow.Author.Needs.{needs}
+use Rattle.text_lines.proofs.next_line.Statement.{statement}
+use Rattle.text_lines.proofs.next_line.Tie as tie
+
+abbrev Inv-loop : tie.InvT-loop
+Inv-loop text from rule begin i₀ i = Onward (lineLength rule) text from i
+
+abbrev μ-loop : tie.MeasureT-loop
+μ-loop text from rule begin i₀ i = length text - i
+
+loop-holds : tie.Need-loop-holds Inv-loop μ-loop
+loop-holds c = search seeking-start
+
+loop-again : tie.Need-loop-again Inv-loop μ-loop
+loop-again c = search seeking-above
+
+returns : tie.Need-returns Inv-loop μ-loop
+returns c = search seeking-found
+
+loop-again-2 : tie.Need-loop-again-2 Inv-loop μ-loop
+loop-again-2 c = search seeking-turn
+
+returns-2 : tie.Need-returns-2 Inv-loop μ-loop
+returns-2 c = search seeking-end
+
+pub next-line-spec : {M : Type 1} → statement M
+next-line-spec =
+    tie.close
+    (tie.spec
+    Inv-loop
+    μ-loop
+    (λ c κs. search needs)
+    loop-holds
+    (λ c. search needs)
+    (λ c. search needs)
+    (λ c. search needs)
+    loop-again
+    (λ c. search needs)
+    (λ c. search needs)
+    (λ c. search needs)
+    (λ c κs. search needs)
+    (λ c. omega (arith, mark-small _ _ (c .before .end-mark .ensures)))
+    returns
+    (λ c. search needs)
+    (λ c. search needs)
+    loop-again-2
+    returns-2)

@@ -1,0 +1,2 @@
+pub mod SplitHelpers
+pub mod TextLines

@@ -1,0 +1,107 @@
+// The lines of a text, found where they stand: nothing is copied.
+use ascii::search;
+use ascii::search::Kind;
+ghost use mathlib.Core.Path.{_≡_};
+ghost use Prim.Native.Nat.{_+_};
+ghost use lib.ListN.{drop};
+ghost use Rattle.ascii.specs.Search.{equals, isBlank, front};
+ghost use Rattle.text_lines.specs.SplitHelpers.{endMark, lineFrom};
+
+// What ends a line.
+pub enum LineRule {
+    // LF and CR LF: the text as it is given.
+    AsGiven,
+    // LF, CR LF and a lone CR: the text as crunching reads it.
+    AfterCr,
+}
+
+// A line runs up to end, and the next one begins at next; begin stands behind the blanks in front of the line.
+pub struct TextLine {
+    pub begin: usize,
+    pub end: usize,
+    pub next: usize,
+}
+
+// How many bytes the line end in front of a text takes; 0 where there is none.
+fn end_mark(text: &[u8], rule: LineRule) -> usize
+    ensures { λ r. ⌜ r ≡ endMark rule (now (text .entry)) ⌝ }
+{
+    if search::starts_with(text, 0x0A) {
+        return 1;
+    }
+    if !search::starts_with(text, 0x0D) {
+        return 0;
+    }
+    if search::starts_with(&text[1..], 0x0A) {
+        return 2;
+    }
+    match rule {
+        LineRule::AsGiven => 0,
+        LineRule::AfterCr => 1,
+    }
+}
+
+// The place behind the run of one byte that stands from a place on.
+fn behind_run(text: &[u8], from: usize, b: u8) -> usize
+    ensures { λ r. ⌜ r ≡ from + front (equals b) (drop from (now (text .entry))) ⌝ }
+{
+    let mut i: usize = from;
+    while i < text.len() {
+        if text[i] != b {
+            return i;
+        }
+        i += 1;
+    }
+    i
+}
+
+// The place behind the blanks that stand from a place on. Most are a run of one, which is passed with one test for each byte. These
+// loops stand here, and not in `ascii::search`, because they are run for each text line.
+fn behind_blanks(text: &[u8], from: usize) -> usize
+    ensures { λ r. ⌜ r ≡ from + front isBlank (drop from (now (text .entry))) ⌝ }
+{
+    if text.len() <= from {
+        return from;
+    }
+    let first = text[from];
+    if !search::is_kind(first, Kind::Blank) {
+        return from;
+    }
+    let mut i = behind_run(text, from, first);
+    while i < text.len() {
+        if !search::is_kind(text[i], Kind::Blank) {
+            return i;
+        }
+        i += 1;
+    }
+    i
+}
+
+// The line that begins at from.
+pub fn next_line(text: &[u8], from: usize, rule: LineRule) -> TextLine
+    ensures { λ r. ⌜ r ≡ lineFrom rule (now (text .entry)) from ⌝ }
+{
+    let begin = behind_blanks(text, from);
+    let mut i = begin;
+    while i < text.len() {
+        // No byte above CR ends a line: one test for nearly each byte.
+        if text[i] > 0x0D {
+            i += 1;
+        } else {
+            let mark = end_mark(&text[i..], rule);
+            if mark > 0 {
+                return TextLine {
+                    begin,
+                    end: i,
+                    next: i + mark,
+                };
+            }
+            i += 1;
+        }
+    }
+    TextLine {
+        begin,
+        end: i,
+        next: i,
+    }
+}
