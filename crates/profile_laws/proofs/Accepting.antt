@@ -118,7 +118,7 @@ passable least (l ∷ ls) f = (record { some = f .1 .some; few = f .1 .few; none
 
 -- the same options without the profile
 abbrev plain : Options → Options
-plain o = record { load = o .load; dialect = o .dialect; profile = false }
+plain o = record { load = o .load; dialect = o .dialect; profile = false; forms = o .forms }
 
 module _ (o : Options) (text : List ℕ) {ls : List NumberedBody} (e : crunchedLines o text ≡ done ls) where
   -- "An accepted text has the same image as before"

@@ -458,6 +458,7 @@ pub fn tell_dialect(name: &[u8], text: &[u8]) -> Run {
             Dialect::Auto => named(b"auto\n"),
             Dialect::BasicV2 => named(b"basicv2\n"),
             Dialect::Tsb => named(b"tsb\n"),
+            Dialect::Basic35 => named(b"basic35\n"),
         },
         Resolved::Refused(refusal) => {
             let told = sentence::refuse(name, refusal);
