@@ -6,9 +6,11 @@
 
 use std::process::ExitCode;
 
-// The modules petscii, prg, source and tokens of the original, unchanged.
+// The modules petscii, prg, source and tokens of the original, unchanged; and formed, which asks the judge's model of short forms and is not measured.
 include!(concat!(env!("OUT_DIR"), "/original.rs"));
 
+#[path = "../../oracle/src/forms.rs"]
+mod forms;
 mod growth;
 mod hostile;
 mod lifelike;
