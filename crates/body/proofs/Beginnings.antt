@@ -20,8 +20,8 @@ use Rattle.words.proofs.Sameness.{T-true}
 use Rattle.tables.specs.Rom.{v2Words, operators as operatorWords}
 use Rattle.tables.specs.Tsb.{tsbWords}
 use Rattle.tables.specs.Basic35.{basic35Words}
-use Rattle.tables.specs.Sets.{isDemoted, isLive, liveWord, plainWords, plainWord}
-use Rattle.tables.specs.declared.sets.Sets.{Sets}
+use Rattle.matching.specs.Sets.{isDemoted, isLive, liveWord, plainWords, plainWord}
+use Rattle.matching.specs.declared.sets.Sets.{Sets}
 use Rattle.body.specs.Lexicon.{Lexicon, lexicon}
 use Rattle.body.specs.Steps.{first}
 

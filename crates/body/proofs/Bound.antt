@@ -20,10 +20,10 @@ use Rattle.words.specs.declared.Match.the-variants.{Word, Nothing}
 use Rattle.words.proofs.Search.{and-left, and-right}
 use Rattle.tables.specs.Rom.{v2Words}
 use Rattle.tables.specs.Tsb.{tsbWords}
-use Rattle.tables.specs.Sets.{isDemoted, isLive, liveWord, plainWord}
+use Rattle.matching.specs.Sets.{isDemoted, isLive, liveWord, plainWord}
 use Rattle.forms.specs.Forms.{formWord}
 use Rattle.forms.proofs.Standing.{form-takes}
-use Rattle.tables.specs.declared.sets.Sets.{Sets}
+use Rattle.matching.specs.declared.sets.Sets.{Sets}
 use Rattle.escapes.specs.Escape.{escapeOf}
 use Rattle.escapes.specs.declared.Escape.{Escape}
 use Rattle.escapes.specs.declared.Escape.the-variants.{Byte, Unknown}

@@ -12,7 +12,7 @@ use Rattle.ascii.specs.Bytes.{upper, between, isLetter}
 use Rattle.words.specs.Find.{wordIn}
 use Rattle.words.specs.declared.Match.{Match}
 use Rattle.words.specs.declared.Match.the-variants.{Word, Nothing}
-use Rattle.tables.specs.Sets.{liveWord, plainWord}
+use Rattle.matching.specs.Sets.{liveWord, plainWord}
 use Rattle.forms.specs.Forms.{formWord}
 use Rattle.forms.proofs.Standing.{form-letter}
 use Rattle.body.specs.Lexicon.{Lexicon}

@@ -17,7 +17,7 @@ use Rattle.escapes.specs.Escape.{escapeOf}
 use Rattle.ascii.specs.Search.{equals, before}
 use Rattle.escapes.specs.declared.Escape.{Escape}
 use Rattle.escapes.specs.declared.Escape.the-variants.{Byte, Unknown}
-use Rattle.tables.specs.Sets.{liveWord, plainWord}
+use Rattle.matching.specs.Sets.{liveWord, plainWord}
 use Rattle.forms.specs.Forms.{formWord}
 use Rattle.forms.proofs.Standing.{form-takes}
 use Rattle.body.specs.Lexicon.{Lexicon}

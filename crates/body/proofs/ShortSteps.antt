@@ -18,7 +18,7 @@ use Rattle.words.specs.declared.Test.the-variants.{Begins}
 use Rattle.words.specs.declared.Match.{Match}
 use Rattle.words.specs.declared.Match.the-variants.{Word, Nothing}
 use Rattle.tables.specs.Rom.{operators}
-use Rattle.tables.specs.declared.sets.Sets.{Sets}
+use Rattle.matching.specs.declared.sets.Sets.{Sets}
 use Rattle.body.specs.Lexicon.{lexicon}
 use Rattle.body.specs.ShortHelpers.{isShort, plainByte, shortByte, shortMode, isLong, longStep}
 use Rattle.body.specs.Steps.{first, one, token, otherStep, plainStep, lettered, stringByte, stringStep, dataStep, dataQuoteStep, crunchStep}

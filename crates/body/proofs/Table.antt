@@ -14,9 +14,9 @@ use Rattle.words.specs.Spelling.{bytesOf}
 use Rattle.tables.specs.Escapes.{escapeNames}
 use Rattle.keyboard.specs.KeyCodes.{cbmLetters, ctrlDigits}
 use Rattle.tables.specs.Rom.{v2Words, operators}
-use Rattle.tables.specs.Sets.{liveWord, plainWord}
+use Rattle.matching.specs.Sets.{liveWord, plainWord}
 use Rattle.tables.specs.Basic35.{basic35Words}
-use Rattle.tables.specs.declared.sets.Sets.{Sets}
+use Rattle.matching.specs.declared.sets.Sets.{Sets}
 use Rattle.tables.specs.Tsb.{tsbWords}
 use Rattle.escapes.specs.Numbers.{digitOf, numberAfter, numberOf, hexOf, unsigned, countOf}
 use Rattle.escapes.specs.Keys.{keyNames, controlByte, keyWith, keyed, keyEscape}

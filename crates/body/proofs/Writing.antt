@@ -14,7 +14,7 @@ use mir.Val.{Fits}
 use Rattle.lent.specs.Stores.{Room, Put}
 use Rattle.lent.proofs.Storing.{put-long, put-as, room-as, room-first, room-second, put-both, put-none}
 use Rattle.body.specs.Body.{prefixOf, written, crunchedFrom, crunchedBody}
-use Rattle.tables.specs.declared.sets.Sets.{Sets}
+use Rattle.matching.specs.declared.sets.Sets.{Sets}
 use Rattle.body.specs.Lexicon.{Lexicon, lexicon}
 use Rattle.body.specs.ShortHelpers.{isShort, shortByte, shortMode, isLong, longStep}
 use Rattle.body.specs.Steps.{first, one, crunchStep}

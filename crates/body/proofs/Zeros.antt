@@ -10,7 +10,7 @@ use lib.ListN.{length, getD, drop, replicate, drop-of-length-le}
 use borrow.Author.Tests.{eq-eqb, ne-eqb}
 use mir.Syntax.{w64}
 use mir.Val.{Fits}
-use Rattle.tables.specs.declared.sets.Sets.{Sets}
+use Rattle.matching.specs.declared.sets.Sets.{Sets}
 use Rattle.body.specs.Body.{prefixOf, written, crunchedFrom, crunchedBody}
 use Rattle.body.specs.Lexicon.{Lexicon, lexicon}
 use Rattle.body.specs.ShortHelpers.{isShort, shortByte, shortMode}

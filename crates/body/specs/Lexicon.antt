@@ -6,7 +6,7 @@ use Rattle.words.specs.Find.{Entry}
 use Rattle.tables.specs.Rom.{v2Words, operators as operatorWords}
 use Rattle.tables.specs.Tsb.{tsbWords}
 use Rattle.tables.specs.Basic35.{basic35Words}
-use Rattle.tables.specs.declared.sets.Sets.{Sets}
+use Rattle.matching.specs.declared.sets.Sets.{Sets}
 
 -- the TSB words, and which of them are live and demoted; the V2 words, those of BASIC 3.5, and whether these are looked for; and the
 -- operators

@@ -5,7 +5,7 @@ use crate::moves::Move;
 use crate::short;
 use crate::step;
 use crate::string;
-use tables::sets::Sets;
+use matching::sets::Sets;
 ghost use mathlib.Core.Path.{_≡_};
 ghost use Prim.Native.Nat.{_<_};
 ghost use lib.ListN.{length};

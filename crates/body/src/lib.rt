@@ -3,7 +3,7 @@ use crate::moves::Mode;
 use crate::moves::Move;
 use ascii::search;
 use ascii::search::Kind;
-use tables::sets::Sets;
+use matching::sets::Sets;
 ghost use mathlib.Core.Path.{_≡_};
 ghost use Prim.Native.Nat.{_+_, _≤_, _<_, min};
 ghost use lib.ListN.{length, replicate};

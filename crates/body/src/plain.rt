@@ -2,8 +2,7 @@
 use crate::moves;
 use crate::moves::Mode;
 use crate::moves::Move;
-use tables::matching;
-use tables::sets::Sets;
+use matching::sets::Sets;
 use words::Match;
 ghost use mathlib.Core.Path.{_≡_};
 ghost use mathlib.Core.Bool.{true, false};

@@ -3,7 +3,7 @@ use crate::moves::Move;
 use crate::plain;
 use crate::string;
 use crate::string::Span;
-use tables::sets::Sets;
+use matching::sets::Sets;
 ghost use mathlib.Core.Path.{_≡_};
 ghost use mathlib.Core.Bool.{true};
 ghost use Prim.Native.Nat.{_<_};

@@ -4,7 +4,7 @@ use crate::moves::Move;
 use crate::short;
 use crate::step;
 use crate::string;
-use tables::sets::Sets;
+use matching::sets::Sets;
 ghost use mathlib.Core.Path.{_≡_};
 ghost use Rattle.tables.specs.WordsHelpers.{SpellsWords};
 ghost use Rattle.body.specs.Body.{written, crunchedBody};

@@ -11,6 +11,6 @@ pub fn dialect_by_name(word: &[u8]) -> bool {
 }
 
 pub fn is_tsb_word(word: &[u8]) -> bool {
-    let is_one = tables::tsb::is_tsb_keyword_name(word);
+    let is_one = matching::tsb::is_tsb_keyword_name(word);
     Answer::done().byte(is_one as u8).send()
 }

@@ -3,7 +3,6 @@ use crate::numbers::Number;
 use ascii::search;
 use ascii::search::Found;
 use ascii::search::Kind;
-use tables::matching;
 use tables::spellings;
 use words::Match;
 ghost use mathlib.Core.Path.{_≡_};

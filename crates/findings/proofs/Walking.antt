@@ -13,7 +13,7 @@ use mir.Val.{Fits}
 use Rattle.steps.proofs.Nearer.{Nearer, again-on}
 use Rattle.ascii.proofs.Searching.{tail}
 use Rattle.ascii.proofs.Choice.{taken, left}
-use Rattle.tables.specs.declared.sets.Sets.{Sets}
+use Rattle.matching.specs.declared.sets.Sets.{Sets}
 use Rattle.body.specs.Lexicon.{Lexicon, lexicon}
 use Rattle.body.specs.Steps.{crunchStep}
 use Rattle.body.specs.declared.moves.Mode.{Mode}

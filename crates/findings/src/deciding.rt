@@ -2,7 +2,7 @@
 use dialect::Dialect;
 use guess::resolve;
 use guess_scans::evidence;
-use tables::sets::Sets;
+use matching::sets::Sets;
 use tables::spellings;
 use text_lines::LineRule;
 ghost use mathlib.Core.Path.{_≡_};

@@ -2,7 +2,7 @@
 use body::at;
 use body::moves::Mode;
 use body::moves::Move;
-use tables::sets::Sets;
+use matching::sets::Sets;
 use tables::spellings;
 ghost use mathlib.Core.Path.{_≡_};
 ghost use Rattle.tables.specs.WordsHelpers.{SpellsWords};

@@ -26,8 +26,8 @@ use Rattle.tables.specs.Rom.{v2Words}
 use Rattle.tables.specs.Tsb.{tsbWords}
 use Rattle.forms.specs.Forms.{isSmall, isCapital, lettersOf, formLetters, standsFor, wordFor, shortForm, tsbThere, formWord}
 use Rattle.tables.specs.WordsHelpers.{capitals}
-use Rattle.tables.specs.declared.sets.Sets.{Sets}
-use Rattle.tables.proofs.Storage.{first-capitals}
+use Rattle.matching.specs.declared.sets.Sets.{Sets}
+use Rattle.matching.proofs.Storage.{first-capitals}
 
 -- ---- the letters
 

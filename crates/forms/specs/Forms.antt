@@ -14,7 +14,7 @@ use Rattle.words.specs.Find.{Entry, firstThat, matchIn, wordIn}
 use Rattle.words.specs.declared.Match.{Match}
 use Rattle.words.specs.declared.Match.the-variants.{Word, Nothing}
 use Rattle.words.specs.declared.Test.the-variants.{Shortens}
-use Rattle.tables.specs.declared.sets.Sets.{Sets}
+use Rattle.matching.specs.declared.sets.Sets.{Sets}
 
 abbrev pub isSmall : ℕ → Bool
 isSmall b = between 97 122 b

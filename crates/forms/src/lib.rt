@@ -1,7 +1,6 @@
 // Short forms of V2 words: small letters and a capital behind them.
-use tables::matching;
-use tables::matching::WordList;
-use tables::sets::Sets;
+use matching::sets::Sets;
+use tables::WordList;
 use words::Match;
 use words::Test;
 ghost use mathlib.Core.Path.{_≡_};

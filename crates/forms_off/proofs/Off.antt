@@ -11,8 +11,8 @@ use Rattle.steps.specs.Again.{again}
 use Rattle.refusals.specs.Answer.{Answer, done, refused, mapDone, andThen}
 use Rattle.words.specs.declared.Match.{Match}
 use Rattle.words.specs.declared.Match.the-variants.{Word, Nothing}
-use Rattle.tables.specs.Sets.{liveWord, plainWord, withForms}
-use Rattle.tables.specs.declared.sets.Sets.{Sets}
+use Rattle.matching.specs.Sets.{liveWord, plainWord, withForms}
+use Rattle.matching.specs.declared.sets.Sets.{Sets}
 use Rattle.forms.proofs.Standing.{form-off}
 use Rattle.dialect.specs.declared.Dialect.{Dialect}
 use Rattle.dialect.specs.declared.Dialect.the-variants.{Auto, BasicV2, Tsb, Basic35}

@@ -10,7 +10,7 @@ use Rattle.steps.specs.Again.{again}
 use Rattle.refusals.specs.Answer.{Answer, done, refused, mapDone, andThen}
 use Rattle.refusals.specs.Numbers.{missingLineNumber, lineNumberOutOfRange}
 use Rattle.words.specs.declared.Match.the-variants.{Word, Nothing}
-use Rattle.tables.specs.Sets.{liveWord, plainWord}
+use Rattle.matching.specs.Sets.{liveWord, plainWord}
 use Rattle.dialect.specs.declared.Dialect.{Dialect}
 use Rattle.text_lines.specs.declared.LineRule.the-variants.{AfterCr}
 use Rattle.domain.specs.Domain.{checkedText}

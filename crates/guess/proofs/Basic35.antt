@@ -10,7 +10,7 @@ use Rattle.refusals.specs.Answer.{Answer, done, refused, andThen}
 use Rattle.dialect.specs.Dialects.{isBasic35}
 use Rattle.dialect.specs.declared.Dialect.{Dialect}
 use Rattle.dialect.specs.declared.Dialect.the-variants.{Auto, BasicV2, Tsb, Basic35}
-use Rattle.tables.specs.declared.sets.Sets.{Sets}
+use Rattle.matching.specs.declared.sets.Sets.{Sets}
 use Rattle.domain.specs.Domain.{checkedText}
 use Rattle.text_lines.specs.declared.LineRule.the-variants.{AsGiven, AfterCr}
 use Rattle.guess.specs.Guess.{evidence, noneDemoted, guessedDialect, resolved, wordSets}

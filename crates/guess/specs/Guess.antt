@@ -9,7 +9,7 @@ use lib.ListN.{replicate}
 use Rattle.refusals.specs.Answer.{Answer, done, refused, numbered, andThen}
 use Rattle.dialect.specs.declared.Dialect.{Dialect}
 use Rattle.dialect.specs.declared.Dialect.the-variants.{Auto, BasicV2, Tsb, Basic35}
-use Rattle.tables.specs.declared.sets.Sets.{Sets}
+use Rattle.matching.specs.declared.sets.Sets.{Sets}
 use Rattle.domain.specs.Domain.{checkedText}
 use Rattle.text_lines.specs.TextLines.{textLines}
 use Rattle.text_lines.specs.declared.LineRule.{LineRule}

@@ -23,7 +23,7 @@ pub fn tsb_word(text: &[u8], bytes: &[u8], index: &[u16]) -> Match
         return Match::Nothing;
     }
     if ascii::is_letter(text[0]) {
-        return tables::matching::match_tsb(text, bytes, index);
+        return matching::match_tsb(text, bytes, index);
     }
     Match::Nothing
 }

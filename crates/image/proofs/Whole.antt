@@ -15,8 +15,8 @@ use Rattle.lent.specs.Stores.{HasRoom}
 use Rattle.lent.specs.declared.Outcome.{Outcome}
 use Rattle.lent.specs.declared.Outcome.the-variants.{Done, Refused}
 use Rattle.lent.proofs.Outcomes.{told-outcome, has-room, into-refused, into-none}
-use Rattle.tables.specs.Sets.{withForms}
-use Rattle.tables.specs.declared.sets.Sets.{Sets}
+use Rattle.matching.specs.Sets.{withForms}
+use Rattle.matching.specs.declared.sets.Sets.{Sets}
 use Rattle.domain.specs.declared.TextCheck.{TextCheck}
 use Rattle.domain.specs.declared.TextCheck.the-variants.{Fine, Refused as Check·Refused}
 use Rattle.text_lines.specs.declared.LineRule.the-variants.{AfterCr}

@@ -8,7 +8,7 @@ use mathlib.Core.List.{List, [], _∷_, _++_}
 use lib.Dec.{leb}
 use Rattle.refusals.specs.Answer.{Answer, done, refused, mapDone, andThen}
 use Rattle.refusals.specs.Numbers.{missingLineNumber, lineNumberOutOfRange, addressOverflow}
-use Rattle.tables.specs.Sets.{withForms}
+use Rattle.matching.specs.Sets.{withForms}
 use Rattle.text_lines.specs.declared.LineRule.the-variants.{AfterCr}
 use Rattle.domain.specs.Domain.{checkedText}
 use Rattle.line_numbers.specs.Numbering.{ReadLine, blankLine, missingNumber, numberTooHigh, numberedText, readLine}

@@ -1,6 +1,6 @@
 // A bound of an image's length, found without going through the bodies that have no }.
 use line_numbers::Numbering;
-use tables::sets::Sets;
+use matching::sets::Sets;
 use text_lines::LineRule;
 ghost use Prim.Native.Nat.{_≤_};
 ghost use mathlib.Core.Bool.{false};

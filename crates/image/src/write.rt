@@ -1,7 +1,7 @@
 // The writing pass: the image of a text that has one, in a buffer that has the room.
 use lent::Outcome;
 use line_numbers::Numbering;
-use tables::sets::Sets;
+use matching::sets::Sets;
 use text_lines::LineRule;
 ghost use mathlib.Core.Path.{_≡_};
 ghost use Prim.Native.Nat.{_≤_};

@@ -2,8 +2,7 @@
 // 3.5, in hexadecimal, and the text that listing gives the token there. What it must print are the published tables, facts/rom-words.tsv and
 // facts/basic35-words.tsv.
 use libc::STDOUT_FILENO;
-use tables::matching;
-use tables::sets::Sets;
+use matching::sets::Sets;
 use tables::spellings;
 use words::Match;
 ghost use Rattle.tables.specs.WordsHelpers.{SpellsWords};

@@ -1,5 +1,4 @@
--- The two tables of words as the lists give them, group by group; such tables spell the lists. So the stored constants do, which are these
--- tables.
+-- The two tables of words as the lists give them spell the lists. So the stored constants do, which are these tables.
 -- Assumes nothing.
 use Prim.Native.Nat.{ℕ, zero, suc, _+_, _-_, _*_, _≤_, _<_}
 use mathlib.Core.Path.{_≡_, refl, sym, ap, _∙_}
@@ -12,110 +11,92 @@ use lib.Seq.{drop-cons, getD-append-add}
 use Rattle.ascii.specs.Bytes.{between}
 use Rattle.ascii.proofs.Ranges.{between-in}
 use Rattle.words.specs.Find.{Entry}
-use Rattle.words.specs.RunHelpers.{Lies, wordOf}
-use Rattle.words.proofs.Runs.{joined, starts, length-starts, part, run-lies, run-word}
+use Rattle.words.specs.RunHelpers.{Lies, joined, starts, wordOf}
+use Rattle.words.proofs.Runs.{length-starts, part, run-lies, run-word}
 use Rattle.tables.specs.Rom.{v2Words, operators}
 use Rattle.tables.specs.Tsb.{tsbWords}
 use Rattle.tables.specs.Escapes.{escapeNames}
 use Rattle.tables.specs.Basic35.{basic35Words}
 use Rattle.tables.specs.WordsHelpers.{Placed, capitals, grouped, storedWords, groupsOf, groupAt, wordsOf, SpellsWords}
-use Rattle.tables.specs.declared.matching.WordList.{WordList}
-use Rattle.tables.specs.declared.matching.WordList.the-variants.{V2, Operators, Tsb, Escapes, Basic35}
-use Rattle.tables.proofs.Groups.{none-grouped}
-use Rattle.tables.proofs.Storage.{ranged-list, groups-within}
+use Rattle.tables.specs.StoredHelpers.{spelt, tokens, places, bytesLaid, indexLaid, groupsFrom, groupsIn, lists, allGroups}
+use Rattle.tables.specs.declared.WordList.{WordList}
+use Rattle.tables.specs.declared.WordList.the-variants.{V2, Operators, Tsb, Escapes, Basic35}
+use Rattle.tables.proofs.Ranged.{none-grouped, ranged-list, groups-within}
+unfoldable pub use Rattle.tables.specs.StoredHelpers.{wordBytes, wordIndex}
 
 -- ---- groups of words as two tables
 
 module _ (gs : List (List Placed)) where
-  abbrev pub spelt : List (List ℕ)
-  spelt = map (λ x. x .word) (joined gs)
-
-  abbrev pub tokens : List ℕ
-  tokens = map (λ x. x .token) (joined gs)
-
-  abbrev pub places : List ℕ
-  places = map (λ x. x .place) (joined gs)
-
-  -- the words, and behind them their tokens
-  unfoldable pub bytesLaid : List ℕ
-  unfolding joined
-  bytesLaid = joined spelt ++ tokens
-
-  -- the starts of the words, their places in the lists, the starts of the groups
-  unfoldable pub indexLaid : List ℕ
-  unfolding joined starts
-  indexLaid = starts 0 spelt ++ (places ++ starts 0 gs)
-
   -- 361 words of 1727 bytes in 320 groups
-  module _ (many : length (joined gs) ≡ 361) (long : length (joined spelt) ≡ 1727) (all : length gs ≡ 320) where
-    spelt-many : length spelt ≡ 361
+  module _ (many : length (joined gs) ≡ 361) (long : length (joined (spelt gs)) ≡ 1727) (all : length gs ≡ 320) where
+    spelt-many : length (spelt gs) ≡ 361
     spelt-many = length-map (joined gs) (λ x. x .word) ∙ many
 
-    places-many : length places ≡ 361
+    places-many : length (places gs) ≡ 361
     places-many = length-map (joined gs) (λ x. x .place) ∙ many
 
-    starts-many : length (starts 0 spelt) ≡ 362
-    starts-many = length-starts 0 spelt ∙ ap (λ (n : ℕ). n + 1) spelt-many
+    starts-many : length (starts 0 (spelt gs)) ≡ 362
+    starts-many = length-starts 0 (spelt gs) ∙ ap (λ (n : ℕ). n + 1) spelt-many
 
-    pub bytes-long : 2088 ≤ length bytesLaid
+    pub bytes-long : 2088 ≤ length (bytesLaid gs)
     unfolding bytesLaid
-    bytes-long = omega (arith, length-append (joined spelt) tokens, long, length-map (joined gs) (λ x. x .token), many)
+    bytes-long = omega (arith, length-append (joined (spelt gs)) (tokens gs), long, length-map (joined gs) (λ x. x .token), many)
 
-    pub index-long : 1044 ≤ length indexLaid
+    pub index-long : 1044 ≤ length (indexLaid gs)
     unfolding indexLaid
     index-long =
-        omega (arith, length-append (starts 0 spelt) (places ++ starts 0 gs), length-append places (starts 0 gs), starts-many, places-many, length-starts 0 gs, all)
+        omega (arith, length-append (starts 0 (spelt gs)) ((places gs) ++ starts 0 gs), length-append (places gs) (starts 0 gs), starts-many, places-many, length-starts 0 gs, all)
 
-    pub words-lie : (k : ℕ) → k < 361 → Lies bytesLaid indexLaid k
+    pub words-lie : (k : ℕ) → k < 361 → Lies (bytesLaid gs) (indexLaid gs) k
     unfolding bytesLaid indexLaid
-    words-lie k h = run-lies spelt tokens (places ++ starts 0 gs) k (omega (arith, spelt-many))
+    words-lie k h = run-lies (spelt gs) (tokens gs) ((places gs) ++ starts 0 gs) k (omega (arith, spelt-many))
 
     no-word : Placed
     no-word = record { place = 0; word = []; token = 0 }
 
     module _ (i : ℕ) (h : i < 361) where
-      word-is : wordOf bytesLaid indexLaid i ≡ getD (joined gs) i no-word .word
+      word-is : wordOf (bytesLaid gs) (indexLaid gs) i ≡ getD (joined gs) i no-word .word
       unfolding bytesLaid indexLaid no-word
-      word-is = run-word spelt tokens (places ++ starts 0 gs) i (omega (arith, spelt-many)) ∙ List·getD-map (λ x. x .word) (joined gs) i no-word
+      word-is = run-word (spelt gs) (tokens gs) ((places gs) ++ starts 0 gs) i (omega (arith, spelt-many)) ∙ List·getD-map (λ x. x .word) (joined gs) i no-word
 
-      token-is : getD bytesLaid (1727 + i) 0 ≡ getD (joined gs) i no-word .token
+      token-is : getD (bytesLaid gs) (1727 + i) 0 ≡ getD (joined gs) i no-word .token
       unfolding bytesLaid no-word
-      token-is = rw (← long) (getD-append-add (joined spelt) tokens i 0) ∙ List·getD-map (λ x. x .token) (joined gs) i no-word
+      token-is = rw (← long) (getD-append-add (joined (spelt gs)) (tokens gs) i 0) ∙ List·getD-map (λ x. x .token) (joined gs) i no-word
 
-      place-is : getD indexLaid (362 + i) 0 ≡ getD (joined gs) i no-word .place
+      place-is : getD (indexLaid gs) (362 + i) 0 ≡ getD (joined gs) i no-word .place
       unfolding indexLaid no-word
       place-is =
-          rw (← starts-many) (getD-append-add (starts 0 spelt) (places ++ starts 0 gs) i 0)
-          ∙ List·getD-append places (starts 0 gs) 0 i (omega (arith, places-many)) ∙ List·getD-map (λ x. x .place) (joined gs) i no-word
+          rw (← starts-many) (getD-append-add (starts 0 (spelt gs)) ((places gs) ++ starts 0 gs) i 0)
+          ∙ List·getD-append (places gs) (starts 0 gs) 0 i (omega (arith, places-many)) ∙ List·getD-map (λ x. x .place) (joined gs) i no-word
 
-    stored-is : (n i : ℕ) → i + n ≤ 361 → storedWords bytesLaid indexLaid i n ≡ take n (drop i (joined gs))
+    stored-is : (n i : ℕ) → i + n ≤ 361 → storedWords (bytesLaid gs) (indexLaid gs) i n ≡ take n (drop i (joined gs))
     unfolding storedWords
     stored-is zero i h = refl
     stored-is (suc n) i h =
         let l : i < 361 = omega arith in
-        let rest : storedWords bytesLaid indexLaid (suc i) n ≡ take n (drop (suc i) (joined gs)) = stored-is n (suc i) (omega arith) in
+        let rest : storedWords (bytesLaid gs) (indexLaid gs) (suc i) n ≡ take n (drop (suc i) (joined gs)) = stored-is n (suc i) (omega arith) in
         let d : drop i (joined gs) ≡ getD (joined gs) i no-word ∷ drop (suc i) (joined gs) = drop-cons (joined gs) i no-word (omega (arith, many)) in
         rw (d, word-is i l, token-is i l, place-is i l, rest)
 
-    start-is : (m : ℕ) {n : ℕ} → n ≡ 723 + m → getD indexLaid n 0 ≡ getD (starts 0 gs) m 0
+    start-is : (m : ℕ) {n : ℕ} → n ≡ 723 + m → getD (indexLaid gs) n 0 ≡ getD (starts 0 gs) m 0
     unfolding indexLaid
     start-is m {n} e =
-        let f : n ≡ length (starts 0 spelt) + (length places + m) = omega (arith, starts-many, places-many) in
-        ap (λ (k : ℕ). getD indexLaid k 0) f ∙ getD-append-add (starts 0 spelt) (places ++ starts 0 gs) (length places + m) 0 ∙ getD-append-add places (starts 0 gs) m 0
+        let f : n ≡ length (starts 0 (spelt gs)) + (length (places gs) + m) = omega (arith, starts-many, places-many) in
+        ap (λ (k : ℕ). getD (indexLaid gs) k 0) f ∙ getD-append-add (starts 0 (spelt gs)) ((places gs) ++ starts 0 gs) (length (places gs) + m) 0 ∙ getD-append-add (places gs) (starts 0 gs) m 0
 
     -- group m lies between two starts that stand side by side in the index
     pub record Lying (m from to : ℕ) : Type 0 where
       pub up : from ≤ to
       pub end : to ≤ 361
-      pub is : storedWords bytesLaid indexLaid from (to - from) ≡ getD gs m []
+      pub is : storedWords (bytesLaid gs) (indexLaid gs) from (to - from) ≡ getD gs m []
 
-    pub lying : (m n : ℕ) → m < 320 → n ≡ 723 + m → Lying m (getD indexLaid n 0) (getD indexLaid (n + 1) 0)
+    pub lying : (m n : ℕ) → m < 320 → n ≡ 723 + m → Lying m (getD (indexLaid gs) n 0) (getD (indexLaid gs) (n + 1) 0)
     lying m n h e =
         let p = part 0 gs m (omega (arith, all)) in
         let s : ℕ = getD (starts 0 gs) m 0 in
         let c : ℕ = length (getD gs m []) in
-        let from : getD indexLaid n 0 ≡ s = start-is m e in
-        let to : getD indexLaid (n + 1) 0 ≡ s + c = start-is (suc m) (omega arith) ∙ p .next in
+        let from : getD (indexLaid gs) n 0 ≡ s = start-is m e in
+        let to : getD (indexLaid gs) (n + 1) 0 ≡ s + c = start-is (suc m) (omega arith) ∙ p .next in
         let long : s + c - s ≡ c = omega arith in
         let z : s - 0 ≡ s = omega arith in
         rw (from, to) (record {
@@ -125,12 +106,6 @@ module _ (gs : List (List Placed)) where
         })
 
 -- ---- the groups of the lists
-
--- the groups of a list's words, n of them, from byte b on
-unfoldable pub groupsFrom : ℕ → ℕ → List Entry → List (List Placed)
-unfolding grouped
-groupsFrom b zero es = []
-groupsFrom b (suc n) es = grouped b 0 es ∷ groupsFrom (suc b) n es
 
 group-from : (es : List Entry) (n b i : ℕ) {c : ℕ} → c ≡ b + i → i < n → getD (groupsFrom b n es) i [] ≡ grouped c 0 es
 unfolding groupsFrom
@@ -142,11 +117,6 @@ groups-many : (es : List Entry) (n b : ℕ) → length (groupsFrom b n es) ≡ n
 unfolding groupsFrom
 groups-many es zero b = refl
 groups-many es (suc n) b = ap suc (groups-many es n (suc b))
-
--- the groups of some lists, one list behind the other
-abbrev pub groupsIn : List WordList → List (List Placed)
-groupsIn [] = []
-groupsIn (l ∷ ls) = groupsFrom 32 64 (capitals (wordsOf l)) ++ groupsIn ls
 
 -- group i of list j of them
 group-in : (ls : List WordList) (j i m : ℕ) → m ≡ 64 * j + i → i < 64 → j < length ls → getD (groupsIn ls) m [] ≡ getD (groupsFrom 32 64 (capitals (wordsOf (getD ls j V2)))) i []
@@ -160,12 +130,6 @@ group-in (l ∷ ls) (suc j) i m e h k =
     let f : m ≡ length gs + (64 * j + i) = omega (arith, groups-many (capitals (wordsOf l)) 64 32) in
     ap (λ (n : ℕ). getD (gs ++ groupsIn ls) n []) f ∙ getD-append-add gs (groupsIn ls) (64 * j + i) [] ∙ group-in ls j i (64 * j + i) refl h (le-of-suc-le-suc k)
 
-abbrev lists : List WordList
-lists = V2 ∷ Operators ∷ Tsb ∷ Escapes ∷ Basic35 ∷ []
-
-abbrev pub allGroups : List (List Placed)
-allGroups = groupsIn lists
-
 -- group i of a list is group m of all
 among-all : (l : WordList) (i m : ℕ) → i < 64 → 723 + m ≡ groupsOf l + i → getD allGroups m [] ≡ getD (groupsFrom 32 64 (capitals (wordsOf l))) i []
 among-all V2 i m h e = group-in lists 0 i m (omega arith) h (omega arith)
@@ -175,14 +139,6 @@ among-all Escapes i m h e = group-in lists 3 i m (omega arith) h (omega arith)
 among-all Basic35 i m h e = group-in lists 4 i m (omega arith) h (omega arith)
 
 -- ---- the tables
-
-unfoldable pub wordBytes : List ℕ
-unfolding bytesLaid groupsFrom capitals v2Words operators tsbWords escapeNames basic35Words
-wordBytes = bytesLaid allGroups
-
-unfoldable pub wordIndex : List ℕ
-unfolding indexLaid groupsFrom capitals v2Words operators tsbWords escapeNames basic35Words
-wordIndex = indexLaid allGroups
 
 many : length (joined allGroups) ≡ 361
 unfolding wordBytes

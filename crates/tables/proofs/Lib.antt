@@ -1,7 +1,4 @@
-pub mod Both
-pub mod Groups
 pub mod Laid
 pub mod Lists
-pub mod Living
-pub mod Storage
+pub mod Ranged
 pub mod TsbTest

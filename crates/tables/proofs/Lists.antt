@@ -2,7 +2,7 @@
 -- itself; so in each the first match is the longest (document 01, "Crunching one body"; document 02, No. 5).
 -- Assumes nothing.
 use Prim.Native.Nat.{ℕ}
-use mathlib.Core.Bool.{Bool, true, false, cond}
+use mathlib.Core.Bool.{true, false}
 use mathlib.Core.List.{List, _++_}
 use lib.Dec.{T}
 use Rattle.ascii.specs.Bytes.{between, upper}
@@ -13,8 +13,6 @@ use Rattle.words.proofs.Order.{longest-in}
 use Rattle.tables.specs.Rom.{v2Words}
 use Rattle.tables.specs.Tsb.{tsbWords}
 use Rattle.tables.specs.Basic35.{basic35Words}
-use Rattle.tables.specs.Sets.{plainWords, plainWord}
-use Rattle.tables.specs.declared.sets.Sets.{Sets}
 
 pub v2-ordered : T (ordered v2Words)
 unfolding ordered beginsNone begins upper between v2Words
@@ -40,12 +38,3 @@ tsb-longest = longest-in tsbWords tsb-ordered
 
 pub basic35-longest : (text : List ℕ) → Longest basic35Words text (wordIn basic35Words text)
 basic35-longest = longest-in basic35Words basic35-ordered
-
--- what is taken in plain mode: of all words of the V2 list, and under BASIC 3.5 of both lists, that the text begins with, none is longer
-pub plain-longest : (s : Sets) (text : List ℕ) → Longest (plainWords s v2Words basic35Words) text (plainWord s v2Words basic35Words text)
-unfolding plainWord
-plain-longest s text = longest-in (plainWords s v2Words basic35Words) (keeps (s .basic35)) text
-  where
-    keeps : (own : Bool) → T (ordered (cond own (v2Words ++ basic35Words) v2Words))
-    keeps true = both-ordered
-    keeps false = v2-ordered

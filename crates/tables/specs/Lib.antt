@@ -1,6 +1,6 @@
 pub mod Basic35
 pub mod Escapes
 pub mod Rom
-pub mod Sets
+pub mod StoredHelpers
 pub mod Tsb
 pub mod WordsHelpers

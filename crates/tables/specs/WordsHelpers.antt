@@ -17,8 +17,8 @@ use Rattle.tables.specs.Rom.{v2Words, operators}
 use Rattle.tables.specs.Tsb.{tsbWords}
 use Rattle.tables.specs.Escapes.{escapeNames}
 use Rattle.tables.specs.Basic35.{basic35Words}
-use Rattle.tables.specs.declared.matching.WordList.{WordList}
-use Rattle.tables.specs.declared.matching.WordList.the-variants.{V2, Operators, Tsb, Escapes, Basic35}
+use Rattle.tables.specs.declared.WordList.{WordList}
+use Rattle.tables.specs.declared.WordList.the-variants.{V2, Operators, Tsb, Escapes, Basic35}
 
 -- ---- the lists
 

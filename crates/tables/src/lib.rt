@@ -1,6 +1,11 @@
-// The word lists of crunching: how they are stored, and what is looked up in them.
-// A table is named once to a public call, where it is built, and lent down from there.
-pub mod matching;
-pub mod sets;
+// The word lists of crunching, and how they are stored.
 pub mod spellings;
-pub mod tsb;
+
+// The lists, in the order in which they are stored.
+pub enum WordList {
+    V2,
+    Operators,
+    Tsb,
+    Escapes,
+    Basic35,
+}

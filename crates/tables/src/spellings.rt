@@ -2,6 +2,9 @@
 // an index with the start of each word, its place in its list, and where each group of words begins.
 // The V2 words, the operators, the TSB words, the escape names and the words of BASIC 3.5 stand one list behind the other. Within a list
 // the words that begin with one byte stand together, in the list's order; the groups stand in the order of these bytes, 20 to 5F.
+// A public call has each table built once, and lends it down from there.
+ghost use mathlib.Core.Path.{_≡_};
+ghost use Rattle.tables.specs.StoredHelpers.{wordBytes, wordIndex};
 
 // How many V2 words there are.
 pub const V2_WORDS: usize = 68;
@@ -1108,3 +1111,17 @@ pub const WORD_INDEX: [u16; 1044] = [
     361, // the words of BASIC 3.5: _
     361,
 ];
+
+// The bytes, which are those of the documents' lists.
+pub fn word_bytes() -> [u8; 2088]
+    ensures { λ r. ⌜ r ≡ wordBytes ⌝ }
+{
+    WORD_BYTES
+}
+
+// The index, which is that of the documents' lists.
+pub fn word_index() -> [u16; 1044]
+    ensures { λ r. ⌜ r ≡ wordIndex ⌝ }
+{
+    WORD_INDEX
+}

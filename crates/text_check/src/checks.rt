@@ -21,10 +21,10 @@ use image::Options;
 use lent::Outcome;
 use libc::STDOUT_FILENO;
 use line_numbers::Numbering;
+use matching::sets::Sets;
 use refusals::Refusal;
 use sentences::place;
 use sentences::place::Place;
-use tables::sets::Sets;
 use text_lines::LineRule;
 
 // What was found so far: whether there is a number before and which, whether a release would refuse the text, whether a line could not be

@@ -11,8 +11,8 @@ use lib.Seq.{getD-append-add}
 use borrow.Author.Tests.{not-true, not-false}
 use Rattle.ascii.specs.Bytes.{between}
 use Rattle.ascii.proofs.Ranges.{between-in}
-use Rattle.words.specs.RunHelpers.{Lies, wordOf}
-use Rattle.words.proofs.Runs.{joined, starts, run-lies, run-word}
+use Rattle.words.specs.RunHelpers.{Lies, joined, starts, wordOf}
+use Rattle.words.proofs.Runs.{run-lies, run-word}
 use Rattle.tables.specs.Basic35.{basic35Spellings}
 use Rattle.texts.specs.Texts.{textOf, textOf35}
 use Rattle.texts.specs.TextsHelpers.{SpellsTexts}

@@ -8,18 +8,9 @@ use native.Mathlib.Nat.{le-of-suc-le-suc}
 use native.Mathlib.Omega.{arith}
 use lib.ListN.{length, getD, take, drop, length-append, length-drop, List·getD-append}
 use lib.Seq.{take-append-seam, take-append-le, drop-append-le, drop-append-add}
-use Rattle.words.specs.RunHelpers.{Lies, wordOf}
+use Rattle.words.specs.RunHelpers.{Lies, joined, starts, wordOf}
 
 module _ {A : Type 0} where
-  unfoldable pub joined : List (List A) → List A
-  joined [] = []
-  joined (l ∷ ls) = l ++ joined ls
-
-  -- the places, the first of them k, and the end of the last list
-  unfoldable pub starts : ℕ → List (List A) → List ℕ
-  starts k [] = k ∷ []
-  starts k (l ∷ ls) = k ∷ starts (k + length l) ls
-
   pub length-starts : (k : ℕ) (ls : List (List A)) → length (starts k ls) ≡ length ls + 1
   unfolding starts
   length-starts k [] = refl

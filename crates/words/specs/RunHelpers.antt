@@ -5,13 +5,23 @@
 use Prim.Native.Nat.{ℕ, zero, suc, _+_, _-_, _≤_, _<_}
 use mathlib.Core.Path.{_≡_}
 use mathlib.Core.Bool.{Bool, true, false, _&&_}
-use mathlib.Core.List.{List, [], _∷_}
+use mathlib.Core.List.{List, [], _∷_, _++_}
 use lib.Dec.{T, eqb}
 use lib.ListN.{length, getD, take, drop}
 use Rattle.ascii.specs.Bytes.{upper}
 use Rattle.words.specs.Compare.{begins, passes}
 use Rattle.words.specs.declared.Section.{Section}
 use Rattle.words.specs.declared.Test.{Test}
+
+-- lists one behind the other; the place at which each begins, the first of them k, and the end of the last
+module _ {A : Type 0} where
+  unfoldable pub joined : List (List A) → List A
+  joined [] = []
+  joined (l ∷ ls) = l ++ joined ls
+
+  unfoldable pub starts : ℕ → List (List A) → List ℕ
+  starts k [] = k ∷ []
+  starts k (l ∷ ls) = k ∷ starts (k + length l) ls
 
 -- word k: the bytes from its start up to the next one
 unfoldable pub wordOf : List ℕ → List ℕ → ℕ → List ℕ

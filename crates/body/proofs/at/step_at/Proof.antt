@@ -5,7 +5,7 @@ use mathlib.Core.Path.{_≡_, sym, ap, _∙_}
 use mathlib.Core.Bool.{Bool, true, false}
 use mathlib.Core.List.{List}
 use lib.ListN.{length}
-use Rattle.tables.specs.declared.sets.Sets.{Sets}
+use Rattle.matching.specs.declared.sets.Sets.{Sets}
 use Rattle.body.specs.Lexicon.{lexicon}
 use Rattle.body.specs.ShortHelpers.{isShort, shortByte, shortMode, isLong, longStep}
 use Rattle.body.specs.Steps.{first, one, crunchStep}

@@ -1,0 +1,4 @@
+pub mod Both
+pub mod Groups
+pub mod Living
+pub mod Storage

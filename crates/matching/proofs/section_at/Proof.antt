@@ -1,0 +1,22 @@
+-- `matching::section_at` meets its contract.
+-- Assumes nothing.
+use Rattle.matching.proofs.Storage.{section-read}
+use borrow.Author.Needs.{needs}
+use Rattle.matching.proofs.section_at.Statement.{statement}
+use Rattle.matching.proofs.section_at.Tie as tie
+
+returns : tie.Need-returns
+returns c = search section-read
+
+pub section-at-spec : {M : Type 1} → statement M
+section-at-spec =
+    tie.close
+    (tie.spec
+    (λ c. search needs)
+    (λ c. search needs)
+    (λ c κs. search needs)
+    (λ c. search needs)
+    (λ c. search needs)
+    (λ c. search needs)
+    (λ c κs. search needs)
+    returns)
