@@ -2,10 +2,10 @@
 use crate::frames;
 use crate::options;
 use frames::Answer;
-use image::LineMeasured;
-use image::MeasuredLine;
 use options::Asked;
 use readers::Line;
+use text_image::LineMeasured;
+use text_image::MeasuredLine;
 
 pub fn measured_line(payload: &[u8]) -> bool {
     if payload.len() < 12 {

@@ -1,6 +1,6 @@
 // What a text is to be crunched with: its load address, its dialect by number, and the byte of options.
 use dialect::Named;
-use image::Options;
+use text_image::Options;
 
 pub enum Asked {
     With(Options),

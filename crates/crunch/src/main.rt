@@ -4,11 +4,11 @@ use desk::input;
 use desk::names;
 use desk::output;
 use dialect::Dialect;
-use image::Options;
 use input::Input;
 use options::AskedDialect;
 use options::AskedNumber;
 use refusals::Refusal;
+use text_image::Options;
 ghost use Prim.Native.Nat.{_≤_};
 ghost use lib.ListN.{length};
 

@@ -31,10 +31,10 @@ use Rattle.readers.specs.NumberedBody.{NumberedBody}
 use Rattle.layout.specs.Layout.{imageOf}
 use Rattle.layout.specs.Reads.{linesAt}
 use Rattle.profile.specs.Profile.{lineAllowed, allowed, leastBehind}
-use Rattle.image.specs.Crunched.{linesRead, textLine, lineUnder, lastLink, crunchLines, textLexicon, crunchedLines, crunched}
-use Rattle.image.specs.Measured.{nonblankLines, withTextLines, entryFrom, measuredLines, lineMeasured}
-use Rattle.image.specs.declared.MeasuredLine.{MeasuredLine}
-use Rattle.image.specs.declared.Options.{Options}
+use Rattle.text_image.specs.Crunched.{linesRead, textLine, lineUnder, lastLink, crunchLines, textLexicon, crunchedLines, crunched}
+use Rattle.text_image.specs.Measured.{nonblankLines, withTextLines, entryFrom, measuredLines, lineMeasured}
+use Rattle.text_image.specs.declared.MeasuredLine.{MeasuredLine}
+use Rattle.text_image.specs.declared.Options.{Options}
 use Rattle.forms_off.specs.Before.{plainBefore, stepBefore, onBefore, bodyBefore, lineBefore, lineUnderBefore, linesBefore, crunchedBefore}
 
 -- a line of its own

@@ -25,7 +25,7 @@ use Rattle.body.specs.declared.moves.Mode.the-variants.{Plain, String, Remark, 
 use Rattle.body.specs.declared.moves.Move.{Move}
 use Rattle.readers.specs.NumberedBody.{NumberedBody}
 use Rattle.profile.specs.Profile.{lineAllowed, allowed, leastBehind}
-use Rattle.image.specs.Crunched.{lastLink}
+use Rattle.text_image.specs.Crunched.{lastLink}
 
 -- "Plain, first that applies: a quote opens a string; a live TSB word ..; a V2 word ..; one of + - * / ^ > = <; pi; ?; a-z raised; else
 -- copied" (document 01, "Crunching one body")

@@ -1,64 +1,30 @@
--- The bound of an image's length: what a text line adds to it, and the loop over a text.
+-- The bound of an image's length: the loop over a text.
 -- Assumes nothing.
-use Prim.Native.Nat.{ℕ, suc, _+_, _-_, _≤_, _<_, min}
+use Prim.Native.Nat.{ℕ, suc, _+_, _-_, _≤_, _<_}
 use mathlib.Core.Path.{_≡_, refl, sym, ap, _∙_}
 use mathlib.Core.Bool.{true, false}
 use mathlib.Core.List.{List, [], _∷_}
 use native.Mathlib.Omega.{arith}
-use lib.ListN.{length, take, drop}
+use lib.ListN.{length}
 use mir.Syntax.{w16}
 use mir.Val.{Fits}
 use Rattle.refusals.specs.Answer.{Answer, done, refused, mapDone}
-use Rattle.line_numbers.specs.declared.Numbering.{Numbering}
-use Rattle.line_numbers.specs.declared.Numbering.the-variants.{Blank, Missing, OutOfRange, Numbered}
-use Rattle.line_numbers.specs.NumberHelpers.{numbering}
 use Rattle.text_lines.specs.declared.TextLine.{TextLine}
 use Rattle.text_lines.specs.declared.LineRule.the-variants.{AfterCr}
 use Rattle.text_lines.specs.SplitHelpers.{lineFrom}
 use Rattle.text_lines.specs.TextLines.{textLines}
 use Rattle.text_lines.proofs.Splitting.{line-behind}
-use Rattle.body.specs.Body.{crunchedBody}
 use Rattle.body.specs.Lexicon.{Lexicon}
 use Rattle.readers.specs.NumberedBody.{NumberedBody}
 use Rattle.layout.specs.Layout.{linkOf, endAddress, imageOf}
 use Rattle.layout.proofs.Laying.{image-length, end-above}
 use Rattle.profile.specs.Profile.{leastBehind}
-use Rattle.image.specs.Crunched.{textLine, lineUnder, crunchLines}
-use Rattle.image.specs.PassesHelpers.{textImage, given, LineSized, FitsIf, Bounded}
-use Rattle.image.proofs.Lining.{Taken, link-fits, given-is, text-blank, read-as, lineOf, line-fits, plain-under}
-use Rattle.image.proofs.Measuring.{Reached, reached-start, reached-turn, reached-end, lineAt, lineBehind}
-
--- ---- a text line
-
-given-done : {a : Answer (List NumberedBody)} {ls : List NumberedBody} → a ≡ done ls → a ≡ done (given a)
-given-done e = e ∙ ap done (sym (ap given e))
-
--- no bound
-pub bounded-not : (words : Lexicon) (line : List ℕ) {address : ℕ} → address ≤ 0xFFFF → Bounded words address line 0x10000
-bounded-not words line h = record { low = omega arith; gives = λ q k. absurd (omega arith); below = λ q. absurd (omega arith) }
-
-module _ (words : Lexicon) (line : List ℕ) {m : Numbering} {address : ℕ} where
-  pub bounded-blank : m ≡ Blank → m ≡ numbering line → Bounded words address line address
-  unfolding endAddress
-  bounded-blank t e =
-      let blank : (k : ℕ) → textLine words k line ≡ done [] = λ k. sym (read-as words k line t e) in
-      record { low = omega arith; gives = λ h k. given-done (blank k); below = λ h. omega (arith, ap (λ (a : Answer (List NumberedBody)). endAddress address (given a)) (blank 0)) }
-
-  module _ {number from to n : ℕ} (b : min (length (crunchedBody words (take (to - from) (drop from line)))) 65536 ≤ n) (t : m ≡ Numbered number from to) (e : m ≡ numbering line) where
-    sized : address + 5 + n ≤ 0xFFFF → (k : ℕ)
-        → LineSized address (textLine words k line) number (address + 5 + min (length (crunchedBody words (take (to - from) (drop from line)))) 65536)
-    sized h k = line-fits address (lineOf words line number from to) (sym (read-as words k line t e)) refl (omega (arith, b))
-
-    pub bounded-line : Bounded words address line (address + 5 + n)
-    unfolding endAddress
-    bounded-line =
-        record {
-          low = omega arith;
-          gives = λ h k. given-done (sized h k .gives);
-          below = λ h. omega (arith, ap (λ (a : Answer (List NumberedBody)). endAddress address (given a)) (sized h 0 .gives), sized h 0 .behind-is, b);
-        }
-
--- ---- the loop
+use Rattle.text_image.specs.Crunched.{textLine, crunchLines}
+use Rattle.text_image.specs.PassesHelpers.{textImage, given}
+use Rattle.line_sizes.specs.SizeHelpers.{Bounded}
+use Rattle.image.specs.CallHelpers.{FitsIf}
+use Rattle.text_image.proofs.Lining.{Taken, link-fits, given-is, text-blank, plain-under}
+use Rattle.text_image.proofs.Reaching.{Reached, reached-start, reached-turn, reached-end, lineAt, lineBehind}
 
 end-mono : (a b : ℕ) (ls : List NumberedBody) → a ≤ b → endAddress a ls ≤ endAddress b ls
 unfolding endAddress

@@ -1,16 +1,15 @@
 -- From the check of a text to its image: what was measured, and what is then stored.
 -- Assumes nothing.
-use Prim.Native.Nat.{ℕ, suc, _≤_, _<_}
-use mathlib.Core.Path.{_≡_, refl, sym, ap, _∙_, subst}
+use Prim.Native.Nat.{ℕ, _≤_, _<_}
+use mathlib.Core.Path.{_≡_, refl, sym, ap, _∙_}
 use mathlib.Core.Bool.{Bool, true, false}
-use mathlib.Core.List.{List, [], _∷_, _++_}
+use mathlib.Core.List.{List}
 use native.Mathlib.Omega.{arith}
 use lib.ListN.{length}
-use Rattle.refusals.specs.Answer.{Answer, done, refused, numbered, mapDone, andThen}
-use Rattle.refusals.specs.Numbers.{noRoom}
+use Rattle.refusals.specs.Answer.{Answer, done, refused, mapDone, andThen}
 use Rattle.refusals.specs.declared.Refusal.{Refusal}
 use Rattle.refusals.specs.declared.Refusal.the-variants.{NoRoom}
-use Rattle.lent.specs.Lent.{Lent, intoBuffer, roomFor, outcomeAnswer, left}
+use Rattle.lent.specs.Lent.{intoBuffer, roomFor, left}
 use Rattle.lent.specs.Stores.{HasRoom}
 use Rattle.lent.specs.declared.Outcome.{Outcome}
 use Rattle.lent.specs.declared.Outcome.the-variants.{Done, Refused}
@@ -27,13 +26,14 @@ use Rattle.body.specs.Lexicon.{Lexicon, lexicon}
 use Rattle.readers.specs.NumberedBody.{NumberedBody}
 use Rattle.layout.specs.Layout.{imageOf}
 use Rattle.layout.specs.Reads.{linesAt}
-use Rattle.profile.specs.Profile.{leastBehind}
-use Rattle.image.specs.Crunched.{crunchLines, textLexicon, crunchedLines, crunched}
-use Rattle.image.specs.Measured.{nonblankLines, withTextLines, entryFrom, measuredLines, lineMeasured, lineAnswer}
-use Rattle.image.specs.PassesHelpers.{textImage, textPlaced, PassedAs, MeasuredAs, refusedPass, addressBehind, FitsIf}
-use Rattle.image.specs.declared.measure.Pass.{Pass}
-use Rattle.image.specs.declared.Options.{Options}
-use Rattle.image.proofs.Lining.{Taken, taken, taken-plain, cons-taken, cons-refused}
+use Rattle.text_image.specs.Crunched.{crunchLines, textLexicon, crunchedLines, crunched}
+use Rattle.text_image.specs.Measured.{nonblankLines, withTextLines, entryFrom, measuredLines, lineMeasured}
+use Rattle.text_image.specs.PassesHelpers.{textImage}
+use Rattle.measuring.specs.MeasureHelpers.{textPlaced, PassedAs, refusedPass}
+use Rattle.image.specs.CallHelpers.{MeasuredAs, FitsIf}
+use Rattle.measuring.specs.declared.Pass.{Pass}
+use Rattle.text_image.specs.declared.Options.{Options}
+use Rattle.text_image.proofs.Lining.{lines-plain}
 
 -- ---- what is measured
 
@@ -73,13 +73,6 @@ module _ (o : Options) (place : ℕ) (text : List ℕ) where
     pub measured-outside : {x : Refusal} {p : Pass} → p ≡ refusedPass x → c ≡ Check·Refused x → textCheckAnswer c ≡ checkedText text → MeasuredAs o place text p
     measured-outside z t e = rw z (record { sized = ap roomFor (image-by (lines-by t e)); placed = placed-by (lines-by t e) })
 
-module _ {o : Options} {place : ℕ} {text : List ℕ} {p : Pass} where
-  pub whole-room : MeasuredAs o place text p → outcomeAnswer (p .room) ≡ roomFor (crunched o text)
-  whole-room k = k .sized
-
-  pub whole-line : MeasuredAs o place text p → lineAnswer (p .line) ≡ lineMeasured o place text
-  whole-line k = k .placed
-
 -- ---- what is stored
 
 module _ (o : Options) (text buffer : List ℕ) {c : TextCheck} where
@@ -90,29 +83,6 @@ module _ (o : Options) (text buffer : List ℕ) {c : TextCheck} where
 
   pub whole-outside : {x : Refusal} → c ≡ Check·Refused x → textCheckAnswer c ≡ checkedText text → left (Refused x) buffer ≡ intoBuffer (crunched o text) buffer
   whole-outside t e = into-refused buffer (crunched o text) (ap roomFor (image-by o 0 text (lines-by o 0 text t e)))
-
--- the lines that the profile accepts are those of plain crunching
-pub lines-plain : (profile : Bool) (words : Lexicon) (lines : List (List ℕ)) (k least address : ℕ) {ls : List NumberedBody}
-    → crunchLines profile words k least address lines ≡ done ls → crunchLines false words k least address lines ≡ done ls
-unfolding crunchLines taken-plain
-lines-plain profile words [] k least address e = e
-lines-plain profile words (line ∷ lines) k least address {ls} e = go (addressBehind profile words k least address line) refl (λ more next rest q. lines-plain profile words lines (suc k) more next q)
-  where
-    go : (a : Answer ℕ) → addressBehind profile words k least address line ≡ a
-        → ((more next : ℕ) (rest : List NumberedBody) → crunchLines profile words (suc k) more next lines ≡ done rest → crunchLines false words (suc k) more next lines ≡ done rest)
-        → crunchLines false words k least address (line ∷ lines) ≡ done ls
-    go (done next) p more =
-        let t : Taken profile words k least address line next = taken p in
-        cons-taken false words k least address line lines (taken-plain t)
-        ∙ same (crunchLines profile words (suc k) (leastBehind least (t .new)) next lines) (crunchLines false words (suc k) (leastBehind least (t .new)) next lines) (t .new)
-        (more (leastBehind least (t .new)) next)
-        (sym (cons-taken profile words k least address line lines t) ∙ e)
-      where
-        same : (a : Answer (List NumberedBody)) (b : Answer (List NumberedBody)) (new : List NumberedBody) → ((rest : List NumberedBody) → a ≡ done rest → b ≡ done rest)
-            → mapDone (λ xs. new ++ xs) a ≡ done ls → mapDone (λ xs. new ++ xs) b ≡ done ls
-        same (done rest) b new f q = ap (mapDone (λ xs. new ++ xs)) (f rest refl) ∙ q
-        same (refused n) b new f q = let z : _≡_ {A = ℕ} 0 1 = cc in absurd (omega arith)
-    go (refused n) p more = let c : refused n ≡ done ls = sym (cons-refused profile words k least address line lines p) ∙ e in let z : _≡_ {A = ℕ} 0 1 = cc in absurd (omega arith)
 
 module _ (words : Lexicon) (load : ℕ) (text buffer : List ℕ) where
   -- the bound settles it

@@ -1,3 +1,1 @@
-pub mod Crunched
-pub mod Measured
-pub mod PassesHelpers
+pub mod CallHelpers

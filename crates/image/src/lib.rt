@@ -1,46 +1,24 @@
 // A text, crunched to an image.
-use dialect::Dialect;
 use domain::TextCheck;
 use guess::resolve;
 use lent::Outcome;
 use matching::sets;
 use matching::sets::Sets;
-use readers::Line;
+use measuring::Pass;
 use refusals::Refusal;
 use tables::spellings;
+use text_image::LineMeasured;
+use text_image::Options;
 ghost use mathlib.Core.Path.{_≡_};
 ghost use Rattle.lent.specs.Lent.{intoBuffer, roomFor, outcomeAnswer, left};
 ghost use Rattle.tables.specs.WordsHelpers.{SpellsWords};
 ghost use Rattle.body.specs.Lexicon.{lexicon};
-ghost use Rattle.image.specs.Crunched.{crunched};
-ghost use Rattle.image.specs.PassesHelpers.{textImage};
-ghost use Rattle.image.specs.Measured.{lineMeasured, lineAnswer};
+ghost use Rattle.text_image.specs.Crunched.{crunched};
+ghost use Rattle.text_image.specs.Measured.{lineMeasured, lineAnswer};
+ghost use Rattle.text_image.specs.PassesHelpers.{textImage};
+ghost use Rattle.image.specs.CallHelpers.{MeasuredAs};
 
 mod bound;
-mod measure;
-mod write;
-
-// What a text is crunched with: where its image begins, its dialect, whether the machine profile is asked, line by line, and whether short
-// forms of V2 words are taken.
-pub struct Options {
-    pub load: u16,
-    pub dialect: Dialect,
-    pub profile: bool,
-    pub forms: bool,
-}
-
-// A line of the image that a text would have, as it will stand there, and the text line that it comes from: counted from 1, blank ones too.
-pub struct MeasuredLine {
-    pub line: Line,
-    pub origin: usize,
-}
-
-// What stands at a place of the image that a text would have.
-pub enum LineMeasured {
-    There(MeasuredLine),
-    NoSuchLine,
-    Refused(Refusal),
-}
 
 // Crunches a text into the start of a buffer, and answers the image's length.
 pub fn crunch(text: &[u8], options: Options, out: &mut [u8]) -> Outcome
@@ -59,30 +37,66 @@ pub fn crunch(text: &[u8], options: Options, out: &mut [u8]) -> Outcome
 pub fn room(text: &[u8], options: Options) -> Outcome
     ensures { λ r. ⌜ outcomeAnswer r ≡ roomFor (crunched options (now (text .entry))) ⌝ }
 {
-    let m = measure::measured(
+    room_with(
         text,
         options,
-        0,
         &spellings::WORD_BYTES,
         &spellings::WORD_INDEX,
-    );
-    let room = m.room;
-    room
+    )
 }
 
 // The line at a place from 1. The text is measured whole: one that is refused has no line.
 pub fn measured_line(text: &[u8], options: Options, place: usize) -> LineMeasured
     ensures { λ r. ⌜ lineAnswer r ≡ lineMeasured options place (now (text .entry)) ⌝ }
 {
-    let m = measure::measured(
+    line_with(
         text,
         options,
         place,
         &spellings::WORD_BYTES,
         &spellings::WORD_INDEX,
-    );
+    )
+}
+
+// Both with the tables lent.
+fn room_with(text: &[u8], options: Options, bytes: &[u8], index: &[u16]) -> Outcome
+    requires { ⌜ SpellsWords (now bytes) (now index) ⌝ }
+    ensures { λ r. ⌜ outcomeAnswer r ≡ roomFor (crunched options (now (text .entry))) ⌝ }
+{
+    let m = measured(text, options, 0, bytes, index);
+    let room = m.room;
+    room
+}
+
+fn line_with(
+    text: &[u8],
+    options: Options,
+    place: usize,
+    bytes: &[u8],
+    index: &[u16],
+) -> LineMeasured
+    requires { ⌜ SpellsWords (now bytes) (now index) ⌝ }
+    ensures { λ r. ⌜ lineAnswer r ≡ lineMeasured options place (now (text .entry)) ⌝ }
+{
+    let m = measured(text, options, place, bytes, index);
     let line = m.line;
     line
+}
+
+// Checks a text and measures it.
+fn measured(text: &[u8], options: Options, place: usize, bytes: &[u8], index: &[u16]) -> Pass
+    requires { ⌜ SpellsWords (now bytes) (now index) ⌝ }
+    ensures { λ r. ⌜ MeasuredAs options place (now (text .entry)) r ⌝ }
+{
+    match domain::check_text(text) {
+        TextCheck::Fine => {
+            let dialect = options.dialect;
+            let guessed = resolve::word_sets(text, dialect, bytes, index);
+            let sets = sets::with_forms(guessed, options.forms);
+            measuring::measure(text, options, place, bytes, index, sets)
+        }
+        TextCheck::Refused(refusal) => measuring::refused(refusal),
+    }
 }
 
 // The text is checked, and its words are found, once.
@@ -124,17 +138,17 @@ fn into_buffer(
     let profile = options.profile;
     if !profile {
         if bound::fits(text, load, out.len(), bytes, index, sets) {
-            return Outcome::Done(write::write(out, text, load, bytes, index, sets));
+            return Outcome::Done(writing::write(out, text, load, bytes, index, sets));
         }
     }
-    let pass = measure::measure(text, options, 0, bytes, index, sets);
+    let pass = measuring::measure(text, options, 0, bytes, index, sets);
     let room = pass.room;
     match room {
         Outcome::Done(needed) => {
             if needed > out.len() {
                 return Outcome::Refused(Refusal::NoRoom { needed });
             }
-            Outcome::Done(write::write(out, text, load, bytes, index, sets))
+            Outcome::Done(writing::write(out, text, load, bytes, index, sets))
         }
         Outcome::Refused(refusal) => Outcome::Refused(refusal),
     }

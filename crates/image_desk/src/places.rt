@@ -4,7 +4,6 @@ use desk::input;
 use desk::names;
 use desk::output;
 use dialect::Dialect;
-use image::Options;
 use input::Input;
 use lent::Outcome;
 use options::AskedDialect;
@@ -16,6 +15,7 @@ use readers::Step;
 use refusals::Refusal;
 use sentences::put::put_decimal;
 use sentences::put::put_text;
+use text_image::Options;
 ghost use Prim.Native.Nat.{_≤_};
 ghost use lib.ListN.{length};
 

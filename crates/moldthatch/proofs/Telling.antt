@@ -16,7 +16,7 @@ use Rattle.dialect.specs.declared.Named.{Named}
 use Rattle.dialect.specs.declared.Named.the-variants.{Known, Refused}
 use Rattle.listing.specs.declared.ListOptions.{ListOptions}
 use Rattle.listing.specs.Modes.{listingUnder}
-use Rattle.image.specs.Crunched.{crunched}
+use Rattle.text_image.specs.Crunched.{crunched}
 use Rattle.d64.specs.Calls.{Holding, After, changedAnswer, diskAnswer, leaving}
 use Rattle.d64.specs.declared.Changed.{Changed}
 use Rattle.d64.specs.declared.DiskCheck.{DiskCheck}

@@ -13,7 +13,7 @@ use Rattle.readers.specs.Lines.{Overview}
 use Rattle.readers.specs.declared.By.the-variants.{Terminators}
 use Rattle.listing.specs.declared.ListOptions.{ListOptions}
 use Rattle.listing.specs.Modes.{listingUnder}
-use Rattle.image.specs.Crunched.{crunched}
+use Rattle.text_image.specs.Crunched.{crunched}
 use Rattle.d64.specs.Calls.{Holding, After}
 use Rattle.index_entries.specs.declared.Held.{Held}
 use Rattle.index_entries.specs.declared.Held.the-variants.{Nothing, Numbers}

@@ -2,12 +2,12 @@
 // 3 for BASIC 3.5.
 use dialect::Dialect;
 use dialect::Named;
-use image::Options;
 use listing::ListOptions;
 use readers::By;
 use readers::Checked;
 use readers::links;
 use refusals::Code;
+use text_image::Options;
 ghost use mathlib.Core.Path.{_≡_};
 ghost use Rattle.refusals.specs.Code.{lengthCode};
 ghost use Rattle.lent.specs.Lent.{intoBuffer, roomFor};

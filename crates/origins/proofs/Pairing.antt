@@ -17,7 +17,7 @@ use Rattle.text_lines.proofs.Blanks.{blank-trimmed}
 use Rattle.text_lines.proofs.Splitting.{line-step, line-behind, lines-end}
 use Rattle.sentences.specs.Clipped.{Clipped}
 use Rattle.sentences.proofs.Clipping.{Owes, owes-all, owes-less, owes-none, clip-as, clip-none}
-use Rattle.image.specs.Measured.{unlessBlank, nonblankFrom, nonblankLines}
+use Rattle.text_image.specs.Measured.{unlessBlank, nonblankFrom, nonblankLines}
 
 -- ---- one line
 

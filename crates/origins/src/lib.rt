@@ -4,7 +4,7 @@ ghost use Prim.Native.Nat.{_≤_};
 ghost use lib.ListN.{length};
 ghost use Rattle.ascii.specs.Trim.{trim as trimOf};
 ghost use Rattle.sentences.specs.Clipped.{Clipped};
-ghost use Rattle.image.specs.Measured.{unlessBlank, nonblankLines};
+ghost use Rattle.text_image.specs.Measured.{unlessBlank, nonblankLines};
 
 // Stores a text line's number from a place on, unless the line is blank or there is no room, and answers the place behind it.
 fn put_origin(out: &mut [usize], to: usize, number: usize, line: &[u8]) -> usize

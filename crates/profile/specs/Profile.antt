@@ -1,6 +1,6 @@
 -- The machine profile (document 02, No. 1: "numbers at most 63999 and strictly ascending, no zero in any body, bodies of 1 to 250 bytes";
 -- "Refusals, in this order after 4 at each text line, each with that line: 15 NumberTooHigh, 16 NotAscending, 17 ZeroInBody, 18 BodyLength,
--- then 5"). Where it is asked, before 5, is in crates/image/specs/Crunched.antt.
+-- then 5"). Where it is asked, before 5, is in crates/text_image/specs/Crunched.antt.
 -- Assumes nothing.
 use Prim.Native.Nat.{ℕ, suc}
 use mathlib.Core.Bool.{Bool, cond}

@@ -25,9 +25,9 @@ use Rattle.layout.specs.Each.{Each}
 use Rattle.layout.specs.Layout.{imageOf}
 use Rattle.layout.specs.Reads.{leastLoad, NoZero, NoZeros, linesAt}
 use Rattle.profile.specs.Profile.{profileSays, lineAllowed, allowed, leastBehind}
-use Rattle.image.specs.Crunched.{textLine, lineUnder, lastLink, crunchLines, textLexicon, crunchedLines, crunched}
-use Rattle.image.specs.declared.Options.{Options}
-use Rattle.image.proofs.Whole.{lines-plain}
+use Rattle.text_image.specs.Crunched.{textLine, lineUnder, lastLink, crunchLines, textLexicon, crunchedLines, crunched}
+use Rattle.text_image.specs.declared.Options.{Options}
+use Rattle.text_image.proofs.Lining.{lines-plain}
 use Rattle.read_back.proofs.Demand.{Behind, behind, crunched-laid, read-back, read-back-terminators}
 use Rattle.relink.specs.Relinking.{same, relinking}
 use Rattle.relink.proofs.Laid.{Passable, laid-kept}

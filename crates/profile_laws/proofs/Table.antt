@@ -12,7 +12,7 @@ use Rattle.tables.specs.Tsb.{tsbWords}
 use Rattle.escapes.specs.Numbers.{digitOf, numberAfter, numberOf, hexOf, unsigned, countOf}
 use Rattle.escapes.specs.Keys.{keyNames, controlByte, keyWith, keyed, keyEscape}
 use Rattle.escapes.specs.Escape.{nameEscape, repeated, starred, countedName}
-use Rattle.image.specs.Crunched.{crunchedLines}
+use Rattle.text_image.specs.Crunched.{crunchedLines}
 use Rattle.profile_laws.specs.Examples.{ProfileTable}
 
 pub profile-table : ProfileTable

@@ -11,7 +11,7 @@ use Rattle.refusals.specs.Numbers.{addressOverflow}
 use Rattle.words.specs.Spelling.{bytesOf}
 use Rattle.dialect.specs.declared.Dialect.the-variants.{Auto}
 use Rattle.readers.specs.NumberedBody.{NumberedBody}
-use Rattle.image.specs.Crunched.{crunchedLines}
+use Rattle.text_image.specs.Crunched.{crunchedLines}
 
 infix 60 _profiledAt_
 abbrev pub _profiledAt_ : List ℕ → ℕ → Answer (List NumberedBody)

@@ -33,10 +33,10 @@ use Rattle.layout.proofs.Laying.{end-append}
 use Rattle.layout.proofs.ReadBack.{read-back-by-links, read-back-by-terminators, all-or-none, all-found}
 use Rattle.layout.proofs.Damage.{changed-outside, changed-places, damage-by-links, damage-by-terminators, links-changed, same-image, same-program}
 use Rattle.profile.specs.Profile.{leastBehind}
-use Rattle.image.specs.Crunched.{linesRead, textLine, crunchLines, textLexicon, crunchedLines, crunched}
-use Rattle.image.specs.PassesHelpers.{addressBehind}
-use Rattle.image.specs.declared.Options.{Options}
-use Rattle.image.proofs.Lining.{Taken, taken, under-plain, cons-taken, cons-refused}
+use Rattle.text_image.specs.Crunched.{linesRead, textLine, crunchLines, textLexicon, crunchedLines, crunched}
+use Rattle.text_image.specs.PassesHelpers.{addressBehind}
+use Rattle.text_image.specs.declared.Options.{Options}
+use Rattle.text_image.proofs.Lining.{Taken, taken, under-plain, cons-taken, cons-refused}
 use Rattle.read_back.specs.ReadsBack.{ReadsBack, ReadsDamaged}
 use Rattle.read_back.specs.ReadingBack.{LentRead, readingBack, leftRead}
 use Rattle.read_back.specs.declared.ReadBack.{ReadBack}

@@ -17,8 +17,8 @@ use Rattle.layout.specs.Reads.{NoZeros}
 use Rattle.listing.specs.Listing.{linesListing, listingBy}
 use Rattle.listing.specs.Modes.{rulesUnder, listingUnder}
 use Rattle.listing.specs.declared.ListOptions.{ListOptions}
-use Rattle.image.specs.Crunched.{crunchedLines, crunched}
-use Rattle.image.specs.declared.Options.{Options}
+use Rattle.text_image.specs.Crunched.{crunchedLines, crunched}
+use Rattle.text_image.specs.declared.Options.{Options}
 use Rattle.read_back.specs.ReadsBack.{ReadsBack}
 use Rattle.read_back.proofs.Demand.{demand-three, read-back-terminators}
 

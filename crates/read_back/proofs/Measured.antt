@@ -19,13 +19,13 @@ use Rattle.layout.specs.Layout.{endAddress, imageOf}
 use Rattle.layout.specs.Reads.{leastLoad, linesAt, LinksLead}
 use Rattle.layout.proofs.ReadBack.{links-lead, marker-read, end-marker}
 use Rattle.profile.specs.Profile.{leastBehind}
-use Rattle.image.specs.Crunched.{crunchLines, textLexicon, crunchedLines, crunched}
-use Rattle.image.specs.PassesHelpers.{addressBehind}
-use Rattle.image.specs.Measured.{unlessBlank, nonblankFrom, nonblankLines, withTextLines, measuredLines}
-use Rattle.image.specs.declared.MeasuredLine.{MeasuredLine}
-use Rattle.image.specs.declared.Options.{Options}
-use Rattle.image.proofs.Lining.{Taken, taken, under-plain, cons-taken, cons-refused}
-use Rattle.image.proofs.Placing.{lines-at-length, as-many}
+use Rattle.text_image.specs.Crunched.{crunchLines, textLexicon, crunchedLines, crunched}
+use Rattle.text_image.specs.PassesHelpers.{addressBehind}
+use Rattle.text_image.specs.Measured.{unlessBlank, nonblankFrom, nonblankLines, withTextLines, measuredLines}
+use Rattle.text_image.specs.declared.MeasuredLine.{MeasuredLine}
+use Rattle.text_image.specs.declared.Options.{Options}
+use Rattle.text_image.proofs.Lining.{Taken, taken, under-plain, cons-taken, cons-refused}
+use Rattle.text_image.proofs.Placing.{lines-at-length, as-many}
 use Rattle.read_back.specs.MeasuredBack.{AscendFrom, imageLines, origins, ComeFrom, MeasuredBack}
 use Rattle.read_back.proofs.Demand.{Behind, behind, crunched-laid, read-back}
 

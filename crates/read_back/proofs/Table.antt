@@ -16,8 +16,8 @@ use Rattle.readers.specs.Bodies.{bodiesFrom}
 use Rattle.readers.specs.Lines.{overview}
 use Rattle.readers.specs.Links.{linkStep}
 use Rattle.readers.specs.Terminators.{beforeZero, terminatorStep}
-use Rattle.image.specs.Crunched.{crunched}
-use Rattle.image.specs.Measured.{measuredLines, lineMeasured}
+use Rattle.text_image.specs.Crunched.{crunched}
+use Rattle.text_image.specs.Measured.{measuredLines, lineMeasured}
 use Rattle.read_back.specs.MeasuredBack.{MeasuredTable}
 use Rattle.read_back.specs.ProvedTable.{ProvedTable}
 

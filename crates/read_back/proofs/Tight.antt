@@ -10,12 +10,12 @@ use Rattle.lent.specs.Lent.{intoBuffer, roomFor, outcomeAnswer, left}
 use Rattle.lent.specs.declared.Outcome.{Outcome}
 use Rattle.refusals.proofs.Tight.{named, named-numbered, tells-apart}
 use Rattle.lent.proofs.Tight.{outcome-tight, lent-tight}
-use Rattle.image.specs.Crunched.{crunched}
-use Rattle.image.specs.Measured.{lineMeasured, lineAnswer}
-use Rattle.image.specs.declared.LineMeasured.{LineMeasured}
-use Rattle.image.specs.declared.LineMeasured.the-variants.{There, NoSuchLine, Refused as Line·Refused}
-use Rattle.image.specs.declared.MeasuredLine.{MeasuredLine}
-use Rattle.image.specs.declared.Options.{Options}
+use Rattle.text_image.specs.Crunched.{crunched}
+use Rattle.text_image.specs.Measured.{lineMeasured, lineAnswer}
+use Rattle.text_image.specs.declared.LineMeasured.{LineMeasured}
+use Rattle.text_image.specs.declared.LineMeasured.the-variants.{There, NoSuchLine, Refused as Line·Refused}
+use Rattle.text_image.specs.declared.MeasuredLine.{MeasuredLine}
+use Rattle.text_image.specs.declared.Options.{Options}
 use Rattle.readers.specs.Answers.{checkedAnswer}
 use Rattle.readers.specs.declared.Checked.{Checked}
 use Rattle.readers.specs.declared.Checked.the-variants.{Image, Refused as Checked·Refused}

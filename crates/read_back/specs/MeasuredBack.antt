@@ -14,9 +14,9 @@ use Rattle.readers.specs.Lines.{linesOf}
 use Rattle.readers.specs.Links.{linkStep}
 use Rattle.readers.specs.declared.Line.{Line}
 use Rattle.layout.specs.Reads.{LinksLead}
-use Rattle.image.specs.Measured.{nonblankLines, measuredLines, lineMeasured}
-use Rattle.image.specs.declared.MeasuredLine.{MeasuredLine}
-use Rattle.image.specs.declared.Options.{Options}
+use Rattle.text_image.specs.Measured.{nonblankLines, measuredLines, lineMeasured}
+use Rattle.text_image.specs.declared.MeasuredLine.{MeasuredLine}
+use Rattle.text_image.specs.declared.Options.{Options}
 
 -- the first number is at least m, and each is above the one before
 abbrev pub AscendFrom : ℕ → List ℕ → Type 0

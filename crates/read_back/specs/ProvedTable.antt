@@ -15,7 +15,7 @@ use Rattle.readers.specs.Lines.{linesOf, overview}
 use Rattle.readers.specs.Bodies.{bodiesOf}
 use Rattle.readers.specs.Links.{linkStep}
 use Rattle.readers.specs.Terminators.{terminatorStep}
-use Rattle.image.specs.Crunched.{crunchedLines, crunched}
+use Rattle.text_image.specs.Crunched.{crunchedLines, crunched}
 
 infix 60 _crunchedAt_
 abbrev pub _crunchedAt_ : String → ℕ → Answer (List ℕ)

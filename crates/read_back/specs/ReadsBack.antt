@@ -11,8 +11,8 @@ use Rattle.readers.specs.Lines.{Reader}
 use Rattle.layout.specs.Layout.{imageOf}
 use Rattle.layout.specs.Reads.{ReadAs, linesAt, placeOf}
 use Rattle.layout.specs.Changed.{linesNow, KeptOutside}
-use Rattle.image.specs.Crunched.{crunched}
-use Rattle.image.specs.declared.Options.{Options}
+use Rattle.text_image.specs.Crunched.{crunched}
+use Rattle.text_image.specs.declared.Options.{Options}
 
 -- the text has an image, and a reader gives back the load address and the lines
 pub record ReadsBack (step : Reader) (o : Options) (text : List ℕ) (ls : List NumberedBody) : Type 0 where

@@ -1,12 +1,12 @@
 // A text, crunched and read back: the third demand, as a call.
-use image::Options;
 use lent::Outcome;
 use readers::Checked;
 use readers::links;
 use refusals::Refusal;
+use text_image::Options;
 ghost use mathlib.Core.Path.{_≡_};
 ghost use Rattle.lent.specs.Lent.{intoBuffer};
-ghost use Rattle.image.specs.Crunched.{crunched};
+ghost use Rattle.text_image.specs.Crunched.{crunched};
 ghost use Rattle.read_back.specs.ReadingBack.{readingBack, leftRead};
 
 // What comes of a text.

@@ -17,7 +17,6 @@ use findings::sights::Sighting;
 use findings::sights::Spot;
 use guess::resolve;
 use guess::resolve::Resolved;
-use image::Options;
 use lent::Outcome;
 use libc::STDOUT_FILENO;
 use line_numbers::Numbering;
@@ -25,6 +24,7 @@ use matching::sets::Sets;
 use refusals::Refusal;
 use sentences::place;
 use sentences::place::Place;
+use text_image::Options;
 use text_lines::LineRule;
 
 // What was found so far: whether there is a number before and which, whether a release would refuse the text, whether a line could not be

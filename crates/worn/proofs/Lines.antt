@@ -14,8 +14,8 @@ use Rattle.layout.specs.Layout.{imageOf}
 use Rattle.layout.specs.Reads.{linesAt, NoZeros, leastLoad}
 use Rattle.layout.specs.Each.{Each}
 use Rattle.layout.specs.Changed.{ChangedAt, inSome, numberOrBody, linkByte, linesNow}
-use Rattle.image.specs.Crunched.{crunchedLines}
-use Rattle.image.specs.declared.Options.{Options}
+use Rattle.text_image.specs.Crunched.{crunchedLines}
+use Rattle.text_image.specs.declared.Options.{Options}
 use Rattle.read_back.specs.ReadsBack.{ReadsDamaged}
 use Rattle.read_back.proofs.Demand.{damage, damage-terminators, damaged-links}
 use Rattle.d64.specs.Calls.{fileBytes, saved}

@@ -6,11 +6,11 @@ use borrow.Author.Needs.{needs}
 use Rattle.image.proofs.measured_line.Statement.{statement}
 use Rattle.image.proofs.measured_line.Tie as tie
 
-measured-requires : tie.Need-measured-requires
+line-with-requires : tie.Need-line-with-requires
 unfolding wordBytes wordIndex
-measured-requires c κs = words-spelt refl refl
+line-with-requires c κs = words-spelt refl refl
 
 pub measured-line-spec : {M : Type 1} → statement M
 measured-line-spec =
     tie.close
-    (tie.spec (λ c. search needs) (λ c. search needs) measured-requires (λ c. search needs))
+    (tie.spec (λ c. search needs) (λ c. search needs) line-with-requires (λ c. search needs))

@@ -6,11 +6,11 @@ use borrow.Author.Needs.{needs}
 use Rattle.image.proofs.room.Statement.{statement}
 use Rattle.image.proofs.room.Tie as tie
 
-measured-requires : tie.Need-measured-requires
+room-with-requires : tie.Need-room-with-requires
 unfolding wordBytes wordIndex
-measured-requires c κs = words-spelt refl refl
+room-with-requires c κs = words-spelt refl refl
 
 pub room-spec : {M : Type 1} → statement M
 room-spec =
     tie.close
-    (tie.spec (λ c. search needs) (λ c. search needs) measured-requires (λ c. search needs))
+    (tie.spec (λ c. search needs) (λ c. search needs) room-with-requires (λ c. search needs))

@@ -1,0 +1,2 @@
+pub mod LineBounds
+pub mod Sizing

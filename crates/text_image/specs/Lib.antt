@@ -1,0 +1,3 @@
+pub mod Crunched
+pub mod Measured
+pub mod PassesHelpers

@@ -1,0 +1,3 @@
+pub mod Giving
+pub mod Laying
+pub mod Writing
