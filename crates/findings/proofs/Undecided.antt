@@ -14,7 +14,7 @@ use Rattle.text_lines.specs.declared.LineRule.{LineRule}
 use Rattle.text_lines.specs.declared.TextLine.{TextLine}
 use Rattle.text_lines.proofs.Splitting.{line-step, lines-end}
 use Rattle.ascii.proofs.Choice.{taken, left}
-use Rattle.guess_scans.specs.Evidence.{lineEvidence}
+use Rattle.evidence_scan.specs.Evidence.{lineEvidence}
 use Rattle.guess.specs.Guess.{anyEvidence, evidence}
 use Rattle.findings.specs.Deciding.{decidedBehind, decidingLine}
 use Rattle.findings.specs.declared.deciding.Decided.{Decided}

@@ -5,7 +5,7 @@ use mathlib.Core.Bool.{true, false}
 use mathlib.Core.List.{List, [], _∷_}
 use Rattle.text_lines.specs.TextLines.{textLines}
 use Rattle.text_lines.specs.declared.LineRule.{LineRule}
-use Rattle.guess_scans.specs.Evidence.{lineEvidence}
+use Rattle.evidence_scan.specs.Evidence.{lineEvidence}
 use Rattle.findings.specs.declared.deciding.Decided.{Decided}
 use Rattle.findings.specs.declared.deciding.Decided.the-variants.{ByLine, ByNone}
 

@@ -1,7 +1,6 @@
 // What decides the dialect of a text, and the words that crunching looks for in it.
 use dialect::Dialect;
 use guess::resolve;
-use guess_scans::evidence;
 use matching::sets::Sets;
 use tables::spellings;
 use text_lines::LineRule;
@@ -38,7 +37,7 @@ fn deciding_with(text: &[u8], rule: LineRule, bytes: &[u8], index: &[u16]) -> De
         let line = text_lines::next_line(text, at, rule);
         let end = line.end;
         k += 1;
-        if evidence::line_evidence(&text[at..end], bytes, index) {
+        if evidence_scan::line_evidence(&text[at..end], bytes, index) {
             return Decided::ByLine(k);
         }
         at = line.next;

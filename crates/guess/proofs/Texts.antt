@@ -21,10 +21,10 @@ use Rattle.text_lines.specs.declared.LineRule.the-variants.{AsGiven, AfterCr}
 use Rattle.text_lines.specs.declared.TextLine.{TextLine}
 use Rattle.text_lines.proofs.Splitting.{line-step, lines-end, line-behind}
 use Rattle.ascii.proofs.Choice.{taken, left}
-use Rattle.guess_scans.specs.Evidence.{lineEvidence}
-use Rattle.guess_scans.specs.Variables.{lineNames}
+use Rattle.evidence_scan.specs.Evidence.{lineEvidence}
+use Rattle.variable_scan.specs.Variables.{lineNames}
 use Rattle.guess.specs.Guess.{anyEvidence, evidence, allNames, noneDemoted, names, guessedDialect, resolved, wordSets}
-use Rattle.guess_scans.proofs.Steps.{evidence-blank}
+use Rattle.evidence_scan.proofs.Steps.{evidence-blank}
 
 -- ---- evidence
 

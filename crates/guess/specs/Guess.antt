@@ -14,8 +14,8 @@ use Rattle.domain.specs.Domain.{checkedText}
 use Rattle.text_lines.specs.TextLines.{textLines}
 use Rattle.text_lines.specs.declared.LineRule.{LineRule}
 use Rattle.text_lines.specs.declared.LineRule.the-variants.{AsGiven, AfterCr}
-use Rattle.guess_scans.specs.Evidence.{lineEvidence}
-use Rattle.guess_scans.specs.Variables.{lineNames}
+use Rattle.evidence_scan.specs.Evidence.{lineEvidence}
+use Rattle.variable_scan.specs.Variables.{lineNames}
 use Rattle.guess.specs.declared.resolve.Resolved.{Resolved}
 use Rattle.guess.specs.declared.resolve.Resolved.the-variants.{Is, Refused}
 

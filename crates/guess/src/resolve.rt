@@ -1,8 +1,6 @@
 // The dialect of a text, and the TSB words that are live in it.
 use dialect::Dialect;
 use domain::TextCheck;
-use guess_scans::evidence;
-use guess_scans::variables;
 use matching::sets::Sets;
 use refusals::Refusal;
 use tables::spellings;
@@ -30,7 +28,7 @@ pub fn text_evidence(text: &[u8], rule: LineRule, bytes: &[u8], index: &[u16]) -
         // The blanks in front of a line prove nothing.
         let begin = line.begin;
         let end = line.end;
-        if evidence::line_evidence(&text[begin..end], bytes, index) {
+        if evidence_scan::line_evidence(&text[begin..end], bytes, index) {
             return true;
         }
         at = line.next;
@@ -47,7 +45,7 @@ fn text_names(text: &[u8], rule: LineRule, bytes: &[u8], index: &[u16], found: &
     while at < text.len() {
         let line = text_lines::next_line(text, at, rule);
         let end = line.end;
-        variables::line_names(&text[at..end], bytes, index, found);
+        variable_scan::line_names(&text[at..end], bytes, index, found);
         at = line.next;
     }
 }

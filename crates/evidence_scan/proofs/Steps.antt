@@ -1,0 +1,300 @@
+-- The steps of the evidence scan, case by case; how far a step goes; and the loop over a line.
+-- Assumes nothing.
+use Prim.Native.Nat.{ℕ, suc, _+_, _-_, _≤_, _<_}
+use mathlib.Core.Path.{_≡_, refl, sym, ap, _∙_, subst}
+use mathlib.Core.Bool.{Bool, true, false, not, _&&_, _||_}
+use mathlib.Core.List.{List, [], _∷_}
+use native.Mathlib.Nat.{add-zero}
+use native.Mathlib.Omega.{arith}
+use lib.Dec.{eqb}
+use lib.ListN.{length, getD, take, drop, drop-of-length-le, length-drop}
+use lib.Seq.{drop-drop, getD-drop}
+use borrow.Author.Tests.{eq-eqb, ne-eqb}
+use mir.Syntax.{w64}
+use mir.Val.{Fits}
+use Rattle.steps.proofs.Nearer.{Nearer, again-on}
+use Rattle.ascii.specs.Bytes.{between, upper, isDigit, isLetter}
+use Rattle.ascii.specs.Search.{isWhite, isBlank, startsWith, front, past}
+use Rattle.ascii.specs.declared.search.Kind.the-variants.{White}
+use Rattle.ascii.proofs.Searching.{tail, front-le, front-more}
+use Rattle.words.specs.Compare.{begins}
+use Rattle.words.specs.Find.{wordIn}
+use Rattle.words.specs.declared.Match.{Match}
+use Rattle.words.specs.declared.Match.the-variants.{Word, Nothing}
+use Rattle.words.specs.Spelling.{bytesOf}
+use Rattle.tables.specs.Tsb.{tsbWords}
+use Rattle.text_lines.proofs.Blanks.{blank-white}
+use Rattle.ascii.proofs.Choice.{taken, left, either}
+use Rattle.word_uses.specs.Proving.{proves}
+use Rattle.evidence_scan.specs.Evidence.{wordProves, wordStep, statementStep, evidenceStep, evidenceOn, evidenceFrom, numberLength, lineEvidence}
+use Rattle.scan_places.specs.Places.{isPlain, isStart, aside}
+use Rattle.scan_places.specs.PlaceHelpers.{stays}
+use Rattle.scan_places.specs.declared.place.Place.{Place}
+use Rattle.scan_places.specs.declared.place.Place.the-variants.{Start, Within, Quoted, Data}
+use Rattle.evidence_scan.specs.declared.EvidenceStep.{EvidenceStep}
+use Rattle.evidence_scan.specs.declared.EvidenceStep.the-variants.{Proved, Remark, On}
+use Rattle.word_uses.proofs.Behind.{rest, rest-long}
+use Rattle.scan_places.proofs.Places.{Same, stretch}
+use Rattle.scan_places.proofs.Words.{begins-long, word-bounds, no-letter, not-rem, not-data, letter-high, letter-not-white}
+
+-- ---- what a word proves
+
+module _ (place : Place) (t : List ℕ) {m : Match} where
+  pub word-proves : {index used token : ℕ} {s y : Bool} → y ≡ proves s t used → s ≡ isStart place → m ≡ Word index used token → m ≡ wordIn tsbWords t → y ≡ wordProves place t
+  unfolding wordProves
+  word-proves {index} {used} {token} r q e p = r ∙ ap (λ (b : Bool). proves b t used) q ∙ rw (sym p ∙ e)
+
+  pub no-word-proves : m ≡ Nothing → m ≡ wordIn tsbWords t → false ≡ wordProves place t
+  unfolding wordProves
+  no-word-proves e p = rw (sym p ∙ e)
+
+pub word-within : (t : List ℕ) {m : Match} {index used token : ℕ} → m ≡ Word index used token → m ≡ wordIn tsbWords t → used ≤ length t
+word-within t e p = word-bounds t (sym p ∙ e) .within
+
+-- ---- a step on through a statement
+
+module _ (place : Place) (t : List ℕ) where
+  word-colon : {s : EvidenceStep} → s ≡ On 1 Start → getD t 0 0 ≡ 0x3A → s ≡ wordStep place t
+  unfolding wordStep
+  word-colon q e = q ∙ sym (taken _ _ (eq-eqb _ _ e))
+
+  module _ {w : Bool} where
+    word-white : {s : EvidenceStep} → s ≡ On 1 place → w ≡ true → w ≡ isWhite (getD t 0 0) → (getD t 0 0 ≡ 0x3A → ⊥) → s ≡ wordStep place t
+    unfolding wordStep
+    word-white q e v k = q ∙ sym (left _ _ (ne-eqb _ _ k) ∙ taken _ _ (sym v ∙ e))
+
+    word-proved : {x : Bool} → x ≡ true → x ≡ wordProves place t → w ≡ false → w ≡ isWhite (getD t 0 0) → (getD t 0 0 ≡ 0x3A → ⊥) → Proved ≡ wordStep place t
+    unfolding wordStep
+    word-proved e u n v k = sym (left _ _ (ne-eqb _ _ k) ∙ left _ _ (sym v ∙ n) ∙ taken _ _ (sym u ∙ e))
+
+    word-other : {s : EvidenceStep} {x : Bool} → s ≡ On 1 Within → x ≡ false → x ≡ wordProves place t → w ≡ false → w ≡ isWhite (getD t 0 0) → (getD t 0 0 ≡ 0x3A → ⊥)
+        → s ≡ wordStep place t
+    unfolding wordStep
+    word-other q e u n v k = q ∙ sym (left _ _ (ne-eqb _ _ k) ∙ left _ _ (sym v ∙ n) ∙ left _ _ (sym u ∙ e))
+
+-- ---- a step outside strings and DATA
+
+space-step : (place : Place) (t : List ℕ) → getD t 0 0 ≡ 0x20 → On 1 place ≡ statementStep place t
+unfolding statementStep wordStep begins upper between
+space-step place [] e = absurd (omega arith)
+space-step place (b ∷ s) e = rw e
+
+module _ (place : Place) (t : List ℕ) where
+  pub statement-space : {s : EvidenceStep} → s ≡ On 1 place → getD t 0 0 ≡ 0x20 → s ≡ statementStep place t
+  statement-space q e = q ∙ space-step place t e
+
+  pub statement-quote : {s : EvidenceStep} → s ≡ On 1 Quoted → getD t 0 0 ≡ 0x22 → s ≡ statementStep place t
+  unfolding statementStep
+  statement-quote q e = q ∙ sym (taken _ _ (eq-eqb _ _ e))
+
+  module _ {r : Bool} where
+    statement-remark : r ≡ true → r ≡ begins (bytesOf "REM") t → (getD t 0 0 ≡ 0x22 → ⊥) → Remark ≡ statementStep place t
+    unfolding statementStep
+    statement-remark e p n = sym (left _ _ (ne-eqb _ _ n) ∙ taken _ _ (sym p ∙ e))
+
+    module _ {d : Bool} {s : EvidenceStep} where
+      statement-data : s ≡ On 4 Data → d ≡ true → d ≡ begins (bytesOf "DATA") t → r ≡ false → r ≡ begins (bytesOf "REM") t → (getD t 0 0 ≡ 0x22 → ⊥) → s ≡ statementStep place t
+      unfolding statementStep
+      statement-data q f u e p n = q ∙ sym (left _ _ (ne-eqb _ _ n) ∙ left _ _ (sym p ∙ e) ∙ taken _ _ (sym u ∙ f))
+
+      statement-word : s ≡ wordStep place t → d ≡ false → d ≡ begins (bytesOf "DATA") t → r ≡ false → r ≡ begins (bytesOf "REM") t → (getD t 0 0 ≡ 0x22 → ⊥) → s ≡ statementStep place t
+      unfolding statementStep
+      statement-word q f u e p n = q ∙ sym (left _ _ (ne-eqb _ _ n) ∙ left _ _ (sym p ∙ e) ∙ left _ _ (sym u ∙ f))
+
+-- at a letter: REM, DATA or a word
+no-quote : (b : ℕ) → isLetter b ≡ true → b ≡ 0x22 → ⊥
+no-quote b l e = omega (arith, letter-high b l)
+
+no-colon : (b : ℕ) → isLetter b ≡ true → b ≡ 0x3A → ⊥
+no-colon b l e = omega (arith, letter-high b l)
+
+module _ (place : Place) (t : List ℕ) (l : isLetter (getD t 0 0) ≡ true) {r : Bool} where
+  pub letter-remark : r ≡ true → r ≡ begins (bytesOf "REM") t → Remark ≡ statementStep place t
+  letter-remark e p = statement-remark place t e p (no-quote _ l)
+
+  module _ {d : Bool} {s : EvidenceStep} where
+    pub letter-data : s ≡ On 4 Data → d ≡ true → d ≡ begins (bytesOf "DATA") t → r ≡ false → r ≡ begins (bytesOf "REM") t → s ≡ statementStep place t
+    letter-data q f u e p = statement-data place t q f u e p (no-quote _ l)
+
+    pub letter-on : {x : Bool} → s ≡ On 1 Within → x ≡ false → x ≡ wordProves place t → d ≡ false → d ≡ begins (bytesOf "DATA") t → r ≡ false → r ≡ begins (bytesOf "REM") t
+        → s ≡ statementStep place t
+    letter-on q y z f u e p = statement-word place t (word-other place t q y z refl (sym (letter-not-white (getD t 0 0) l)) (no-colon _ l)) f u e p (no-quote _ l)
+
+  pub letter-proved : {d x : Bool} → x ≡ true → x ≡ wordProves place t → d ≡ false → d ≡ begins (bytesOf "DATA") t → r ≡ false → r ≡ begins (bytesOf "REM") t
+      → Proved ≡ statementStep place t
+  letter-proved y z f u e p = statement-word place t (word-proved place t y z refl (sym (letter-not-white (getD t 0 0) l)) (no-colon _ l)) f u e p (no-quote _ l)
+
+-- at another byte: none of them
+module _ (place : Place) (t : List ℕ) (n : isLetter (getD t 0 0) ≡ false) {s : EvidenceStep} where
+  passes : s ≡ wordStep place t → (getD t 0 0 ≡ 0x22 → ⊥) → s ≡ statementStep place t
+  passes q d = statement-word place t q refl (sym (not-data t n)) refl (sym (not-rem t n)) d
+
+  pub other-colon : s ≡ On 1 Start → getD t 0 0 ≡ 0x3A → s ≡ statementStep place t
+  other-colon q e = passes (word-colon place t q e) (λ f. omega arith)
+
+  module _ {w : Bool} where
+    pub other-white : s ≡ On 1 place → w ≡ true → w ≡ isWhite (getD t 0 0) → (getD t 0 0 ≡ 0x3A → ⊥) → (getD t 0 0 ≡ 0x22 → ⊥) → s ≡ statementStep place t
+    other-white q e v k d = passes (word-white place t q e v k) d
+
+    pub other-on : s ≡ On 1 Within → w ≡ false → w ≡ isWhite (getD t 0 0) → (getD t 0 0 ≡ 0x3A → ⊥) → (getD t 0 0 ≡ 0x22 → ⊥) → s ≡ statementStep place t
+    other-on q e v k d = passes (word-other place t q refl (no-word-proves place t refl (no-letter t refl (sym n))) e v k) d
+
+module _ (place : Place) (t : List ℕ) {x : Bool} {s : EvidenceStep} where
+  pub step-plain : s ≡ statementStep place t → x ≡ true → x ≡ isPlain place → s ≡ evidenceStep place t
+  unfolding evidenceStep
+  step-plain q e p = q ∙ sym (taken _ _ (sym p ∙ e))
+
+  pub step-aside : {n : Place} → s ≡ On 1 n → n ≡ aside place (getD t 0 0) → x ≡ false → x ≡ isPlain place → s ≡ evidenceStep place t
+  unfolding evidenceStep
+  step-aside r q e p = r ∙ ap (On 1) q ∙ sym (left _ _ (sym p ∙ e))
+
+-- ---- how far a step goes: one byte at least, and not past the line
+
+abbrev Far : ℕ → EvidenceStep → Type 0
+Far l Proved = Unit {0}
+Far l Remark = Unit {0}
+Far l (On used next) = (0 < used) × (used ≤ l)
+
+module _ (place : Place) (t : List ℕ) (h : 0 < length t) where
+  far-one : (next : Place) → Far (length t) (On 1 next)
+  far-one next = (omega arith, omega arith)
+
+  far-statement : Far (length t) (statementStep place t)
+  unfolding statementStep wordStep
+  far-statement =
+      either (Far (length t)) (eqb (getD t 0 0) 0x22) _ _ (λ _. far-one Quoted) (λ _.
+      either (Far (length t)) (begins (bytesOf "REM") t) _ _ (λ _. tt) (λ _.
+      either (Far (length t)) (begins (bytesOf "DATA") t) _ _ (λ e. (omega arith, begins-long (bytesOf "DATA") t e)) (λ _.
+      either (Far (length t)) (eqb (getD t 0 0) 0x3A) _ _ (λ _. far-one Start) (λ _.
+      either (Far (length t)) (isWhite (getD t 0 0)) _ _ (λ _. far-one place) (λ _.
+      either (Far (length t)) (wordProves place t) _ _ (λ _. tt) (λ _. far-one Within))))))
+
+  far-step : Far (length t) (evidenceStep place t)
+  unfolding evidenceStep
+  far-step =
+      either (Far (length t)) (isPlain place) _ _ (λ _. far-statement) (λ _. far-one (aside place (getD t 0 0)))
+
+-- ---- the loop over a line
+
+-- what is answered behind a step
+abbrev behindStep : (Place × List ℕ → Bool) → List ℕ → EvidenceStep → Bool
+behindStep more t Proved = true
+behindStep more t Remark = false
+behindStep more t (On used next) = more (next, drop used t)
+
+on-some : (more : Place × List ℕ → Bool) (place : Place) (t : List ℕ) → 0 < length t → evidenceOn more (place, t) ≡ behindStep more t (evidenceStep place t)
+unfolding evidenceOn
+on-some more place [] h = absurd (omega arith)
+on-some more place (b ∷ s) h = go (evidenceStep place (b ∷ s))
+  where
+    go : (x : EvidenceStep) → elim x [ Proved ↦ true | Remark ↦ false | On used next ↦ more (next, drop used (b ∷ s)) ] ≡ behindStep more (b ∷ s) x
+    go Proved = refl
+    go Remark = refl
+    go (On used next) = refl
+
+near : Nearer {S = Place × List ℕ} {R = Bool} (λ x. length (x .1)) evidenceOn
+unfolding evidenceOn
+near x f g h = go (x .0) (x .1) h
+  where
+    go : (place : Place) (t : List ℕ) → ((y : Place × List ℕ) → length (y .1) < length t → f y ≡ g y) → evidenceOn f (place, t) ≡ evidenceOn g (place, t)
+    go place [] k = refl
+    go place (b ∷ s) k = on-some f place (b ∷ s) (omega arith) ∙ same (evidenceStep place (b ∷ s)) (far-step place (b ∷ s) (omega arith)) ∙ sym (on-some g place (b ∷ s) (omega arith))
+      where
+        same : (y : EvidenceStep) → Far (suc (length s)) y → behindStep f (b ∷ s) y ≡ behindStep g (b ∷ s) y
+        same Proved q = refl
+        same Remark q = refl
+        same (On used next) q = k (next, drop used (b ∷ s)) (omega (arith, q .0, length-drop used (b ∷ s)))
+
+abbrev from : Place × List ℕ → Bool
+from y = evidenceFrom (y .0) (y .1)
+
+once : (place : Place) (t : List ℕ) → evidenceFrom place t ≡ evidenceOn from (place, t)
+unfolding evidenceFrom
+once place t = again-on near false (λ y. suc (length (y .1))) (λ y. omega arith) (place, t)
+
+none-left : (place : Place) → evidenceFrom place [] ≡ false
+unfolding evidenceOn
+none-left place = once place []
+
+-- a step that is known, and what it comes to
+stepped : (place : Place) (t : List ℕ) {s x : EvidenceStep} → s ≡ x → s ≡ evidenceStep place t → 0 < length t → evidenceFrom place t ≡ behindStep from t x
+stepped place t e q h = once place t ∙ on-some from place t h ∙ ap (behindStep from t) (sym q ∙ e)
+
+-- what is left of the line proves what the line does, w
+pub record Scanned (line : List ℕ) (w : Bool) (place : Place) (i : ℕ) : Type 0 where
+  pub within : i ≤ length line
+  pub gives : evidenceFrom place (drop i line) ≡ w
+
+number-le : (l : List ℕ) → numberLength l ≤ length l
+unfolding numberLength
+number-le l = omega (arith, front-le isWhite l, front-le isDigit (past isWhite l), length-drop (front isWhite l) l)
+
+pub number-is : (l : List ℕ) {a n : ℕ} → n ≡ front isDigit (rest l a) → a ≡ front isWhite l → a + n ≡ numberLength l
+unfolding numberLength
+number-is l {a} {n} q p =
+    let e : n ≡ front isDigit (past isWhite l) = q ∙ ap (front isDigit) (tail l a ∙ ap (λ (k : ℕ). drop k l) p) in
+    cc
+
+pub number-fits : (l : List ℕ) {a n : ℕ} → n ≡ front isDigit (rest l a) → a ≡ front isWhite l → Fits w64 (length l) → Fits w64 (a + n)
+number-fits l q p f = record { fits = omega (arith, f .fits, number-is l q p, number-le l) }
+
+pub scanned-start : (l : List ℕ) {i : ℕ} → i ≡ numberLength l → Scanned l (lineEvidence l) Start i
+unfolding lineEvidence
+scanned-start l {i} e = record { within = omega (arith, number-le l); gives = ap (λ (n : ℕ). evidenceFrom Start (drop n l)) e }
+
+pub scanned-end : {line : List ℕ} {w : Bool} {place : Place} {i : ℕ} → length line ≤ i → Scanned line w place i → false ≡ w
+scanned-end {line} {w} {place} h k = sym (none-left place) ∙ (rw (drop-of-length-le line h) at (k .gives))
+
+module _ (line : List ℕ) (place : Place) (i : ℕ) {s : EvidenceStep} where
+  there : {x : EvidenceStep} → s ≡ x → s ≡ evidenceStep place (rest line i) → i < length line → evidenceFrom place (drop i line) ≡ behindStep from (drop i line) x
+  there e q h = stepped place (drop i line) e (q ∙ ap (evidenceStep place) (tail line i)) (omega (arith, length-drop i line))
+
+  pub scanned-proved : {w : Bool} → s ≡ Proved → s ≡ evidenceStep place (rest line i) → i < length line → Scanned line w place i → true ≡ w
+  scanned-proved e q h k = sym (there e q h) ∙ k .gives
+
+  pub scanned-remark : {w : Bool} → s ≡ Remark → s ≡ evidenceStep place (rest line i) → i < length line → Scanned line w place i → false ≡ w
+  scanned-remark e q h k = sym (there e q h) ∙ k .gives
+
+  module _ {used : ℕ} {next : Place} (e : s ≡ On used next) (q : s ≡ evidenceStep place (rest line i)) (h : i < length line) where
+    far : (0 < used) × (i + used ≤ length line)
+    far =
+        let f : Far (length (rest line i)) (evidenceStep place (rest line i)) = far-step place (rest line i) (omega (arith, rest-long line i)) in
+        let g : Far (length (rest line i)) (On used next) = subst (Far (length (rest line i))) (sym q ∙ e) f in
+        (g .0, omega (arith, g .1, rest-long line i))
+
+    pub on-fits : Fits w64 (length line) → Fits w64 (i + used)
+    on-fits f = record { fits = omega (arith, f .fits, far .1) }
+
+    scanned-turn : {w : Bool} → Scanned line w place i → Scanned line w next (i + used)
+    scanned-turn k =
+        record { within = far .1; gives = ap (evidenceFrom next) (sym (drop-drop used i line)) ∙ sym (there e q h) ∙ k .gives }
+
+-- ---- a step, and the bytes of a string or of DATA behind it
+
+same-turn : (line : List ℕ) (place : Place) (j : ℕ) {w : Bool} → j < length line → Same place (getD line j 0) → Scanned line w place j → Scanned line w place (j + 1)
+unfolding evidenceStep
+same-turn line place j h s k =
+    let first : getD (rest line j) 0 0 ≡ getD line j 0 = ap (λ (t : List ℕ). getD t 0 0) (tail line j) ∙ getD-drop j line 0 0 ∙ ap (λ (n : ℕ). getD line n 0) (add-zero j) in
+    let q : On 1 place ≡ evidenceStep place (rest line j) = sym (left _ _ (s .apart) ∙ ap (On 1) (ap (aside place) first ∙ s .same)) in
+    scanned-turn line place j {s = On 1 place} refl q h k
+
+module _ (line : List ℕ) (place : Place) (i : ℕ) {s : EvidenceStep} {used : ℕ} {next : Place} (e : s ≡ On used next) (q : s ≡ evidenceStep place (rest line i)) (h : i < length line) where
+  pub behind-some : 0 < used
+  behind-some = far line place i e q h .0
+
+  pub behind-within : i + used ≤ length line
+  behind-within = far line place i e q h .1
+
+  pub scanned-stretch : {w : Bool} {n : ℕ} → n ≡ front (stays next) (rest line (i + used)) → Scanned line w place i → Scanned line w next (i + used + n)
+  scanned-stretch {w} p k = stretch line next i used p behind-within (Scanned line w next) (λ j g o. same-turn line next j g o) (scanned-turn line place i e q h k)
+
+-- ---- a blank in front of a line is passed before the first step
+
+module _ (b : ℕ) (l : List ℕ) (q : isBlank b ≡ true) where
+  number-more : numberLength (b ∷ l) ≡ suc (numberLength l)
+  unfolding numberLength
+  number-more = rw (front-more isWhite b l (blank-white b q)) (omega arith)
+
+  pub evidence-blank : lineEvidence (b ∷ l) ≡ lineEvidence l
+  unfolding lineEvidence
+  evidence-blank = ap (λ (n : ℕ). evidenceFrom Start (drop n (b ∷ l))) number-more

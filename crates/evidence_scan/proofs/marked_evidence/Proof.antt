@@ -1,0 +1,78 @@
+-- `evidence_scan::marked_evidence` meets its contract.
+-- Assumes nothing.
+use Prim.Native.Nat.{_-_}
+use lib.ListN.{length}
+use Rattle.evidence_scan.specs.Evidence.{lineEvidence}
+use Rattle.evidence_scan.proofs.Steps.{Scanned, scanned-start, scanned-proved, scanned-remark, scanned-stretch, scanned-end, on-fits, behind-some, behind-within}
+use Rattle.word_uses.proofs.Behind.{rest-some}
+use Rattle.word_uses.proofs.Marks.{marks-rest}
+use Rattle.scan_places.proofs.Places.{stretch-fits, stretch-less}
+use borrow.Author.Needs.{needs}
+use Rattle.evidence_scan.proofs.marked_evidence.Statement.{statement}
+use Rattle.evidence_scan.proofs.marked_evidence.Tie as tie
+
+abbrev Inv-loop : tie.InvT-loop
+Inv-loop line marks bytes index i₀ place₀ i place = Scanned line (lineEvidence line) place i
+
+abbrev μ-loop : tie.MeasureT-loop
+μ-loop line marks bytes index i₀ place₀ i place = length line - i
+
+loop-holds : tie.Need-loop-holds Inv-loop μ-loop
+loop-holds c = search scanned-start
+
+evidence-step-requires : tie.Need-evidence-step-requires Inv-loop μ-loop
+evidence-step-requires c κs = search (rest-some, marks-rest)
+
+returns : tie.Need-returns Inv-loop μ-loop
+returns c = search scanned-proved
+
+returns-2 : tie.Need-returns-2 Inv-loop μ-loop
+returns-2 c = search scanned-remark
+
+add-behind : tie.Need-add-behind Inv-loop μ-loop
+add-behind c = search on-fits
+
+sub-stretch : tie.Need-sub-stretch Inv-loop μ-loop
+sub-stretch c = search behind-within
+
+part-stretch-start : tie.Need-part-stretch-start Inv-loop μ-loop
+part-stretch-start c = search behind-within
+
+add-i : tie.Need-add-i Inv-loop μ-loop
+add-i c = search (stretch-fits, behind-within)
+
+loop-less : tie.Need-loop-less Inv-loop μ-loop
+loop-less c = search (stretch-less, behind-some, behind-within)
+
+loop-again : tie.Need-loop-again Inv-loop μ-loop
+loop-again c = search scanned-stretch
+
+returns-3 : tie.Need-returns-3 Inv-loop μ-loop
+returns-3 c = search scanned-end
+
+pub marked-evidence-spec : {M : Type 1} → statement M
+marked-evidence-spec =
+    tie.close
+    (tie.spec
+    Inv-loop
+    μ-loop
+    (λ c κs. search needs)
+    loop-holds
+    (λ c. search needs)
+    (λ c. search needs)
+    (λ c. search needs)
+    evidence-step-requires
+    (λ c. search needs)
+    returns
+    (λ c. search needs)
+    returns-2
+    (λ c. search needs)
+    add-behind
+    sub-stretch
+    part-stretch-start
+    (λ c. search needs)
+    (λ c κs. search needs)
+    add-i
+    loop-less
+    loop-again
+    returns-3)

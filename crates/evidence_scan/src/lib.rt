@@ -1,0 +1,188 @@
+// Whether a line uses a TSB word as a statement, as a function or as ELSE.
+use ascii::search;
+use ascii::search::Kind;
+use scan_places::beginnings;
+use scan_places::place;
+use scan_places::place::Place;
+use word_uses::lists;
+use word_uses::proving;
+use words::Match;
+ghost use mathlib.Core.Path.{_≡_};
+ghost use Prim.Native.Nat.{_≤_, _<_};
+ghost use mathlib.Core.Bool.{true, false};
+ghost use lib.ListN.{length, getD};
+ghost use Rattle.ascii.specs.Bytes.{isLetter};
+ghost use Rattle.ascii.specs.declared.search.Kind.the-variants.{White};
+ghost use Rattle.tables.specs.WordsHelpers.{SpellsWords};
+ghost use Rattle.evidence_scan.specs.Evidence.{wordProves, statementStep, evidenceStep, numberLength, lineEvidence};
+ghost use Rattle.word_uses.specs.MarkHelpers.{MarksOf};
+
+pub enum EvidenceStep {
+    // A TSB word that proves it.
+    Proved,
+    // A remark: the rest of the line counts for nothing.
+    Remark,
+    On { used: usize, place: Place },
+}
+
+// Whether a TSB word stands in front of a text, and proves that the text is TSB.
+fn word_proves(place: Place, text: &[u8], marks: &[u8], bytes: &[u8], index: &[u16]) -> bool
+    requires { ⌜ SpellsWords (now bytes) (now index) × MarksOf White (now text) (now marks) ⌝ }
+    ensures { λ r. ⌜ r ≡ wordProves place (now (text .entry)) ⌝ }
+{
+    match beginnings::tsb_word(text, bytes, index) {
+        Match::Word {
+            index: _,
+            used,
+            token: _,
+        } => proving::proves(place::is_start(place), text, used, marks),
+        Match::Nothing => false,
+    }
+}
+
+fn on(used: usize, place: Place) -> EvidenceStep
+    ensures { λ r. ⌜ r ≡ EvidenceStep.On used place ⌝ }
+{
+    EvidenceStep::On { used, place }
+}
+
+// A step at a letter outside strings and DATA: only there a word may stand.
+fn letter_step(place: Place, text: &[u8], marks: &[u8], bytes: &[u8], index: &[u16]) -> EvidenceStep
+    requires { ⌜ SpellsWords (now bytes) (now index) × (0 < length (now text)) × MarksOf White (now text) (now marks) × (isLetter (getD (now text) 0 0) ≡ true) ⌝ }
+    ensures { λ r. ⌜ r ≡ statementStep place (now (text .entry)) ⌝ }
+{
+    if beginnings::begins_rem(text) {
+        return EvidenceStep::Remark;
+    }
+    if beginnings::begins_data(text) {
+        return on(4, Place::Data);
+    }
+    if word_proves(place, text, marks, bytes, index) {
+        return EvidenceStep::Proved;
+    }
+    on(1, Place::Within)
+}
+
+// A step at another byte.
+fn other_step(place: Place, text: &[u8]) -> EvidenceStep
+    requires { ⌜ (0 < length (now text)) × (isLetter (getD (now text) 0 0) ≡ false) ⌝ }
+    ensures { λ r. ⌜ r ≡ statementStep place (now (text .entry)) ⌝ }
+{
+    let b = text[0];
+    if b == 0x22 {
+        return on(1, Place::Quoted);
+    }
+    if b == 0x3A {
+        return on(1, Place::Start);
+    }
+    if search::is_kind(b, Kind::White) {
+        return on(1, place);
+    }
+    on(1, Place::Within)
+}
+
+// A step outside strings and DATA. A space is asked for first, since no byte is more frequent.
+fn statement_step(
+    place: Place,
+    text: &[u8],
+    marks: &[u8],
+    bytes: &[u8],
+    index: &[u16],
+) -> EvidenceStep
+    requires { ⌜ SpellsWords (now bytes) (now index) × (0 < length (now text)) × MarksOf White (now text) (now marks) ⌝ }
+    ensures { λ r. ⌜ r ≡ statementStep place (now (text .entry)) ⌝ }
+{
+    let b = text[0];
+    if b == 0x20 {
+        return on(1, place);
+    }
+    if ascii::is_letter(b) {
+        return letter_step(place, text, marks, bytes, index);
+    }
+    other_step(place, text)
+}
+
+fn evidence_step(
+    place: Place,
+    text: &[u8],
+    marks: &[u8],
+    bytes: &[u8],
+    index: &[u16],
+) -> EvidenceStep
+    requires { ⌜ SpellsWords (now bytes) (now index) × (0 < length (now text)) × MarksOf White (now text) (now marks) ⌝ }
+    ensures { λ r. ⌜ r ≡ evidenceStep place (now (text .entry)) ⌝ }
+{
+    if place::is_plain(place) {
+        return statement_step(place, text, marks, bytes, index);
+    }
+    on(1, place::aside(place, text[0]))
+}
+
+// Where the first statement of a line begins: behind white space and digits.
+fn number_length(line: &[u8]) -> usize
+    ensures { λ r. ⌜ r ≡ numberLength (now (line .entry)) ⌝ }
+{
+    let blanks = search::front(line, Kind::White);
+    blanks + search::front(&line[blanks..], Kind::Digit)
+}
+
+fn marked_evidence(line: &[u8], marks: &[u8], bytes: &[u8], index: &[u16]) -> bool
+    requires { ⌜ SpellsWords (now bytes) (now index) × MarksOf White (now line) (now marks) ⌝ }
+    ensures { λ r. ⌜ r ≡ lineEvidence (now (line .entry)) ⌝ }
+{
+    let mut i = number_length(line);
+    let mut place = Place::Start;
+    while i < line.len() {
+        match evidence_step(place, &line[i..], marks, bytes, index) {
+            EvidenceStep::Proved => {
+                return true;
+            }
+            EvidenceStep::Remark => {
+                return false;
+            }
+            EvidenceStep::On { used, place: next } => {
+                let behind = i + used;
+                i = behind + place::stretch(next, &line[behind..]);
+                place = next;
+            }
+        }
+    }
+    false
+}
+
+fn long_evidence(line: &[u8], bytes: &[u8], index: &[u16]) -> bool
+    requires { ⌜ SpellsWords (now bytes) (now index) × (length (now line) ≤ 16384) ⌝ }
+    ensures { λ r. ⌜ r ≡ lineEvidence (now (line .entry)) ⌝ }
+{
+    let mut marks = [0u8; 2048];
+    let mut levels = [0u8; 2048];
+    lists::mark_long(line, Kind::White, &mut marks, &mut levels);
+    marked_evidence(line, &marks, bytes, index)
+}
+
+fn longest_evidence(line: &[u8], bytes: &[u8], index: &[u16]) -> bool
+    requires { ⌜ SpellsWords (now bytes) (now index) × (length (now line) ≤ 1048576) ⌝ }
+    ensures { λ r. ⌜ r ≡ lineEvidence (now (line .entry)) ⌝ }
+{
+    let mut marks = [0u8; 131072];
+    let mut levels = [0u8; 131072];
+    lists::mark_longest(line, Kind::White, &mut marks, &mut levels);
+    marked_evidence(line, &marks, bytes, index)
+}
+
+// Whether a line proves that a text is TSB. The room for marks goes by its length; a short line needs none, and no text has a longer one.
+pub fn line_evidence(line: &[u8], bytes: &[u8], index: &[u16]) -> bool
+    requires { ⌜ SpellsWords (now bytes) (now index) ⌝ }
+    ensures { λ r. ⌜ r ≡ lineEvidence (now (line .entry)) ⌝ }
+{
+    let n = line.len();
+    if n > 256 {
+        if n <= 16384 {
+            return long_evidence(line, bytes, index);
+        }
+        if n <= 1048576 {
+            return longest_evidence(line, bytes, index);
+        }
+    }
+    marked_evidence(line, b"", bytes, index)
+}

@@ -1,0 +1,23 @@
+-- `scan_places::beginnings::tsb_word` meets its contract. Where the first byte is no letter, no word is there to be found.
+-- Assumes nothing.
+use Rattle.scan_places.proofs.Words.{no-letter, no-word-empty}
+use borrow.Author.Needs.{needs}
+use Rattle.scan_places.proofs.beginnings.tsb_word.Statement.{statement}
+use Rattle.scan_places.proofs.beginnings.tsb_word.Tie as tie
+
+returns : tie.Need-returns
+returns c = search no-word-empty
+
+returns-3 : tie.Need-returns-3
+returns-3 c = search no-letter
+
+pub tsb-word-spec : {M : Type 1} → statement M
+tsb-word-spec =
+    tie.close
+    (tie.spec
+    returns
+    (λ c. search needs)
+    (λ c κs. search needs)
+    (λ c κs. search needs)
+    (λ c. search needs)
+    returns-3)

@@ -1,0 +1,2 @@
+pub mod PlaceHelpers
+pub mod Places

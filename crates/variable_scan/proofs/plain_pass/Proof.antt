@@ -1,0 +1,30 @@
+-- `variable_scan::plain_pass` meets its contract.
+-- Assumes nothing.
+use Rattle.variable_scan.proofs.Passes.{pass-quote, pass-other}
+use Rattle.scan_places.proofs.Words.{letter-told}
+use Rattle.steps.proofs.The.{the}
+use borrow.Author.Needs.{needs}
+use Rattle.variable_scan.proofs.plain_pass.Statement.{statement}
+use Rattle.variable_scan.proofs.plain_pass.Tie as tie
+
+letter-pass-requires : tie.Need-letter-pass-requires
+letter-pass-requires c κs = search letter-told
+
+returns-2 : tie.Need-returns-2
+returns-2 c = search pass-quote
+
+returns-3 : tie.Need-returns-3
+returns-3 c = search (pass-other, the tie.Else2 (search) .if2 .left)
+
+pub plain-pass-spec : {M : Type 1} → statement M
+plain-pass-spec =
+    tie.close
+    (tie.spec
+    (λ c. search needs)
+    (λ c κs. search needs)
+    letter-pass-requires
+    (λ c. search needs)
+    (λ c κs. search needs)
+    returns-2
+    (λ c κs. search needs)
+    returns-3)

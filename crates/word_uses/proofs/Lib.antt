@@ -1,0 +1,4 @@
+pub mod Behind
+pub mod Bits
+pub mod Marks
+pub mod Uses

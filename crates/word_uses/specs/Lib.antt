@@ -1,0 +1,3 @@
+pub mod Ahead
+pub mod MarkHelpers
+pub mod Proving
