@@ -3,7 +3,7 @@ use crate::frames;
 use crate::rooms;
 use dialect::Named;
 use frames::Answer;
-use listing::ListOptions;
+use list_options::ListOptions;
 use readers::By;
 
 // What a request asks for.

@@ -5,7 +5,7 @@ use dialect::Dialect;
 use find_line::Sought;
 use libc::STDERR_FILENO;
 use libc::STDOUT_FILENO;
-use listing::ListOptions;
+use list_options::ListOptions;
 use readers::By;
 use readers::Line;
 use sentences::put::put_decimal;

@@ -6,7 +6,7 @@ use desk::output;
 use desk::result;
 use dialect::Dialect;
 use input::Input;
-use listing::ListOptions;
+use list_options::ListOptions;
 use options::AskedDialect;
 use readers::By;
 use readers::Checked;

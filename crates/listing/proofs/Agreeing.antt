@@ -30,9 +30,10 @@ use Rattle.units.specs.Units.{modeBehind, toggledMode, oneUnit, tokenUnit, unqu
 use Rattle.units.proofs.Walking.{units-none, units-more}
 use Rattle.pieces.specs.Pieces.{unitText, spelt}
 use Rattle.layout.specs.Each.{Each}
-use Rattle.listing.specs.Body.{bodyListing, lineListing}
-use Rattle.listing.specs.Listing.{linesListing, listingBy, listing}
-use Rattle.listing.specs.Modes.{heedsPrefix, rulesUnder, listingUnder, behindRemark, listsApart, ListsAlike}
+use Rattle.line_listing.specs.Body.{bodyListing, lineListing}
+use Rattle.listing.specs.Listing.{linesListing, listingBy, listing, listingUnder}
+use Rattle.list_options.specs.Modes.{heedsPrefix, rulesUnder}
+use Rattle.listing.specs.Alike.{behindRemark, listsApart, ListsAlike}
 
 -- ---- the old mode, and Auto
 

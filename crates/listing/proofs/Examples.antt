@@ -23,9 +23,10 @@ use Rattle.readers.specs.Terminators.{terminatorStep, beforeZero}
 use Rattle.units.specs.Units.{unitsFrom}
 use Rattle.pieces.specs.Pieces.{unknownPair, pairText, unitText, spelt}
 use Rattle.decimals.specs.Decimal.{decimal}
-use Rattle.listing.specs.Body.{bodyListing}
+use Rattle.line_listing.specs.Body.{bodyListing}
 use Rattle.listing.specs.Listing.{listingBy, originalRules}
-use Rattle.listing.specs.Modes.{heedsPrefix, rulesUnder, listingUnder}
+use Rattle.list_options.specs.Modes.{heedsPrefix, rulesUnder}
+use Rattle.listing.specs.Listing.{listingUnder}
 
 -- a body in the second mode
 abbrev second : Dialect → List ℕ → List ℕ

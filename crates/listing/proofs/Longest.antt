@@ -1,24 +1,35 @@
--- A listing is at most nine times as long as its image of bytes.
+-- A listing is at most nine times as long as its image of bytes; so where that much is lent, an image that is read to its end can be listed.
 -- Assumes nothing.
-use Prim.Native.Nat.{ℕ, _+_, _*_, _-_, _≤_, _<_}
+use Prim.Native.Nat.{ℕ, _+_, _*_, _-_, _/_, _≤_, _<_}
 use mathlib.Core.Path.{_≡_, refl, sym, ap, _∙_, subst}
 use mathlib.Core.List.{List, [], _∷_, _++_}
 use native.Mathlib.Omega.{arith}
 use lib.ListN.{length, getD, length-append}
-use Rattle.refusals.specs.Answer.{Answer, done, refused, mapDone}
+use mir.Syntax.{w8}
+use mir.Val.{Fits}
+use Rattle.refusals.specs.Answer.{Answer, done, refused, mapDone, numbered}
+use Rattle.refusals.specs.declared.Refusal.{Refusal}
+use Rattle.lent.specs.Lent.{Lent, intoBuffer, roomFor}
+use Rattle.lent.specs.Stores.{HasRoom}
+use Rattle.lent.proofs.Outcomes.{into-refused}
+use Rattle.readers.specs.Answers.{checkedAnswer}
 use Rattle.readers.specs.declared.By.{By}
+use Rattle.readers.specs.declared.Checked.{Checked}
+use Rattle.readers.specs.declared.Checked.the-variants.{Image, Refused}
 use Rattle.readers.specs.declared.Line.{Line}
 use Rattle.readers.specs.Image.{Found, line, end}
 use Rattle.readers.specs.NumberedBody.{NumberedBody}
 use Rattle.readers.specs.Bodies.{bodyOf, numberedBody, bodiesFrom}
+use Rattle.readers.specs.Lines.{overview, overviewOf}
 use Rattle.readers.specs.Readers.{stepBy}
 use Rattle.readers.proofs.Equations.{LiesAt, by-lines}
-use Rattle.readers.proofs.Reading.{bodies-line, bodies-end, bodies-refused, body-length}
+use Rattle.readers.proofs.Finding.{told-checked}
+use Rattle.readers.proofs.Reading.{overview-bodies, bodies-line, bodies-end, bodies-refused, body-length}
 use Rattle.readers.proofs.Steps.{by-sound}
 use Rattle.units.specs.declared.Rules.{Rules}
-use Rattle.listing.specs.Body.{lineListing}
+use Rattle.line_listing.specs.Body.{lineListing}
 use Rattle.listing.specs.Listing.{linesListing, listingBy}
-use Rattle.listing.proofs.Lining.{line-short}
+use Rattle.line_listing.proofs.Lining.{line-short}
 
 module _ (by : By) (rules : Rules) (image : List ℕ) (bytes : (i : ℕ) → getD image i 0 < 256) where
   abbrev from : ℕ → Answer (List NumberedBody)
@@ -56,3 +67,27 @@ module _ (by : By) (rules : Rules) (image : List ℕ) (bytes : (i : ℕ) → get
       go : (a : Answer (List NumberedBody)) → mapDone (linesListing rules) a ≡ done text → Short 2 a → length text ≤ 9 * length image
       go (done bs) q h = let s : linesListing rules bs ≡ text = cc in omega (arith, ap length s)
       go (refused n) q h = let z : _≡_ {A = ℕ} 0 1 = cc in absurd (omega arith)
+
+-- ---- in a buffer that holds nine bytes for each byte of the image
+
+overview-by : (by : By) (image : List ℕ) {a : Answer (List NumberedBody)} → bodiesFrom (stepBy by) image 2 ≡ a → overview (stepBy by) image ≡ mapDone (overviewOf image) a
+overview-by by image f = overview-bodies (stepBy by) image ∙ ap (mapDone (overviewOf image)) f
+
+module _ (by : By) (rules : Rules) (image buffer : List ℕ) {r : Checked} (e : checkedAnswer r ≡ overview (stepBy by) image) where
+  -- an image that was read to its end has a listing, and the buffer has room for it
+  pub ninefold-room : {load lines : ℕ} → r ≡ Image load lines → length image ≤ length buffer / 9 → ((i : ℕ) → Fits w8 (getD image i 0)) → HasRoom buffer (listingBy by rules image)
+  unfolding listingBy
+  ninefold-room is few bytes = go (bodiesFrom (stepBy by) image 2) refl
+    where
+      go : (a : Answer (List NumberedBody)) → bodiesFrom (stepBy by) image 2 ≡ a → HasRoom buffer (mapDone (linesListing rules) a)
+      go (done bs) f = record { room = omega (arith, listing-short by rules image (λ i. omega (arith, bytes i .fits)) (ap (mapDone (linesListing rules)) f)) }
+      go (refused n) f = let z : _≡_ {A = ℕ} 0 1 = cc (overview-by by image f, told-checked is e) in absurd (omega arith)
+
+  -- one that was refused has none
+  pub ninefold-refused : {n : Refusal} → r ≡ Refused n → _≡_ {A = Lent} (record { answer = refused (numbered n); buffer = buffer }) (intoBuffer (listingBy by rules image) buffer)
+  unfolding listingBy
+  ninefold-refused {n} is = into-refused buffer (listingBy by rules image) (go (bodiesFrom (stepBy by) image 2) refl)
+    where
+      go : (a : Answer (List NumberedBody)) → bodiesFrom (stepBy by) image 2 ≡ a → refused (numbered n) ≡ roomFor (mapDone (linesListing rules) a)
+      go (done bs) f = let z : _≡_ {A = ℕ} 0 1 = cc (overview-by by image f, told-checked is e) in absurd (omega arith)
+      go (refused m) f = cc (overview-by by image f, told-checked is e)

@@ -2,7 +2,6 @@
 -- Assumes nothing.
 use Prim.Native.Nat.{ℕ, _+_, _*_, _-_, _≤_, _<_}
 use mathlib.Core.Path.{_≡_, refl, sym, ap, _∙_, subst}
-use mathlib.Core.Bool.{Bool, false}
 use mathlib.Core.List.{List, [], _∷_, _++_}
 use native.Mathlib.Omega.{arith}
 use lib.ListN.{length, length-append}
@@ -30,13 +29,12 @@ use Rattle.readers.proofs.Reading.{bodies-line, bodies-end, bodies-refused, bod
 use Rattle.readers.proofs.Steps.{by-sound, found-lies}
 use Rattle.units.specs.declared.Rules.{Rules}
 use Rattle.pieces.proofs.Owed.{Owed, owed-start, owed-room, owed-turn, owed-end}
-use Rattle.dialect.specs.Dialects.{isBasic35}
-use Rattle.listing.specs.Body.{lineListing}
-use Rattle.listing.specs.LineHelpers.{headListing, restListing, LineLength}
-use Rattle.listing.specs.Listing.{linesListing, listingBy, listing}
-use Rattle.listing.specs.Modes.{heedsPrefix, rulesUnder, listingUnder, originalOptions}
-use Rattle.listing.specs.declared.ListOptions.{ListOptions}
-use Rattle.listing.proofs.Lining.{line-parts}
+use Rattle.line_listing.specs.Body.{lineListing}
+use Rattle.line_listing.specs.LineHelpers.{headListing, restListing, LineLength}
+use Rattle.list_options.specs.Modes.{rulesUnder, originalOptions}
+use Rattle.list_options.specs.declared.ListOptions.{ListOptions}
+use Rattle.listing.specs.Listing.{linesListing, listingBy, listing, listingUnder}
+use Rattle.line_listing.proofs.Lining.{line-parts}
 
 -- what is left to list of an image, from an offset on
 abbrev leftFrom : By → Rules → List ℕ → ℕ → Answer (List ℕ)
@@ -194,10 +192,6 @@ module _ (by : By) (rules : Rules) (image buffer : List ℕ) {r : Outcome} (e : 
   no-listing is = into-refused buffer (listingBy by rules image) (told-outcome is e)
 
 -- ---- as the options ask for it
-
-pub rules-are : (o : ListOptions) {p own : Bool} → p ≡ heedsPrefix (o .dialect) (o .remarks) → own ≡ isBasic35 (o .dialect)
-    → _≡_ {A = Rules} (record { prefix = p; remarks = o .remarks; items = false; basic35 = own }) (rulesUnder o)
-rules-are o e f = rw (e, f)
 
 module _ (o : ListOptions) (image : List ℕ) {rules : Rules} (is : rules ≡ rulesUnder o) where
   pub room-under : {a : Answer ℕ} → a ≡ roomFor (listingBy (o .by) rules image) → a ≡ roomFor (listingUnder o image)

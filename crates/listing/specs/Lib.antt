@@ -1,6 +1,2 @@
-pub mod Body
-pub mod LineHelpers
+pub mod Alike
 pub mod Listing
-pub mod Modes
-pub mod Stretch
-pub mod StretchHelpers

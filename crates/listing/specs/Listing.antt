@@ -11,7 +11,9 @@ use Rattle.readers.specs.Bodies.{bodiesFrom, bodiesOf}
 use Rattle.readers.specs.NumberedBody.{NumberedBody}
 use Rattle.readers.specs.Readers.{stepBy}
 use Rattle.units.specs.declared.Rules.{Rules}
-use Rattle.listing.specs.Body.{lineListing}
+use Rattle.list_options.specs.Modes.{heedsPrefix, rulesUnder}
+use Rattle.list_options.specs.declared.ListOptions.{ListOptions}
+use Rattle.line_listing.specs.Body.{lineListing}
 
 unfoldable pub linesListing : Rules → List NumberedBody → List ℕ
 unfolding lineListing
@@ -31,3 +33,8 @@ originalRules = record { prefix = true; remarks = false; items = false; basic35 
 unfoldable pub listing : List ℕ → Answer (List ℕ)
 unfolding listingBy
 listing image = listingBy Terminators originalRules image
+
+-- as the options ask for it
+unfoldable pub listingUnder : ListOptions → List ℕ → Answer (List ℕ)
+unfolding listingBy heedsPrefix
+listingUnder o image = listingBy (o .by) (rulesUnder o) image

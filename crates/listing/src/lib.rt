@@ -1,41 +1,31 @@
 // The listing of an image.
-use dialect::Dialect;
 use lent::Outcome;
+use list_options::ListOptions;
 use readers::By;
+use readers::Checked;
 use readers::Step;
 use refusals::Refusal;
 use units::Rules;
 ghost use mathlib.Core.Path.{_≡_};
+ghost use Prim.Native.Nat.{_/_, _≤_};
+ghost use lib.ListN.{length};
 ghost use Rattle.lent.specs.Lent.{intoBuffer, roomFor, outcomeAnswer, left};
 ghost use Rattle.texts.specs.TextsHelpers.{SpellsTexts};
 ghost use Rattle.lent.specs.Stores.{HasRoom};
-ghost use Rattle.listing.specs.Listing.{listing, listingBy};
-ghost use Rattle.listing.specs.Modes.{heedsPrefix, rulesUnder, listingUnder, originalOptions};
-
-pub mod body;
-pub mod decimal;
-pub mod stretch;
-
-// How an image is listed.
-pub struct ListOptions {
-    pub dialect: Dialect,
-    // Whether a remark is listed as text, up to its line's end: the second mode.
-    pub remarks: bool,
-    pub by: By,
-}
+ghost use Rattle.listing.specs.Listing.{listing, listingBy, listingUnder};
 
 // Stores the listing of an image at the start of a buffer, as the original lists it, and answers how long it is.
 pub fn list(image: &[u8], out: &mut [u8]) -> Outcome
     ensures { λ r. ⌜ left r (now (out .exit)) ≡ intoBuffer (listing (now (image .entry))) (now (out .entry)) ⌝ }
 {
-    list_under(image, original(), out)
+    list_under(image, list_options::original(), out)
 }
 
 // The room that this listing of an image needs.
 pub fn room(image: &[u8]) -> Outcome
     ensures { λ r. ⌜ outcomeAnswer r ≡ roomFor (listing (now (image .entry))) ⌝ }
 {
-    room_under(image, original())
+    room_under(image, list_options::original())
 }
 
 // Stores the listing of an image at the start of a buffer, as the options ask for it, and answers how long it is.
@@ -48,7 +38,7 @@ pub fn list_under(image: &[u8], options: ListOptions, out: &mut [u8]) -> Outcome
         &texts::TEXT_BYTES,
         &texts::TEXT_STARTS,
         by,
-        rules_under(options),
+        list_options::rules_under(options),
         image,
     )
 }
@@ -62,48 +52,51 @@ pub fn room_under(image: &[u8], options: ListOptions) -> Outcome
         &texts::TEXT_BYTES,
         &texts::TEXT_STARTS,
         by,
-        rules_under(options),
+        list_options::rules_under(options),
         image,
     )
 }
 
-// What the original's listing is: under any of its dialects the same.
-fn original() -> ListOptions
-    ensures { λ r. ⌜ r ≡ originalOptions ⌝ }
-{
-    ListOptions {
-        dialect: Dialect::Auto,
-        remarks: false,
-        by: By::Terminators,
-    }
-}
-
-// What a walk over a body heeds.
-fn rules_under(options: ListOptions) -> Rules
-    ensures { λ r. ⌜ r ≡ rulesUnder options ⌝ }
-{
-    let dialect = options.dialect;
-    Rules {
-        prefix: heeds_prefix(dialect, options.remarks),
-        remarks: options.remarks,
-        items: false,
-        basic35: dialect::is_basic35(dialect),
-    }
-}
-
-// Whether 64 is a prefix: not in the second mode under BasicV2, nor under BASIC 3.5.
-fn heeds_prefix(dialect: Dialect, remarks: bool) -> bool
-    ensures { λ r. ⌜ r ≡ heedsPrefix dialect remarks ⌝ }
-{
-    match dialect {
-        Dialect::Auto => true,
-        Dialect::BasicV2 => !remarks,
-        Dialect::Tsb => true,
-        Dialect::Basic35 => false,
-    }
-}
-
+// Where the room holds nine bytes for each byte of the image, which no listing exceeds, nothing is measured.
 fn list_with(
+    out: &mut [u8],
+    bytes: &[u8],
+    starts: &[u16],
+    by: By,
+    rules: Rules,
+    image: &[u8],
+) -> Outcome
+    requires { ⌜ SpellsTexts (now bytes) (now starts) ⌝ }
+    ensures { λ r. ⌜ left r (now (out .exit)) ≡ intoBuffer (listingBy by rules (now (image .entry))) (now (out .entry)) ⌝ }
+{
+    if image.len() <= out.len() / 9 {
+        return list_checked(out, bytes, starts, by, rules, image);
+    }
+    list_measured(out, bytes, starts, by, rules, image)
+}
+
+// The same in a buffer that holds any listing of an image of this length: a refused image is known before a byte is stored.
+fn list_checked(
+    out: &mut [u8],
+    bytes: &[u8],
+    starts: &[u16],
+    by: By,
+    rules: Rules,
+    image: &[u8],
+) -> Outcome
+    requires { ⌜ SpellsTexts (now bytes) (now starts) × (length (now image) ≤ length (now out) / 9) ⌝ }
+    ensures { λ r. ⌜ left r (now (out .exit)) ≡ intoBuffer (listingBy by rules (now (image .entry))) (now (out .entry)) ⌝ }
+{
+    match readers::check_by(image, by) {
+        Checked::Image { load: _, lines: _ } => {
+            Outcome::Done(write(out, bytes, starts, by, rules, image))
+        }
+        Checked::Refused(refusal) => Outcome::Refused(refusal),
+    }
+}
+
+// The same in any buffer: what is measured decides.
+fn list_measured(
     out: &mut [u8],
     bytes: &[u8],
     starts: &[u16],
@@ -136,7 +129,13 @@ fn measure(bytes: &[u8], starts: &[u16], by: By, rules: Rules, image: &[u8]) -> 
             Step::Found(line) => {
                 let from = line.from;
                 let to = line.to;
-                n += body::measure_line(bytes, starts, rules, line.number, &image[from..to]);
+                n += line_listing::measure_line(
+                    bytes,
+                    starts,
+                    rules,
+                    line.number,
+                    &image[from..to],
+                );
                 offset = line.next;
             }
             Step::End => {
@@ -161,8 +160,8 @@ fn write(out: &mut [u8], bytes: &[u8], starts: &[u16], by: By, rules: Rules, ima
             Step::Found(line) => {
                 let from = line.from;
                 let to = line.to;
-                let behind = body::put_head(out, at, line.number);
-                at = body::put_rest(out, behind, bytes, starts, rules, &image[from..to]);
+                let behind = line_listing::put_head(out, at, line.number);
+                at = line_listing::put_rest(out, behind, bytes, starts, rules, &image[from..to]);
                 offset = line.next;
             }
             Step::End => {

@@ -14,8 +14,8 @@ use Rattle.dialect.specs.Dialects.{byNumber, namedAnswer}
 use Rattle.dialect.specs.declared.Dialect.{Dialect}
 use Rattle.dialect.specs.declared.Named.{Named}
 use Rattle.dialect.specs.declared.Named.the-variants.{Known, Refused}
-use Rattle.listing.specs.declared.ListOptions.{ListOptions}
-use Rattle.listing.specs.Modes.{listingUnder}
+use Rattle.list_options.specs.declared.ListOptions.{ListOptions}
+use Rattle.listing.specs.Listing.{listingUnder}
 use Rattle.text_image.specs.Crunched.{crunched}
 use Rattle.d64.specs.Calls.{Holding, After, changedAnswer, diskAnswer, leaving}
 use Rattle.d64.specs.declared.Changed.{Changed}

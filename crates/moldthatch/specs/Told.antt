@@ -11,8 +11,8 @@ use Rattle.dialect.specs.Dialects.{byNumber}
 use Rattle.dialect.specs.declared.Dialect.{Dialect}
 use Rattle.readers.specs.Lines.{Overview}
 use Rattle.readers.specs.declared.By.the-variants.{Terminators}
-use Rattle.listing.specs.declared.ListOptions.{ListOptions}
-use Rattle.listing.specs.Modes.{listingUnder}
+use Rattle.list_options.specs.declared.ListOptions.{ListOptions}
+use Rattle.listing.specs.Listing.{listingUnder}
 use Rattle.text_image.specs.Crunched.{crunched}
 use Rattle.d64.specs.Calls.{Holding, After}
 use Rattle.index_entries.specs.declared.Held.{Held}

@@ -2,7 +2,7 @@
 // 3 for BASIC 3.5.
 use dialect::Dialect;
 use dialect::Named;
-use listing::ListOptions;
+use list_options::ListOptions;
 use readers::By;
 use readers::Checked;
 use readers::links;

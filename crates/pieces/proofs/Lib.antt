@@ -1,5 +1,6 @@
 pub mod Copying
 pub mod Held
+pub mod Itself
 pub mod Owed
 pub mod Short
 pub mod Spelling

@@ -6,7 +6,19 @@ ghost use lib.ListN.{length};
 ghost use Rattle.lent.specs.Stores.{Room, Put};
 ghost use Rattle.texts.specs.TextsHelpers.{SpellsTexts};
 ghost use Rattle.tables.specs.Tsb.{tsbId, tsbText};
+ghost use Rattle.pieces.specs.ItselfHelpers.{listsAsItself};
 ghost use Rattle.pieces.specs.Pieces.{unknownPair, unitText};
+
+// Whether a byte is listed as itself in every mode, and changes none.
+pub fn lists_as_itself(b: u8) -> bool
+    ensures { λ r. ⌜ r ≡ listsAsItself b ⌝ }
+{
+    match b {
+        0x22 => false,
+        0x3A => false,
+        _ => ascii::between(0x20, 0x5F, b),
+    }
+}
 
 // How long a unit's text is.
 pub fn unit_length(bytes: &[u8], starts: &[u16], unit: Unit) -> usize

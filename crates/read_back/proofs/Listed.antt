@@ -14,9 +14,9 @@ use Rattle.readers.specs.Bodies.{bodiesOf}
 use Rattle.readers.specs.Readers.{stepBy}
 use Rattle.layout.specs.Layout.{imageOf}
 use Rattle.layout.specs.Reads.{NoZeros}
-use Rattle.listing.specs.Listing.{linesListing, listingBy}
-use Rattle.listing.specs.Modes.{rulesUnder, listingUnder}
-use Rattle.listing.specs.declared.ListOptions.{ListOptions}
+use Rattle.listing.specs.Listing.{linesListing, listingBy, listingUnder}
+use Rattle.list_options.specs.Modes.{rulesUnder}
+use Rattle.list_options.specs.declared.ListOptions.{ListOptions}
 use Rattle.text_image.specs.Crunched.{crunchedLines, crunched}
 use Rattle.text_image.specs.declared.Options.{Options}
 use Rattle.read_back.specs.ReadsBack.{ReadsBack}

@@ -10,14 +10,14 @@ use mir.Syntax.{w16}
 use mir.Val.{Fits}
 use types.Run.{OneOf, miss}
 use denote.Enum.Declared.{tagOf}
-use Rattle.listing.proofs.stretch.Place.{the-type}
-use Rattle.listing.specs.declared.ListOptions.{ListOptions}
-use Rattle.listing.specs.declared.stretch.Place.{Place}
-use Rattle.listing.specs.declared.stretch.Place.the-variants.{Number, Body, Over}
-use Rattle.listing.specs.declared.stretch.Stretch.{Stretch}
-use Rattle.listing.specs.Modes.{rulesUnder}
-use Rattle.listing.specs.Stretch.{stretchOf, stretchAnswer, placeLeft}
-use Rattle.listing.proofs.Joining.{SmallNumber, stretch-held, stretch-nearer, number-small}
+use Rattle.line_stretches.proofs.Place.{the-type}
+use Rattle.list_options.specs.declared.ListOptions.{ListOptions}
+use Rattle.line_stretches.specs.declared.Place.{Place}
+use Rattle.line_stretches.specs.declared.Place.the-variants.{Number, Body, Over}
+use Rattle.line_stretches.specs.declared.Stretch.{Stretch}
+use Rattle.list_options.specs.Modes.{rulesUnder}
+use Rattle.line_stretches.specs.Stretch.{stretchOf, stretchAnswer, placeLeft}
+use Rattle.line_stretches.proofs.Joining.{SmallNumber, stretch-held, stretch-nearer, number-small}
 
 -- something of a line is left, and the buffer is as long as it was
 pub record Writing (body first out : List ℕ) (place : Place) : Type 0 where

@@ -1,10 +1,9 @@
 // Listed lines, written one after the other, a long one in stretches. No contract can say what is written: the bytes are those that
-// `listing::stretch` promises.
+// `line_stretches` promises.
 use desk::result;
-use listing::ListOptions;
-use listing::stretch;
+use line_stretches::Place;
+use list_options::ListOptions;
 use readers::Step;
-use stretch::Place;
 ghost use Prim.Native.Nat.{_≤_};
 ghost use lib.ListN.{length};
 
@@ -28,7 +27,7 @@ pub fn write_line(
 {
     let mut place = Place::Number(number);
     loop {
-        let taken = stretch::list_stretch(body, options, place, out);
+        let taken = line_stretches::list_stretch(body, options, place, out);
         let count = taken.length;
         if !write_first(fd, name, out, count) {
             return false;

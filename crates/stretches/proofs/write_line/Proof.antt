@@ -1,6 +1,6 @@
 -- `stretches::write_line` is safe and ends: a stretch lies within its buffer, and each brings the line nearer to its end.
 -- Assumes nothing.
-use Rattle.listing.specs.Stretch.{placeLeft}
+use Rattle.line_stretches.specs.Stretch.{placeLeft}
 use Rattle.stretches.proofs.Held.{Writing, writing-start, writing-turn, writing-less, stretch-within}
 use borrow.Author.Needs.{needs}
 use Rattle.stretches.proofs.write_line.Statement.{statement}

@@ -1,0 +1,49 @@
+// How an image is listed, and what a walk over a body then heeds.
+use dialect::Dialect;
+use readers::By;
+use units::Rules;
+ghost use mathlib.Core.Path.{_≡_};
+ghost use Rattle.list_options.specs.Modes.{heedsPrefix, rulesUnder, originalOptions};
+
+pub struct ListOptions {
+    pub dialect: Dialect,
+    // Whether a remark is listed as text, up to its line's end: the second mode.
+    pub remarks: bool,
+    pub by: By,
+}
+
+// What the original's listing is: under any of its dialects the same.
+pub fn original() -> ListOptions
+    ensures { λ r. ⌜ r ≡ originalOptions ⌝ }
+{
+    ListOptions {
+        dialect: Dialect::Auto,
+        remarks: false,
+        by: By::Terminators,
+    }
+}
+
+// What a walk over a body heeds.
+pub fn rules_under(options: ListOptions) -> Rules
+    ensures { λ r. ⌜ r ≡ rulesUnder options ⌝ }
+{
+    let dialect = options.dialect;
+    Rules {
+        prefix: heeds_prefix(dialect, options.remarks),
+        remarks: options.remarks,
+        items: false,
+        basic35: dialect::is_basic35(dialect),
+    }
+}
+
+// Whether 64 is a prefix: not in the second mode under BasicV2, nor under BASIC 3.5.
+fn heeds_prefix(dialect: Dialect, remarks: bool) -> bool
+    ensures { λ r. ⌜ r ≡ heedsPrefix dialect remarks ⌝ }
+{
+    match dialect {
+        Dialect::Auto => true,
+        Dialect::BasicV2 => !remarks,
+        Dialect::Tsb => true,
+        Dialect::Basic35 => false,
+    }
+}
