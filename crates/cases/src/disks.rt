@@ -1,13 +1,44 @@
 // Ops 20 to 24: the calls on disks. A disk is the rest of the payload, and every answer ends with its bytes as the call left them.
-use crate::frames;
-use crate::rooms;
 use d64::Changed;
 use d64::DiskCheck;
 use frames::Answer;
+use frames::rooms;
+use lent::Outcome;
 ghost use Prim.Native.Nat.{_≤_};
 ghost use lib.ListN.{length};
 
-pub fn format(payload: &[u8], disk: &mut [u8]) -> bool
+// Where the name ends that bytes begin with, behind its length; beyond bytes that are too short for one.
+fn name_end(bytes: &[u8]) -> usize
+    ensures { λ r. ⌜ (2 ≤ r) × (r ≤ 65537) ⌝ }
+{
+    if bytes.len() < 2 {
+        return 2;
+    }
+    2 + frames::u16_at(bytes, 0) as usize
+}
+
+// The same for a file.
+fn file_end(bytes: &[u8]) -> usize
+    ensures { λ r. ⌜ 4 ≤ r ⌝ }
+{
+    if bytes.len() < 4 {
+        return 4;
+    }
+    4 + frames::u32_at(bytes, 0) as usize
+}
+
+// Formats a disk, saves a file on it or scratches one.
+pub fn change(op: u8, payload: &[u8], disk: &mut [u8]) -> bool
+    requires { ⌜ length (now payload) ≤ length (now disk) ⌝ }
+{
+    match op {
+        0x20 => format(payload, disk),
+        0x21 => save(payload, disk),
+        _ => scratch(payload, disk),
+    }
+}
+
+fn format(payload: &[u8], disk: &mut [u8]) -> bool
     requires { ⌜ length (now payload) ≤ length (now disk) ⌝ }
 {
     let size = bytes::copy(payload, disk);
@@ -15,58 +46,75 @@ pub fn format(payload: &[u8], disk: &mut [u8]) -> bool
     send_changed(changed, &disk[0..size])
 }
 
-pub fn save(payload: &[u8], disk: &mut [u8]) -> bool
+fn save(payload: &[u8], disk: &mut [u8]) -> bool
     requires { ⌜ length (now payload) ≤ length (now disk) ⌝ }
 {
-    if payload.len() < 6 {
-        return Answer::malformed().send();
+    let end = name_end(payload);
+    if end > payload.len() {
+        return frames::reject();
     }
-    let name_end = 2 + frames::u16_at(payload, 0) as usize;
-    let start = name_end + 4;
-    if start > payload.len() {
-        return Answer::malformed().send();
+    save_named(&payload[2..end], &payload[end..], disk)
+}
+
+fn save_named(name: &[u8], left: &[u8], disk: &mut [u8]) -> bool
+    requires { ⌜ length (now left) ≤ length (now disk) ⌝ }
+{
+    let end = file_end(left);
+    if end > left.len() {
+        return frames::reject();
     }
-    let from = start + frames::u32_at(payload, name_end) as usize;
-    if from > payload.len() {
-        return Answer::malformed().send();
+    save_file(name, &left[4..end], &left[end..], disk)
+}
+
+fn save_file(name: &[u8], file: &[u8], given: &[u8], disk: &mut [u8]) -> bool
+    requires { ⌜ length (now given) ≤ length (now disk) ⌝ }
+{
+    let size = bytes::copy(given, disk);
+    let changed = disk::save(&mut disk[0..size], name, file);
+    send_changed(changed, &disk[0..size])
+}
+
+fn scratch(payload: &[u8], disk: &mut [u8]) -> bool
+    requires { ⌜ length (now payload) ≤ length (now disk) ⌝ }
+{
+    let end = name_end(payload);
+    if end > payload.len() {
+        return frames::reject();
     }
-    let size = bytes::copy(&payload[from..], disk);
-    let changed = disk::save(
-        &mut disk[0..size],
-        &payload[2..name_end],
-        &payload[start..from],
-    );
+    scratch_named(&payload[2..end], &payload[end..], disk)
+}
+
+fn scratch_named(name: &[u8], given: &[u8], disk: &mut [u8]) -> bool
+    requires { ⌜ length (now given) ≤ length (now disk) ⌝ }
+{
+    let size = bytes::copy(given, disk);
+    let changed = disk::scratch(&mut disk[0..size], name);
     send_changed(changed, &disk[0..size])
 }
 
 pub fn read(payload: &[u8], room: &mut [u8]) -> bool {
-    if payload.len() < 6 {
-        return Answer::malformed().send();
+    if payload.len() < 4 {
+        return frames::reject();
     }
     let size = frames::u32_at(payload, 0) as usize;
-    let from = 6 + frames::u16_at(payload, 4) as usize;
-    if size > room.len() || from > payload.len() {
-        return Answer::malformed().send();
+    if size > room.len() {
+        return frames::reject();
     }
-    rooms::fill(&mut room[0..size]);
-    let disk = &payload[from..];
-    let outcome = disk::read(disk, &payload[6..from], &mut room[0..size]);
-    frames::length_of(outcome).send_with_both(&room[0..size], disk)
+    read_named(&payload[4..], &mut room[0..size])
 }
 
-pub fn scratch(payload: &[u8], disk: &mut [u8]) -> bool
-    requires { ⌜ length (now payload) ≤ length (now disk) ⌝ }
-{
-    if payload.len() < 2 {
-        return Answer::malformed().send();
+fn read_named(left: &[u8], room: &mut [u8]) -> bool {
+    let end = name_end(left);
+    if end > left.len() {
+        return frames::reject();
     }
-    let from = 2 + frames::u16_at(payload, 0) as usize;
-    if from > payload.len() {
-        return Answer::malformed().send();
-    }
-    let size = bytes::copy(&payload[from..], disk);
-    let changed = disk::scratch(&mut disk[0..size], &payload[2..from]);
-    send_changed(changed, &disk[0..size])
+    rooms::fill(room);
+    let outcome = disk::read(&left[end..], &left[2..end], room);
+    send_read(outcome, room, &left[end..])
+}
+
+fn send_read(outcome: Outcome, room: &[u8], disk: &[u8]) -> bool {
+    frames::length_of(outcome).send_with_both(room, disk)
 }
 
 pub fn check(disk: &[u8]) -> bool {

@@ -1,5 +1,4 @@
 // Dialects as the bytes that stand for them, and op 13: the default load address.
-use crate::frames;
 use dialect::Dialect;
 use dialect::Named;
 use frames::Answer;
@@ -15,13 +14,14 @@ pub fn byte_of(dialect: Dialect) -> u8 {
 
 pub fn default_load(payload: &[u8]) -> bool {
     if payload.len() < 1 {
-        return Answer::malformed().send();
+        return frames::reject();
     }
     match dialect::dialect_by_number(payload[0]) {
-        Named::Known(dialect) => {
-            let load = dialect::default_load(dialect);
-            Answer::done().number(load as usize).send()
-        }
-        Named::Refused(_) => Answer::malformed().send(),
+        Named::Known(dialect) => send_load(dialect::default_load(dialect)),
+        Named::Refused(_) => frames::reject(),
     }
+}
+
+fn send_load(load: u16) -> bool {
+    Answer::done().number(load as usize).send()
 }

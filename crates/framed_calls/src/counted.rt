@@ -2,7 +2,7 @@
 ghost use mathlib.Core.Path.{_≡_};
 ghost use Prim.Native.Nat.{_+_, _*_, _≤_};
 ghost use lib.ListN.{length};
-use crate::frames;
+ghost use Rattle.frames.specs.FramesHelpers.{Sendable};
 use counting::Carried;
 use frames::Answer;
 use refusals::Refusal;
@@ -10,20 +10,34 @@ use refusals::Refusal;
 // Counts the images one after another, and answers the totals, after 26 too.
 pub fn count_images(payload: &[u8]) -> bool {
     if payload.len() < 4 {
-        return Answer::malformed().send();
+        return frames::reject();
     }
-    let images = &payload[4..];
-    if !fills(images, frames::u32_at(payload, 0)) {
-        return Answer::malformed().send();
+    let count = frames::u32_at(payload, 0);
+    count_all(&payload[4..], count)
+}
+
+fn count_all(images: &[u8], count: u32) -> bool {
+    if !fills(images, count) {
+        return frames::reject();
     }
     let mut totals = [0u64; 206];
     let kept = take_all(images, &mut totals);
+    send_totals(kept, &totals)
+}
+
+fn send_totals(kept: bool, totals: &[u64]) -> bool {
     let mut numbers = [0u8; 3176];
-    put_totals(&totals, &mut numbers);
+    put_totals(totals, &mut numbers);
+    counted(kept).send_with(&numbers)
+}
+
+fn counted(kept: bool) -> Answer
+    ensures { λ r. ⌜ Sendable r ⌝ }
+{
     if kept {
-        return Answer::done().send_with(&numbers);
+        return Answer::done();
     }
-    Answer::refused(Refusal::TooManyImages).send_with(&numbers)
+    Answer::refused(Refusal::TooManyImages)
 }
 
 // Whether bytes are so many images, each behind its length, and nothing else.
@@ -55,12 +69,19 @@ fn take_all(images: &[u8], totals: &mut [u64]) -> bool {
         }
         let from = at + 4;
         let to = from + length;
-        if let Carried::Refused(_) = counting::add_image(totals, &images[from..to]) {
+        if !is_kept(totals, &images[from..to]) {
             kept = false;
         }
         at = to;
     }
     kept
+}
+
+fn is_kept(totals: &mut [u64], image: &[u8]) -> bool {
+    if let Carried::Refused(_) = counting::add_image(totals, image) {
+        return false;
+    }
+    true
 }
 
 // The answer's numbers: images taken, images refused, tokens counted, each token's count, each token's share.
@@ -70,6 +91,12 @@ fn put_totals(totals: &[u64], out: &mut [u8])
     put_number(out, 0, count_at(totals, counting::TAKEN));
     put_number(out, 1, count_at(totals, counting::REFUSED));
     put_number(out, 2, counting::tokens(totals));
+    put_tokens(totals, out);
+}
+
+fn put_tokens(totals: &[u64], out: &mut [u8])
+    requires { ⌜ length (now out) ≡ 3176 ⌝ }
+{
     let mut place: usize = 0;
     while place < 197 {
         let token = counting::token_at(place);

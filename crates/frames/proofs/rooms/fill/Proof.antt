@@ -1,13 +1,13 @@
--- `cases::rooms::fill` meets its contract.
+-- `frames::rooms::fill` meets its contract.
 -- Assumes nothing.
 use Prim.Native.Nat.{_-_}
 use native.Mathlib.Omega.{arith}
 use mathlib.Core.Path.{refl}
 use lib.ListN.{length}
-use Rattle.cases.proofs.Filling.{Filled, filled-turn, filled-end}
+use Rattle.frames.proofs.Filling.{Filled, filled-turn, filled-end}
 use borrow.Author.Needs.{needs}
-use Rattle.cases.proofs.rooms.fill.Statement.{statement}
-use Rattle.cases.proofs.rooms.fill.Tie as tie
+use Rattle.frames.proofs.rooms.fill.Statement.{statement}
+use Rattle.frames.proofs.rooms.fill.Tie as tie
 
 abbrev Inv-loop : tie.InvT-loop
 Inv-loop room₀ i₀ room i = Filled (length room₀) 0xA5 room i

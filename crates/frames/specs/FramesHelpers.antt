@@ -3,7 +3,7 @@
 use Prim.Native.Nat.{ℕ, _+_, _*_, _^_, _≤_}
 use mathlib.Core.List.{List}
 use lib.ListN.{getD}
-use Rattle.cases.specs.declared.frames.Answer.{Answer}
+use Rattle.frames.specs.declared.Answer.{Answer}
 
 -- the number of two bytes at a place, the low byte first; then of four and of eight
 abbrev pub u16At : List ℕ → ℕ → ℕ

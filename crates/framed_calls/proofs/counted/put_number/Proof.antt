@@ -1,11 +1,11 @@
--- `cases::counted::put_number` is safe and ends.
+-- `framed_calls::counted::put_number` is safe and ends.
 -- Assumes nothing.
 use Prim.Native.Nat.{_≤_, _-_}
 use borrow.Author.Needs.{needs}
 use lib.ListN.{length}
 use mathlib.Core.Path.{_≡_}
-use Rattle.cases.proofs.counted.put_number.Statement.{statement}
-use Rattle.cases.proofs.counted.put_number.Tie as tie
+use Rattle.framed_calls.proofs.counted.put_number.Statement.{statement}
+use Rattle.framed_calls.proofs.counted.put_number.Tie as tie
 
 abbrev Inv-loop : tie.InvT-loop
 Inv-loop out₀ place n left₀ i₀ out left i = (i ≤ 8) × (length out ≡ length out₀)

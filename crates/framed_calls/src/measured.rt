@@ -1,25 +1,28 @@
 // Op 1A: the line at a place of the image that a text would have.
-use crate::frames;
-use crate::options;
+use crate::texts;
 use frames::Answer;
-use options::Asked;
 use readers::Line;
 use text_image::LineMeasured;
 use text_image::MeasuredLine;
+use text_image::Options;
+use texts::Asked;
 
 pub fn measured_line(payload: &[u8]) -> bool {
     if payload.len() < 12 {
-        return Answer::malformed().send();
+        return frames::reject();
     }
-    let load = frames::u16_at(payload, 0);
     let place = frames::u64_at(payload, 4) as usize;
-    let Asked::With(options) = options::asked_for(load, payload[2], payload[3]) else {
-        return Answer::malformed().send();
-    };
-    match image::measured_line(&payload[12..], options, place) {
+    match texts::with_options(payload) {
+        Asked::With(options) => send_line(&payload[12..], options, place),
+        Asked::Unknown => frames::reject(),
+    }
+}
+
+fn send_line(text: &[u8], options: Options, place: usize) -> bool {
+    match image::measured_line(text, options, place) {
         LineMeasured::There(found) => send_measured(found),
-        LineMeasured::NoSuchLine => Answer::done().byte(0).send(),
-        LineMeasured::Refused(refusal) => Answer::refused(refusal).send(),
+        LineMeasured::NoSuchLine => frames::tell(0),
+        LineMeasured::Refused(refusal) => frames::refuse(refusal),
     }
 }
 

@@ -1,11 +1,11 @@
--- `cases::counted::take_all` is safe and ends.
+-- `framed_calls::counted::take_all` is safe and ends.
 -- Assumes nothing.
 use Prim.Native.Nat.{_≤_, _-_}
 use borrow.Author.Needs.{needs}
 use lib.ListN.{length}
 use mathlib.Core.Path.{_≡_}
-use Rattle.cases.proofs.counted.take_all.Statement.{statement}
-use Rattle.cases.proofs.counted.take_all.Tie as tie
+use Rattle.framed_calls.proofs.counted.take_all.Statement.{statement}
+use Rattle.framed_calls.proofs.counted.take_all.Tie as tie
 
 abbrev Inv-loop : tie.InvT-loop
 Inv-loop images totals₀ at₀ kept₀ totals at kept = (at ≤ length images) × (length totals ≡ length totals₀)
@@ -33,7 +33,6 @@ take-all-spec =
     (λ c. search needs)
     (λ c. search needs)
     (λ c κs. search needs)
-    (λ c. search needs)
     (λ c. search needs)
     (λ c. search needs)
     (λ c. search needs)

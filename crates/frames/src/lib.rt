@@ -1,8 +1,10 @@
-// The frames: the numbers of a request, and the answer to it.
+// The frames of the batch driver: the numbers of a request, the answer to it, and the buffers that are lent to a call.
+pub mod rooms;
+
 ghost use mathlib.Core.Path.{_≡_};
 ghost use Prim.Native.Nat.{_+_, _*_, _^_, _≤_};
 ghost use lib.ListN.{length};
-ghost use Rattle.cases.specs.FramesHelpers.{u16At, u32At, u64At, Sendable};
+ghost use Rattle.frames.specs.FramesHelpers.{u16At, u32At, u64At, Sendable};
 use lent::Outcome;
 use libc::STDOUT_FILENO;
 use refusals::Refusal;
@@ -151,16 +153,13 @@ impl Answer {
     }
 
     // Writes the answer before so many bytes, which end its body.
-    fn send_before(self, behind: usize) -> bool
+    fn send_before(mut self, behind: usize) -> bool
         requires { ⌜ Sendable self × (behind ≤ 10000000000000000000) ⌝ }
     {
         let len = self.len;
-        let body = len - 4 + behind;
-        let mut bytes = self.bytes;
-        bytes[0] = (body % 256) as u8;
-        bytes[1] = (body / 256 % 256) as u8;
-        bytes[2] = (body / 65_536 % 256) as u8;
-        bytes[3] = (body / 16_777_216 % 256) as u8;
+        self.len = 0;
+        let whole = self.four_bytes(len - 4 + behind);
+        let bytes = whole.bytes;
         write_front(&bytes, len)
     }
 }
@@ -180,4 +179,19 @@ fn write_front(bytes: &[u8; 64], len: usize) -> bool
 {
     let all: &[u8] = bytes;
     io::write_all(STDOUT_FILENO, &all[0..len])
+}
+
+// Answers a request that stands for no call.
+pub fn reject() -> bool {
+    Answer::malformed().send()
+}
+
+// Answers with a refusal alone.
+pub fn refuse(refusal: Refusal) -> bool {
+    Answer::refused(refusal).send()
+}
+
+// Answers with one byte of results.
+pub fn tell(byte: u8) -> bool {
+    Answer::done().byte(byte).send()
 }

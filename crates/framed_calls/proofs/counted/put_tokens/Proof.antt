@@ -1,11 +1,11 @@
--- `cases::counted::put_totals` is safe and ends.
+-- `framed_calls::counted::put_tokens` is safe and ends.
 -- Assumes nothing.
 use Prim.Native.Nat.{_≤_, _-_}
 use borrow.Author.Needs.{needs}
 use lib.ListN.{length}
 use mathlib.Core.Path.{_≡_}
-use Rattle.cases.proofs.counted.put_totals.Statement.{statement}
-use Rattle.cases.proofs.counted.put_totals.Tie as tie
+use Rattle.framed_calls.proofs.counted.put_tokens.Statement.{statement}
+use Rattle.framed_calls.proofs.counted.put_tokens.Tie as tie
 
 abbrev Inv-loop : tie.InvT-loop
 Inv-loop totals out₀ place₀ out place = (place ≤ 197) × (length out ≡ 3176)
@@ -13,18 +13,12 @@ Inv-loop totals out₀ place₀ out place = (place ≤ 197) × (length out ≡ 3
 abbrev μ-loop : tie.MeasureT-loop
 μ-loop totals out₀ place₀ out place = 197 - place
 
-pub put-totals-spec : {M : Type 1} → statement M
-put-totals-spec =
+pub put-tokens-spec : {M : Type 1} → statement M
+put-tokens-spec =
     tie.close
     (tie.spec
     Inv-loop
     μ-loop
-    (λ c κs. search needs)
-    (λ c κs. search needs)
-    (λ c κs. search needs)
-    (λ c κs. search needs)
-    (λ c κs. search needs)
-    (λ c κs. search needs)
     (λ c. search needs)
     (λ c κs. search needs)
     (λ c. search needs)

@@ -1,10 +1,10 @@
--- `cases::counted::fills` is safe and ends.
+-- `framed_calls::counted::fills` is safe and ends.
 -- Assumes nothing.
 use Prim.Native.Nat.{_≤_}
 use borrow.Author.Needs.{needs}
 use lib.ListN.{length}
-use Rattle.cases.proofs.counted.fills.Statement.{statement}
-use Rattle.cases.proofs.counted.fills.Tie as tie
+use Rattle.framed_calls.proofs.counted.fills.Statement.{statement}
+use Rattle.framed_calls.proofs.counted.fills.Tie as tie
 
 abbrev Inv-loop : tie.InvT-loop
 Inv-loop images count at₀ left₀ at left = at ≤ length images
