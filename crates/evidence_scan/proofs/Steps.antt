@@ -1,21 +1,20 @@
 -- The steps of the evidence scan, case by case; how far a step goes; and the loop over a line.
 -- Assumes nothing.
-use Prim.Native.Nat.{ℕ, suc, _+_, _-_, _≤_, _<_}
+use Prim.Native.Nat.{ℕ, suc, _+_, _≤_, _<_}
 use mathlib.Core.Path.{_≡_, refl, sym, ap, _∙_, subst}
-use mathlib.Core.Bool.{Bool, true, false, not, _&&_, _||_}
+use mathlib.Core.Bool.{Bool, true, false}
 use mathlib.Core.List.{List, [], _∷_}
 use native.Mathlib.Nat.{add-zero}
 use native.Mathlib.Omega.{arith}
 use lib.Dec.{eqb}
-use lib.ListN.{length, getD, take, drop, drop-of-length-le, length-drop}
+use lib.ListN.{length, getD, drop, drop-of-length-le, length-drop}
 use lib.Seq.{drop-drop, getD-drop}
 use borrow.Author.Tests.{eq-eqb, ne-eqb}
 use mir.Syntax.{w64}
 use mir.Val.{Fits}
 use Rattle.steps.proofs.Nearer.{Nearer, again-on}
 use Rattle.ascii.specs.Bytes.{between, upper, isDigit, isLetter}
-use Rattle.ascii.specs.Search.{isWhite, isBlank, startsWith, front, past}
-use Rattle.ascii.specs.declared.search.Kind.the-variants.{White}
+use Rattle.ascii.specs.Search.{isWhite, isBlank, front, past}
 use Rattle.ascii.proofs.Searching.{tail, front-le, front-more}
 use Rattle.words.specs.Compare.{begins}
 use Rattle.words.specs.Find.{wordIn}

@@ -2,14 +2,13 @@
 -- "The first skips white space 09 0A 0C 0D 20 and moves one byte after a word that proves nothing").
 -- Assumes nothing.
 use Prim.Native.Nat.{ℕ, suc, _+_}
-use mathlib.Core.Bool.{Bool, true, false, not, _&&_, _||_}
+use mathlib.Core.Bool.{Bool, true, false}
 use mathlib.Core.List.{List, [], _∷_}
 use lib.Dec.{eqb}
 use lib.ListN.{length, getD, drop}
 use Rattle.steps.specs.Again.{again}
 use Rattle.ascii.specs.Bytes.{isDigit}
-use Rattle.ascii.specs.Search.{isWhite, startsWith, front, past}
-use Rattle.ascii.specs.declared.search.Kind.the-variants.{White}
+use Rattle.ascii.specs.Search.{isWhite, front, past}
 use Rattle.words.specs.Compare.{begins}
 use Rattle.words.specs.Find.{wordIn}
 use Rattle.words.specs.declared.Match.the-variants.{Word, Nothing}

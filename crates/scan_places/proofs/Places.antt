@@ -13,7 +13,7 @@ use mir.Syntax.{w64}
 use mir.Val.{Fits}
 use Rattle.ascii.specs.Search.{equals, front, before}
 use Rattle.ascii.proofs.Searching.{Onward, tail, front-le, front-turn, front-found}
-use Rattle.scan_places.specs.Places.{isPlain, isStart, aside}
+use Rattle.scan_places.specs.Places.{isPlain, aside}
 use Rattle.scan_places.specs.PlaceHelpers.{stays}
 use Rattle.scan_places.specs.declared.place.Place.{Place}
 use Rattle.scan_places.specs.declared.place.Place.the-variants.{Start, Within, Quoted, Data, QuotedData}

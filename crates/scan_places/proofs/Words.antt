@@ -1,7 +1,7 @@
 -- What is known of a TSB word that is found in a text: it begins with a letter, so that no other byte is looked up; its place and its
 -- length are within bounds; and it is the first word of its length and spelling, the one that the Rust enters into its set.
 -- Assumes nothing.
-use Prim.Native.Nat.{ℕ, zero, suc, _+_, _≤_, _<_}
+use Prim.Native.Nat.{ℕ, zero, suc, _≤_, _<_}
 use mathlib.Core.Path.{_≡_, refl, sym, ap, _∙_}
 use mathlib.Core.Bool.{Bool, true, false, _&&_, false≢true}
 use mathlib.Core.List.{List, [], _∷_}
@@ -15,7 +15,6 @@ use Rattle.ascii.specs.Search.{isWhite}
 use Rattle.words.specs.Compare.{begins}
 use Rattle.words.specs.Find.{Entry, firstThat, wordIn}
 use Rattle.words.specs.Order.{wordAt}
-use Rattle.words.specs.declared.Match.{Match}
 use Rattle.words.specs.declared.Match.the-variants.{Word, Nothing}
 use Rattle.words.proofs.Order.{found}
 use Rattle.words.proofs.Search.{and-left, and-right}

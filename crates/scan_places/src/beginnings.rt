@@ -1,5 +1,7 @@
 // What a text begins with: a TSB word, REM, DATA.
+use tables::WordList;
 use words::Match;
+use words::Test;
 ghost use mathlib.Core.Path.{_≡_};
 ghost use Prim.Native.Nat.{_<_};
 ghost use lib.ListN.{length};
@@ -18,7 +20,7 @@ pub fn tsb_word(text: &[u8], bytes: &[u8], index: &[u16]) -> Match
         return Match::Nothing;
     }
     if ascii::is_letter(text[0]) {
-        return matching::match_tsb(text, bytes, index);
+        return matching::match_in(WordList::Tsb, Test::Begins, text, bytes, index);
     }
     Match::Nothing
 }

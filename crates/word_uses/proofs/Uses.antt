@@ -2,11 +2,11 @@
 -- Assumes nothing.
 use Prim.Native.Nat.{ℕ}
 use mathlib.Core.Path.{_≡_, sym, ap, _∙_}
-use mathlib.Core.Bool.{Bool, true, false, not, _&&_, _||_}
+use mathlib.Core.Bool.{Bool, true, false, not, _&&_}
 use mathlib.Core.List.{List}
 use lib.ListN.{drop}
 use borrow.Author.Tests.{eq-eqb, ne-eqb}
-use Rattle.ascii.specs.Search.{isWhite, startsWith, front, past}
+use Rattle.ascii.specs.Search.{isWhite, startsWith, front}
 use Rattle.ascii.specs.declared.search.Kind.the-variants.{White}
 use Rattle.ascii.proofs.Searching.{tail}
 use Rattle.ascii.proofs.Choice.{taken, left}

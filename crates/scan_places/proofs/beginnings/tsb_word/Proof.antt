@@ -1,12 +1,16 @@
 -- `scan_places::beginnings::tsb_word` meets its contract. Where the first byte is no letter, no word is there to be found.
 -- Assumes nothing.
 use Rattle.scan_places.proofs.Words.{no-letter, no-word-empty}
+use Rattle.matching.proofs.Storage.{word-found}
 use borrow.Author.Needs.{needs}
 use Rattle.scan_places.proofs.beginnings.tsb_word.Statement.{statement}
 use Rattle.scan_places.proofs.beginnings.tsb_word.Tie as tie
 
 returns : tie.Need-returns
 returns c = search no-word-empty
+
+returns-2 : tie.Need-returns-2
+returns-2 c = search word-found
 
 returns-3 : tie.Need-returns-3
 returns-3 c = search no-letter
@@ -19,5 +23,5 @@ tsb-word-spec =
     (λ c. search needs)
     (λ c κs. search needs)
     (λ c κs. search needs)
-    (λ c. search needs)
+    returns-2
     returns-3)
