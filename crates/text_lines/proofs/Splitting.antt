@@ -14,7 +14,7 @@ use borrow.Author.Tests.{eqb-true, ne-eqb, lt-ltb, le-ltb, not-true, not-false}
 use Rattle.ascii.specs.Search.{startsWith, isBlank, front}
 use Rattle.ascii.proofs.Searching.{Onward, onward-by, onward-end, tail, here, starts-long, front-nil, front-more, front-none}
 use Rattle.text_lines.specs.TextLines.{crLf, loneCr, onto, atLf, textLines}
-use Rattle.text_lines.specs.SplitHelpers.{endMark, lineLength, lineUsed, lineFrom}
+use Rattle.text_lines.specs.SplitHelpers.{endMark, lineLength, lineUsed, lineFrom, AboveCr}
 use Rattle.text_lines.specs.declared.LineRule.{LineRule}
 use Rattle.text_lines.specs.declared.LineRule.the-variants.{AsGiven, AfterCr}
 use Rattle.text_lines.specs.declared.TextLine.{TextLine}
@@ -260,7 +260,7 @@ all-lines rule t = lines-from rule t (length t) 0 (omega arith)
 -- ---- the loop that looks for the end of the line that begins at a place
 
 -- it may start behind the blanks
-pub seeking-start : (rule : LineRule) (t : List ℕ) (from : ℕ) {begin : ℕ} → begin ≡ from + front isBlank (drop from t) → Onward (lineLength rule) t from begin
+seeking-start : (rule : LineRule) (t : List ℕ) (from : ℕ) {begin : ℕ} → begin ≡ from + front isBlank (drop from t) → Onward (lineLength rule) t from begin
 seeking-start rule t from {begin} q =
     let g = front isBlank (drop from t) in
     let d : drop g (drop from t) ≡ drop begin t = drop-drop g from t ∙ ap (λ (n : ℕ). drop n t) (sym q) in
@@ -302,3 +302,37 @@ module _ (rule : LineRule) {t : List ℕ} {from i : ℕ} where
       let at : m ≡ endMark rule (drop i t) = q ∙ ap (endMark rule) (tail t i) in
       let up : endMark rule (getD t i 0 ∷ drop (i + 1) t) ≡ suc (m - 1) = omega (arith, ap (endMark rule) (here t i h)) in
       seeking-is (rw (here t i h) (length-end rule _ _ up)) at b o
+
+-- it may pass bytes above CR at once
+seeking-by : (rule : LineRule) {t : List ℕ} {from i : ℕ} → Onward (lineLength rule) t from i → (n : ℕ) → ((k : ℕ) → i ≤ k → k < i + n → (k < length t) × (0x0D < getD t k 0))
+    → Onward (lineLength rule) t from (i + n)
+seeking-by rule {t} {from} {i} o zero f = let e : i ≡ i + 0 = omega arith in subst (Onward (lineLength rule) t from) e o
+seeking-by rule {t} {from} {i} o (suc n) f =
+    let a = f (i + n) (omega arith) (omega arith) in
+    let e : i + n + 1 ≡ i + suc n = omega arith in
+    subst (Onward (lineLength rule) t from) e (seeking-above rule (a .1) (a .0) (seeking-by rule o n (λ k h l. f k h (omega arith))))
+
+pub seeking-passed : (rule : LineRule) {t : List ℕ} {from begin i : ℕ} → AboveCr t begin i → begin ≡ from + front isBlank (drop from t) → Onward (lineLength rule) t from i
+seeking-passed rule {t} {from} {begin} {i} a q =
+    let e : begin + (i - begin) ≡ i = omega (arith, a .up) in
+    subst (Onward (lineLength rule) t from) e (seeking-by rule (seeking-start rule t from q) (i - begin) (λ k h l. a .above k h (omega (arith, a .up))))
+
+-- ---- bytes above CR, four at a time
+
+pub above-none : (t : List ℕ) (from : ℕ) → AboveCr t from from
+above-none t from = record { up = omega arith; above = λ k h l. absurd (omega arith) }
+
+module _ {t : List ℕ} {from : ℕ} where
+  above-one : {i j : ℕ} → j ≡ i + 1 → 0x0D < getD t i 0 → i < length t → AboveCr t from i → AboveCr t from j
+  above-one {i} {j} e b h o = record { up = omega (arith, o .up); above = λ k l m. go k l m (decLt k i) }
+    where
+      go : (k : ℕ) → from ≤ k → k < j → Dec (k < i) → (k < length t) × (0x0D < getD t k 0)
+      go k l m (yes y) = o .above k l y
+      go k l m (no n) = let q : i ≡ k = omega arith in subst (λ (x : ℕ). (x < length t) × (0x0D < getD t x 0)) q (h, b)
+
+  pub above-four : {i : ℕ} → 0x0D < getD t (i + 3) 0 → 0x0D < getD t (i + 2) 0 → 0x0D < getD t (i + 1) 0 → 0x0D < getD t i 0 → 4 ≤ length t - i → AboveCr t from i → AboveCr t from (i + 4)
+  above-four {i} d c b a h o =
+      above-one {i = i + 3} (omega arith) d (omega arith)
+      (above-one {i = i + 2} (omega arith) c (omega arith)
+      (above-one {i = i + 1} (omega arith) b (omega arith)
+      (above-one {i = i} (omega arith) a (omega arith) o)))

@@ -1,10 +1,10 @@
--- For the contracts of `end_mark` and `next_line` alone: the lines where they stand. proofs/Splitting.antt shows that these are the
+-- For the contracts of `end_mark`, `behind_fours` and `next_line` alone: the lines where they stand. proofs/Splitting.antt shows that these are the
 -- lines of TextLines.antt, one after the other.
 -- Assumes nothing.
-use Prim.Native.Nat.{ℕ, zero, suc, _+_}
+use Prim.Native.Nat.{ℕ, zero, suc, _+_, _≤_, _<_}
 use mathlib.Core.Bool.{cond}
 use mathlib.Core.List.{List, [], _∷_}
-use lib.ListN.{drop}
+use lib.ListN.{length, getD, drop}
 use Rattle.ascii.specs.Search.{startsWith, isBlank, front}
 use Rattle.text_lines.specs.declared.LineRule.{LineRule}
 use Rattle.text_lines.specs.declared.LineRule.the-variants.{AsGiven, AfterCr}
@@ -33,3 +33,8 @@ unfoldable pub lineFrom : LineRule → List ℕ → ℕ → TextLine
 unfolding lineLength front
 lineFrom rule t from =
     record { begin = from + front isBlank (drop from t); end = from + lineLength rule (drop from t); next = from + lineUsed rule (drop from t) }
+
+-- each byte from a place up to another is above CR, so that none ends a line
+pub record AboveCr (t : List ℕ) (from to : ℕ) : Type 0 where
+  pub up : from ≤ to
+  pub above : (k : ℕ) → from ≤ k → k < to → (k < length t) × (0x0D < getD t k 0)

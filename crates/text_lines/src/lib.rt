@@ -5,7 +5,7 @@ ghost use mathlib.Core.Path.{_≡_};
 ghost use Prim.Native.Nat.{_+_};
 ghost use lib.ListN.{drop};
 ghost use Rattle.ascii.specs.Search.{equals, isBlank, front};
-ghost use Rattle.text_lines.specs.SplitHelpers.{endMark, lineFrom};
+ghost use Rattle.text_lines.specs.SplitHelpers.{endMark, lineFrom, AboveCr};
 
 // What ends a line.
 pub enum LineRule {
@@ -77,12 +77,38 @@ fn behind_blanks(text: &[u8], from: usize) -> usize
     i
 }
 
+// A place behind bytes above CR, which end no line: four at a time, as long as all four are.
+fn behind_fours(text: &[u8], from: usize) -> usize
+    ensures { λ r. ⌜ AboveCr (now (text .entry)) from r ⌝ }
+{
+    if text.len() < from {
+        return from;
+    }
+    let mut i: usize = from;
+    while text.len() - i >= 4 {
+        if text[i] <= 0x0D {
+            return i;
+        }
+        if text[i + 1] <= 0x0D {
+            return i;
+        }
+        if text[i + 2] <= 0x0D {
+            return i;
+        }
+        if text[i + 3] <= 0x0D {
+            return i;
+        }
+        i += 4;
+    }
+    i
+}
+
 // The line that begins at from.
 pub fn next_line(text: &[u8], from: usize, rule: LineRule) -> TextLine
     ensures { λ r. ⌜ r ≡ lineFrom rule (now (text .entry)) from ⌝ }
 {
     let begin = behind_blanks(text, from);
-    let mut i = begin;
+    let mut i = behind_fours(text, begin);
     while i < text.len() {
         // No byte above CR ends a line: one test for nearly each byte.
         if text[i] > 0x0D {

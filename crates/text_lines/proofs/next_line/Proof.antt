@@ -5,7 +5,7 @@ use native.Mathlib.Omega.{arith}
 use lib.ListN.{length}
 use Rattle.ascii.proofs.Searching.{Onward}
 use Rattle.text_lines.specs.SplitHelpers.{lineLength}
-use Rattle.text_lines.proofs.Splitting.{seeking-start, seeking-above, seeking-turn, seeking-found, seeking-end, mark-small}
+use Rattle.text_lines.proofs.Splitting.{seeking-passed, seeking-above, seeking-turn, seeking-found, seeking-end, mark-small}
 use borrow.Author.Needs.{needs}
 use Rattle.text_lines.proofs.next_line.Statement.{statement}
 use Rattle.text_lines.proofs.next_line.Tie as tie
@@ -17,7 +17,7 @@ abbrev μ-loop : tie.MeasureT-loop
 μ-loop text from rule begin i₀ i = length text - i
 
 loop-holds : tie.Need-loop-holds Inv-loop μ-loop
-loop-holds c = search seeking-start
+loop-holds c = search seeking-passed
 
 loop-again : tie.Need-loop-again Inv-loop μ-loop
 loop-again c = search seeking-above
@@ -37,6 +37,7 @@ next-line-spec =
     (tie.spec
     Inv-loop
     μ-loop
+    (λ c κs. search needs)
     (λ c κs. search needs)
     loop-holds
     (λ c. search needs)

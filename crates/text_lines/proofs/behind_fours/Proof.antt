@@ -1,0 +1,49 @@
+-- `text_lines::behind_fours` meets its contract.
+-- Assumes nothing.
+use Prim.Native.Nat.{_-_, _≤_}
+use lib.ListN.{length}
+use Rattle.text_lines.specs.SplitHelpers.{AboveCr}
+use Rattle.text_lines.proofs.Splitting.{above-none, above-four}
+use borrow.Author.Needs.{needs}
+use Rattle.text_lines.proofs.behind_fours.Statement.{statement}
+use Rattle.text_lines.proofs.behind_fours.Tie as tie
+
+abbrev Inv-loop : tie.InvT-loop
+Inv-loop text from i₀ i = (i ≤ length text) × AboveCr text from i
+
+abbrev μ-loop : tie.MeasureT-loop
+μ-loop text from i₀ i = length text - i
+
+returns : tie.Need-returns Inv-loop μ-loop
+returns c = search above-none
+
+loop-holds : tie.Need-loop-holds Inv-loop μ-loop
+loop-holds c = search (needs, above-none)
+
+loop-again : tie.Need-loop-again Inv-loop μ-loop
+loop-again c = search (needs, above-four)
+
+pub behind-fours-spec : {M : Type 1} → statement M
+behind-fours-spec =
+    tie.close
+    (tie.spec
+    Inv-loop
+    μ-loop
+    returns
+    loop-holds
+    (λ c. search needs)
+    (λ c. search needs)
+    (λ c. search needs)
+    (λ c. search needs)
+    (λ c. search needs)
+    (λ c. search needs)
+    (λ c. search needs)
+    (λ c. search needs)
+    (λ c. search needs)
+    (λ c. search needs)
+    (λ c. search needs)
+    (λ c. search needs)
+    (λ c. search needs)
+    (λ c. search needs)
+    loop-again
+    (λ c. search needs))
