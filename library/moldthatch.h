@@ -7,6 +7,7 @@
 #ifndef MOLDTHATCH_H
 #define MOLDTHATCH_H
 
+#include <stdbool.h>
 #include <stddef.h>
 #include <stdint.h>
 
@@ -45,6 +46,7 @@ enum {
     MOLDTHATCH_NOT_ASCENDING = 16,           /* text line */
     MOLDTHATCH_ZERO_IN_BODY = 17,            /* text line */
     MOLDTHATCH_BODY_LENGTH = 18,             /* text line */
+    MOLDTHATCH_LIMIT_REACHED = 19,
     MOLDTHATCH_BAD_DISK = 20,
     MOLDTHATCH_BAD_NAME = 21,
     MOLDTHATCH_NAME_TAKEN = 22,
@@ -70,6 +72,37 @@ enum { MOLDTHATCH_DISK_LENGTH = 174848 };
 
 enum { MOLDTHATCH_AUTO = 0, MOLDTHATCH_BASIC_V2 = 1, MOLDTHATCH_TSB = 2, MOLDTHATCH_BASIC35 = 3 };
 
+/* What a text is crunched with. profile asks the machine profile of each line (15 to
+ * 18), short_forms takes the short forms of V2 words: 0 is no, any other number yes. */
+typedef struct moldthatch_crunch_options {
+    uint16_t load;
+    uint8_t dialect;
+    uint8_t profile;
+    uint8_t short_forms;
+} moldthatch_crunch_options;
+
+/* How an image is listed. remarks lists a remark as text, the second mode; links reads
+ * the lines by links, not by terminators. */
+typedef struct moldthatch_list_options {
+    uint8_t dialect;
+    uint8_t remarks;
+    uint8_t links;
+} moldthatch_list_options;
+
+/* Where found is 1, a line of an image: its link, its number, its address in memory,
+ * the offsets of its body, from up to to, and of what follows the line. All are 0
+ * where there is none. */
+typedef struct moldthatch_line {
+    moldthatch_code code;
+    uint8_t found;
+    uint16_t link;
+    uint16_t number;
+    size_t address;
+    size_t from;
+    size_t to;
+    size_t next;
+} moldthatch_line;
+
 /* Crunches a text to an image at the start of out: its length. A refusal changes
  * no byte of out, a result only its own. */
 moldthatch_code moldthatch_crunch(const uint8_t *text, size_t text_length, uint16_t load, uint8_t dialect,
@@ -77,6 +110,34 @@ moldthatch_code moldthatch_crunch(const uint8_t *text, size_t text_length, uint1
 
 /* The room that the image of a text needs. */
 moldthatch_code moldthatch_crunch_room(const uint8_t *text, size_t text_length, uint16_t load, uint8_t dialect);
+
+/* The same with options, and the room. */
+moldthatch_code moldthatch_crunch_with(const uint8_t *text, size_t text_length, moldthatch_crunch_options options,
+                                       uint8_t *out, size_t out_length);
+moldthatch_code moldthatch_crunch_with_room(const uint8_t *text, size_t text_length, moldthatch_crunch_options options);
+
+/* The line at a place, from 1, of the image that a text would have; the code carries the
+ * text line that it comes from. */
+moldthatch_line moldthatch_measured_line(const uint8_t *text, size_t text_length, moldthatch_crunch_options options,
+                                         size_t place);
+
+/* The text lines that give an image its lines, as many as out has room for: how many
+ * were stored. */
+size_t moldthatch_origins(const uint8_t *text, size_t text_length, size_t *out, size_t out_length);
+
+/* The number of the dialect that a word names; the load address that programs of a
+ * dialect have where no other is asked for; the number of the dialect by which a text
+ * is taken, which is never MOLDTHATCH_AUTO. */
+moldthatch_code moldthatch_dialect_by_name(const uint8_t *word, size_t word_length);
+moldthatch_code moldthatch_default_load(uint8_t dialect);
+moldthatch_code moldthatch_resolved_dialect(const uint8_t *text, size_t text_length, uint8_t dialect);
+
+/* Whether a word is a TSB word, in capitals. */
+bool moldthatch_is_tsb_word(const uint8_t *word, size_t word_length);
+
+/* What stands between two braces of a string: a byte, and how often it is repeated.
+ * count is 0 where it is no escape. */
+moldthatch_code moldthatch_escape(const uint8_t *inside, size_t inside_length);
 
 /* Lists an image at the start of out: the listing's length; out as above. */
 moldthatch_code moldthatch_list(const uint8_t *image, size_t image_length, uint8_t *out, size_t out_length);
@@ -90,8 +151,44 @@ moldthatch_code moldthatch_list_under(const uint8_t *image, size_t image_length,
                                       uint8_t *out, size_t out_length);
 moldthatch_code moldthatch_list_under_room(const uint8_t *image, size_t image_length, uint8_t dialect);
 
-/* Reads a whole image by its links: its load address and its line count. */
+/* The same with options, and the room. */
+moldthatch_code moldthatch_list_with(const uint8_t *image, size_t image_length, moldthatch_list_options options,
+                                     uint8_t *out, size_t out_length);
+moldthatch_code moldthatch_list_with_room(const uint8_t *image, size_t image_length, moldthatch_list_options options);
+
+/* What is left of a line that is listed in stretches. A line begins as
+ * { MOLDTHATCH_WHOLE, 0, its number, 0 }, and is over with MOLDTHATCH_OVER; what lies
+ * between is for the next call. */
+enum { MOLDTHATCH_WHOLE = 0, MOLDTHATCH_BODY = 1, MOLDTHATCH_OVER = 2 };
+typedef struct moldthatch_place {
+    uint8_t kind;
+    uint8_t mode;
+    uint16_t number;
+    size_t at;
+} moldthatch_place;
+typedef struct moldthatch_stretch {
+    moldthatch_code code;
+    moldthatch_place place;
+} moldthatch_stretch;
+
+/* Stores at the start of out what it holds of the line from a place on, in whole pieces:
+ * the length, and the place behind it. Nine bytes always hold a piece. */
+moldthatch_stretch moldthatch_list_stretch(const uint8_t *body, size_t body_length, moldthatch_list_options options,
+                                           moldthatch_place place, uint8_t *out, size_t out_length);
+
+/* Reads a whole image by its links, or by its terminators: its load address and its line
+ * count. */
 moldthatch_code moldthatch_check(const uint8_t *image, size_t image_length);
+moldthatch_code moldthatch_check_terminators(const uint8_t *image, size_t image_length);
+
+/* The line at an offset, by its link or by its terminator; none at the end. The first
+ * line stands at offset 2. */
+moldthatch_line moldthatch_step(const uint8_t *image, size_t image_length, size_t offset);
+moldthatch_line moldthatch_step_terminators(const uint8_t *image, size_t image_length, size_t offset);
+
+/* The first line with a number, by links, over at most so many lines; the code carries
+ * how many were looked at. */
+moldthatch_line moldthatch_find_line(const uint8_t *image, size_t image_length, uint16_t number, size_t limit);
 
 /* A line index beside an image, and the report of its jumps to lines that are not
  * there, to the start of out: the length; out as above. */
@@ -121,6 +218,11 @@ moldthatch_code moldthatch_count_join(uint64_t *totals, size_t totals_length, co
 uint64_t moldthatch_count_tokens(const uint64_t *totals, size_t totals_length);
 uint64_t moldthatch_count_share(const uint64_t *totals, size_t totals_length, uint8_t token);
 
+/* Whether numbers are totals that images can give; the tokens that are counted, by their
+ * places from 0, and 0 behind the last. */
+bool moldthatch_count_are_totals(const uint64_t *totals, size_t totals_length);
+uint8_t moldthatch_count_token_at(size_t place);
+
 /* Disk images (D64). Each call but format checks the disk first. A refusal changes
  * no byte of it. A name has 1 to 16 bytes, none of them A0. */
 
@@ -140,6 +242,14 @@ moldthatch_code moldthatch_disk_scratch(uint8_t *disk, size_t disk_length, const
 
 /* Checks a disk: how many files it has, and how many sectors are free. */
 moldthatch_code moldthatch_disk_check(const uint8_t *disk, size_t disk_length);
+
+/* The directory as a text, a line for each file and one for the free sectors, to the
+ * start of out, as much of it as fits: how many bytes that are. */
+moldthatch_code moldthatch_disk_directory(const uint8_t *disk, size_t disk_length, uint8_t *out, size_t out_length);
+
+/* The name that a text stands for, with {xx} for any byte, to the start of out, as much
+ * of it as fits: how many bytes that are. */
+size_t moldthatch_disk_name(const uint8_t *text, size_t text_length, uint8_t *out, size_t out_length);
 
 /* The sentence of a refusal, for a person: stores as much of it as fits at the start
  * of out, and answers how many bytes that are, 0 for a number that is no refusal's.

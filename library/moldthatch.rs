@@ -16,9 +16,10 @@ pub const DISK_LENGTH: usize = 174_848;
 /// No sentence is longer.
 const SENTENCE_LENGTH: usize = 128;
 
-#[derive(Debug, Clone, Copy, PartialEq, Eq)]
+#[derive(Debug, Clone, Copy, PartialEq, Eq, Default)]
 pub enum Dialect {
     /// Decide by the program.
+    #[default]
     Auto,
     BasicV2,
     Tsb,
@@ -79,6 +80,8 @@ pub enum Refusal {
     BodyLength {
         line: usize,
     },
+    /// Of [`find_line`] alone.
+    LimitReached,
     BadDisk,
     BadName,
     NameTaken,
@@ -120,6 +123,7 @@ impl Refusal {
             16 => Refusal::NotAscending { line: first },
             17 => Refusal::ZeroInBody { line: first },
             18 => Refusal::BodyLength { line: first },
+            19 => Refusal::LimitReached,
             20 => Refusal::BadDisk,
             21 => Refusal::BadName,
             22 => Refusal::NameTaken,
@@ -158,6 +162,7 @@ impl Refusal {
             Refusal::NotAscending { line } => (16, line, 0),
             Refusal::ZeroInBody { line } => (17, line, 0),
             Refusal::BodyLength { line } => (18, line, 0),
+            Refusal::LimitReached => (19, 0, 0),
             Refusal::BadDisk => (20, 0, 0),
             Refusal::BadName => (21, 0, 0),
             Refusal::NameTaken => (22, 0, 0),
@@ -233,6 +238,133 @@ pub fn crunched(text: &[u8], load: u16, dialect: Dialect) -> Result<Vec<u8>, Ref
     Ok(out)
 }
 
+/// What a text is crunched with; by default at 0x0801, under the dialect that its words decide.
+#[derive(Debug, Clone, Copy, PartialEq, Eq)]
+pub struct Options {
+    pub load: u16,
+    pub dialect: Dialect,
+    /// Whether each line is asked whether the machine takes it.
+    pub profile: bool,
+    /// Whether short forms of V2 words are taken.
+    pub short_forms: bool,
+}
+
+impl Default for Options {
+    fn default() -> Self {
+        Options {
+            load: 0x0801,
+            dialect: Dialect::Auto,
+            profile: false,
+            short_forms: false,
+        }
+    }
+}
+
+/// Crunches a text with options into the start of a buffer, and answers the image's length.
+pub fn crunch_with(text: &[u8], options: Options, out: &mut [u8]) -> Result<usize, Refusal> {
+    // SAFETY: as above.
+    length(unsafe {
+        ffi::moldthatch_crunch_with(
+            text.as_ptr(),
+            text.len(),
+            options.into(),
+            out.as_mut_ptr(),
+            out.len(),
+        )
+    })
+}
+
+/// The room that this image needs.
+pub fn crunch_with_room(text: &[u8], options: Options) -> Result<usize, Refusal> {
+    // SAFETY: as above.
+    length(unsafe { ffi::moldthatch_crunch_with_room(text.as_ptr(), text.len(), options.into()) })
+}
+
+/// The image of a text, crunched with options.
+pub fn crunched_with(text: &[u8], options: Options) -> Result<Vec<u8>, Refusal> {
+    let mut out = vec![0; crunch_with_room(text, options)?];
+    crunch_with(text, options, &mut out)?;
+    Ok(out)
+}
+
+/// A line of an image.
+#[derive(Debug, Clone, Copy, PartialEq, Eq)]
+pub struct Line {
+    pub number: u16,
+    pub link: u16,
+    /// Its own address in memory.
+    pub address: usize,
+    /// The offsets of its body, and of what follows the line.
+    pub from: usize,
+    pub to: usize,
+    pub next: usize,
+}
+
+impl Line {
+    /// Its body, where it lies in this image.
+    pub fn body<'a>(&self, image: &'a [u8]) -> Option<&'a [u8]> {
+        image.get(self.from..self.to)
+    }
+}
+
+/// A line of the image that a text would have, and the text line that it comes from, from 1.
+#[derive(Debug, Clone, Copy, PartialEq, Eq)]
+pub struct MeasuredLine {
+    pub line: Line,
+    pub origin: usize,
+}
+
+/// The line at a place, from 1, of the image that a text would have.
+pub fn measured_line(
+    text: &[u8],
+    options: Options,
+    place: usize,
+) -> Result<Option<MeasuredLine>, Refusal> {
+    // SAFETY: as above.
+    let told =
+        unsafe { ffi::moldthatch_measured_line(text.as_ptr(), text.len(), options.into(), place) };
+    let origin = told.code.first;
+    Ok(line(told)?.map(|line| MeasuredLine { line, origin }))
+}
+
+/// Stores the text lines that give an image its lines, from 1, as many as fit, and answers how many were stored.
+pub fn origins(text: &[u8], out: &mut [usize]) -> usize {
+    // SAFETY: as above.
+    unsafe { ffi::moldthatch_origins(text.as_ptr(), text.len(), out.as_mut_ptr(), out.len()) }
+}
+
+impl Dialect {
+    /// The dialect that a word names, as `basicv2`.
+    pub fn by_name(word: &[u8]) -> Result<Self, Refusal> {
+        // SAFETY: as above.
+        dialect(unsafe { ffi::moldthatch_dialect_by_name(word.as_ptr(), word.len()) })
+    }
+
+    /// The address that its programs are loaded at where no other is asked for.
+    pub fn default_load(self) -> u16 {
+        ffi::moldthatch_default_load(self as u8).first as u16
+    }
+}
+
+/// The dialect by which a text is taken, which is never `Auto`.
+pub fn resolved_dialect(text: &[u8], asked: Dialect) -> Result<Dialect, Refusal> {
+    // SAFETY: as above.
+    dialect(unsafe { ffi::moldthatch_resolved_dialect(text.as_ptr(), text.len(), asked as u8) })
+}
+
+/// Whether a word is a TSB word, in capitals.
+pub fn is_tsb_word(word: &[u8]) -> bool {
+    // SAFETY: as above.
+    unsafe { ffi::moldthatch_is_tsb_word(word.as_ptr(), word.len()) }
+}
+
+/// What stands between two braces of a string: a byte, and how often it is repeated.
+pub fn escape(inside: &[u8]) -> Option<(u8, usize)> {
+    // SAFETY: as above.
+    two(unsafe { ffi::moldthatch_escape(inside.as_ptr(), inside.len()) })
+        .map(|(byte, count)| (byte as u8, count))
+}
+
 /// Lists an image into the start of a buffer, and answers the listing's length.
 pub fn list(image: &[u8], out: &mut [u8]) -> Result<usize, Refusal> {
     // SAFETY: as above.
@@ -282,14 +414,125 @@ pub fn listed_under(image: &[u8], dialect: Dialect) -> Result<Vec<u8>, Refusal> 
     Ok(out)
 }
 
+/// How an image is listed; by default as [`list`] does.
+#[derive(Debug, Clone, Copy, PartialEq, Eq, Default)]
+pub struct ListOptions {
+    pub dialect: Dialect,
+    /// Whether a remark is listed as text: the second mode.
+    pub remarks: bool,
+    /// Whether lines are read by links, and not by terminators.
+    pub links: bool,
+}
+
+/// Lists an image with options into the start of a buffer, and answers the listing's length.
+pub fn list_with(image: &[u8], options: ListOptions, out: &mut [u8]) -> Result<usize, Refusal> {
+    // SAFETY: as above.
+    length(unsafe {
+        ffi::moldthatch_list_with(
+            image.as_ptr(),
+            image.len(),
+            options.into(),
+            out.as_mut_ptr(),
+            out.len(),
+        )
+    })
+}
+
+/// The room that this listing needs.
+pub fn list_with_room(image: &[u8], options: ListOptions) -> Result<usize, Refusal> {
+    // SAFETY: as above.
+    length(unsafe { ffi::moldthatch_list_with_room(image.as_ptr(), image.len(), options.into()) })
+}
+
+/// The listing of an image, listed with options.
+pub fn listed_with(image: &[u8], options: ListOptions) -> Result<Vec<u8>, Refusal> {
+    let mut out = vec![0; list_with_room(image, options)?];
+    list_with(image, options, &mut out)?;
+    Ok(out)
+}
+
+/// What is left of a line that is listed in stretches.
+#[derive(Debug, Clone, Copy, PartialEq, Eq)]
+pub struct Place(ffi::Place);
+
+impl Place {
+    /// All of a line with this number.
+    pub fn whole(number: u16) -> Self {
+        Place(ffi::Place {
+            kind: 0,
+            mode: 0,
+            number,
+            at: 0,
+        })
+    }
+
+    /// Whether nothing is left.
+    pub fn is_over(self) -> bool {
+        self.0.kind > 1
+    }
+}
+
+/// Stores at a buffer's start what it holds of a line from a place on, in whole pieces: the length, and the place behind it. A
+/// buffer of nine bytes always holds a piece.
+pub fn list_stretch(
+    body: &[u8],
+    options: ListOptions,
+    place: Place,
+    out: &mut [u8],
+) -> (usize, Place) {
+    // SAFETY: as above. A dialect of the enum is never refused.
+    let told = unsafe {
+        ffi::moldthatch_list_stretch(
+            body.as_ptr(),
+            body.len(),
+            options.into(),
+            place.0,
+            out.as_mut_ptr(),
+            out.len(),
+        )
+    };
+    (told.code.first, Place(told.place))
+}
+
 /// Reads a whole image by its links.
 pub fn check(image: &[u8]) -> Result<Image, Refusal> {
     // SAFETY: as above.
-    let code = unsafe { ffi::moldthatch_check(image.as_ptr(), image.len()) };
-    answered(code)?;
-    Ok(Image {
-        load: code.first as u16,
-        lines: code.second,
+    overview(unsafe { ffi::moldthatch_check(image.as_ptr(), image.len()) })
+}
+
+/// Reads a whole image by its terminators.
+pub fn check_terminators(image: &[u8]) -> Result<Image, Refusal> {
+    // SAFETY: as above.
+    overview(unsafe { ffi::moldthatch_check_terminators(image.as_ptr(), image.len()) })
+}
+
+/// The line at an offset, by its link; none at the end. The first line stands at offset 2.
+pub fn step(image: &[u8], offset: usize) -> Result<Option<Line>, Refusal> {
+    // SAFETY: as above.
+    line(unsafe { ffi::moldthatch_step(image.as_ptr(), image.len(), offset) })
+}
+
+/// The same by its terminator.
+pub fn step_terminators(image: &[u8], offset: usize) -> Result<Option<Line>, Refusal> {
+    // SAFETY: as above.
+    line(unsafe { ffi::moldthatch_step_terminators(image.as_ptr(), image.len(), offset) })
+}
+
+/// A line that was looked for, and how many lines were looked at.
+#[derive(Debug, Clone, Copy, PartialEq, Eq)]
+pub struct Sought {
+    pub line: Option<Line>,
+    pub visited: usize,
+}
+
+/// The first line with a number, by links, over at most so many lines.
+pub fn find_line(image: &[u8], number: u16, limit: usize) -> Result<Sought, Refusal> {
+    // SAFETY: as above.
+    let told = unsafe { ffi::moldthatch_find_line(image.as_ptr(), image.len(), number, limit) };
+    let visited = told.code.first;
+    Ok(Sought {
+        line: line(told)?,
+        visited,
     })
 }
 
@@ -421,6 +664,19 @@ impl Totals {
         })
     }
 
+    /// The totals that these numbers are, where images can give them.
+    pub fn of(numbers: [u64; 206]) -> Option<Self> {
+        // SAFETY: as above.
+        unsafe { ffi::moldthatch_count_are_totals(numbers.as_ptr(), numbers.len()) }
+            .then_some(Totals(numbers))
+    }
+
+    /// The tokens that are counted, by their places from 0; none behind the last.
+    pub fn token_at(place: usize) -> Option<u8> {
+        let token = ffi::moldthatch_count_token_at(place);
+        (token != 0).then_some(token)
+    }
+
     /// How many words are counted.
     pub fn tokens(&self) -> u64 {
         // SAFETY: as above.
@@ -438,6 +694,13 @@ impl Totals {
 /// bytes, none of them A0.
 pub struct Disk<B> {
     bytes: B,
+}
+
+/// Stores the name that a text stands for, with `{xx}` for any byte, at the start of a buffer, as much of it as fits, and answers
+/// how many bytes that are.
+pub fn disk_name(text: &[u8], out: &mut [u8]) -> usize {
+    // SAFETY: as above.
+    unsafe { ffi::moldthatch_disk_name(text.as_ptr(), text.len(), out.as_mut_ptr(), out.len()) }
 }
 
 /// What a disk holds.
@@ -465,6 +728,15 @@ impl<B: AsRef<[u8]>> Disk<B> {
 
     pub fn bytes(&self) -> &[u8] {
         self.bytes.as_ref()
+    }
+
+    /// Stores the directory as a text at the start of a buffer, as much of it as fits, and answers how many bytes that are.
+    pub fn directory(&self, out: &mut [u8]) -> Result<usize, Refusal> {
+        let disk = self.bytes();
+        // SAFETY: as above.
+        length(unsafe {
+            ffi::moldthatch_disk_directory(disk.as_ptr(), disk.len(), out.as_mut_ptr(), out.len())
+        })
     }
 
     pub fn check(&self) -> Result<Holding, Refusal> {
@@ -541,6 +813,57 @@ fn length(code: ffi::Code) -> Result<usize, Refusal> {
     Ok(code.first)
 }
 
+fn overview(code: ffi::Code) -> Result<Image, Refusal> {
+    answered(code)?;
+    Ok(Image {
+        load: code.first as u16,
+        lines: code.second,
+    })
+}
+
+fn dialect(code: ffi::Code) -> Result<Dialect, Refusal> {
+    answered(code)?;
+    Ok(match code.first {
+        0 => Dialect::Auto,
+        1 => Dialect::BasicV2,
+        2 => Dialect::Tsb,
+        _ => Dialect::Basic35,
+    })
+}
+
+fn line(told: ffi::Line) -> Result<Option<Line>, Refusal> {
+    answered(told.code)?;
+    Ok((told.found != 0).then_some(Line {
+        number: told.number,
+        link: told.link,
+        address: told.address,
+        from: told.from,
+        to: told.to,
+        next: told.next,
+    }))
+}
+
+impl From<Options> for ffi::CrunchOptions {
+    fn from(options: Options) -> Self {
+        ffi::CrunchOptions {
+            load: options.load,
+            dialect: options.dialect as u8,
+            profile: options.profile.into(),
+            short_forms: options.short_forms.into(),
+        }
+    }
+}
+
+impl From<ListOptions> for ffi::ListOptions {
+    fn from(options: ListOptions) -> Self {
+        ffi::ListOptions {
+            dialect: options.dialect as u8,
+            remarks: options.remarks.into(),
+            links: options.links.into(),
+        }
+    }
+}
+
 fn two(code: ffi::Code) -> Option<(usize, usize)> {
     (code.count == 2).then_some((code.first, code.second))
 }
@@ -563,6 +886,48 @@ mod ffi {
         pub second: usize,
     }
 
+    #[repr(C)]
+    pub struct CrunchOptions {
+        pub load: u16,
+        pub dialect: u8,
+        pub profile: u8,
+        pub short_forms: u8,
+    }
+
+    #[repr(C)]
+    pub struct ListOptions {
+        pub dialect: u8,
+        pub remarks: u8,
+        pub links: u8,
+    }
+
+    #[repr(C)]
+    pub struct Line {
+        pub code: Code,
+        pub found: u8,
+        pub link: u16,
+        pub number: u16,
+        pub address: usize,
+        pub from: usize,
+        pub to: usize,
+        pub next: usize,
+    }
+
+    #[repr(C)]
+    #[derive(Debug, Clone, Copy, PartialEq, Eq)]
+    pub struct Place {
+        pub kind: u8,
+        pub mode: u8,
+        pub number: u16,
+        pub at: usize,
+    }
+
+    #[repr(C)]
+    pub struct Stretch {
+        pub code: Code,
+        pub place: Place,
+    }
+
     #[link(name = "moldthatch", kind = "static")]
     unsafe extern "C" {
         pub fn moldthatch_crunch(
@@ -579,6 +944,39 @@ mod ffi {
             load: u16,
             dialect: u8,
         ) -> Code;
+        pub fn moldthatch_crunch_with(
+            text: *const u8,
+            text_length: usize,
+            options: CrunchOptions,
+            out: *mut u8,
+            out_length: usize,
+        ) -> Code;
+        pub fn moldthatch_crunch_with_room(
+            text: *const u8,
+            text_length: usize,
+            options: CrunchOptions,
+        ) -> Code;
+        pub fn moldthatch_measured_line(
+            text: *const u8,
+            text_length: usize,
+            options: CrunchOptions,
+            place: usize,
+        ) -> Line;
+        pub fn moldthatch_origins(
+            text: *const u8,
+            text_length: usize,
+            out: *mut usize,
+            out_length: usize,
+        ) -> usize;
+        pub fn moldthatch_dialect_by_name(word: *const u8, word_length: usize) -> Code;
+        pub safe fn moldthatch_default_load(dialect: u8) -> Code;
+        pub fn moldthatch_resolved_dialect(
+            text: *const u8,
+            text_length: usize,
+            dialect: u8,
+        ) -> Code;
+        pub fn moldthatch_is_tsb_word(word: *const u8, word_length: usize) -> bool;
+        pub fn moldthatch_escape(inside: *const u8, inside_length: usize) -> Code;
         pub fn moldthatch_list(
             image: *const u8,
             image_length: usize,
@@ -598,7 +996,40 @@ mod ffi {
             image_length: usize,
             dialect: u8,
         ) -> Code;
+        pub fn moldthatch_list_with(
+            image: *const u8,
+            image_length: usize,
+            options: ListOptions,
+            out: *mut u8,
+            out_length: usize,
+        ) -> Code;
+        pub fn moldthatch_list_with_room(
+            image: *const u8,
+            image_length: usize,
+            options: ListOptions,
+        ) -> Code;
+        pub fn moldthatch_list_stretch(
+            body: *const u8,
+            body_length: usize,
+            options: ListOptions,
+            place: Place,
+            out: *mut u8,
+            out_length: usize,
+        ) -> Stretch;
         pub fn moldthatch_check(image: *const u8, image_length: usize) -> Code;
+        pub fn moldthatch_check_terminators(image: *const u8, image_length: usize) -> Code;
+        pub fn moldthatch_step(image: *const u8, image_length: usize, offset: usize) -> Line;
+        pub fn moldthatch_step_terminators(
+            image: *const u8,
+            image_length: usize,
+            offset: usize,
+        ) -> Line;
+        pub fn moldthatch_find_line(
+            image: *const u8,
+            image_length: usize,
+            number: u16,
+            limit: usize,
+        ) -> Line;
         pub fn moldthatch_index(
             image: *const u8,
             image_length: usize,
@@ -633,6 +1064,8 @@ mod ffi {
         ) -> Code;
         pub fn moldthatch_count_tokens(totals: *const u64, totals_length: usize) -> u64;
         pub fn moldthatch_count_share(totals: *const u64, totals_length: usize, token: u8) -> u64;
+        pub fn moldthatch_count_are_totals(totals: *const u64, totals_length: usize) -> bool;
+        pub safe fn moldthatch_count_token_at(place: usize) -> u8;
         pub fn moldthatch_disk_format(disk: *mut u8, disk_length: usize) -> Code;
         pub fn moldthatch_disk_save(
             disk: *mut u8,
@@ -657,6 +1090,18 @@ mod ffi {
             name_length: usize,
         ) -> Code;
         pub fn moldthatch_disk_check(disk: *const u8, disk_length: usize) -> Code;
+        pub fn moldthatch_disk_directory(
+            disk: *const u8,
+            disk_length: usize,
+            out: *mut u8,
+            out_length: usize,
+        ) -> Code;
+        pub fn moldthatch_disk_name(
+            text: *const u8,
+            text_length: usize,
+            out: *mut u8,
+            out_length: usize,
+        ) -> usize;
         pub fn moldthatch_sentence(
             number: u8,
             first: usize,

@@ -1,1 +1,5 @@
 pub mod Telling
+pub mod TellingDialects
+pub mod TellingLines
+pub mod TellingOptions
+pub mod TellingStretch

@@ -1,24 +1,21 @@
--- What is told: an outcome as a code, with the buffer that was left, and a dialect by its number.
+-- What is told: an outcome as a code, with the buffer that was left.
 -- Assumes nothing.
-use Prim.Native.Nat.{ℕ}
+use Prim.Native.Nat.{ℕ, _+_, min}
+use native.Mathlib.Omega.{arith}
 use mathlib.Core.Path.{_≡_, sym, ap, _∙_}
-use mathlib.Core.Bool.{false}
 use mathlib.Core.List.{List}
-use Rattle.refusals.specs.Answer.{Answer, refused, numbered, andThen}
+use lib.ListN.{length}
+use Rattle.refusals.specs.Numbers.{badDisk}
+use Rattle.refusals.specs.Answer.{Answer, done, refused, numbered}
 use Rattle.refusals.specs.Code.{codeOf, lengthCode}
 use Rattle.lent.specs.Lent.{Lent, intoBuffer, roomFor, outcomeAnswer, left}
 use Rattle.refusals.specs.declared.Code.{Code}
 use Rattle.lent.specs.declared.Outcome.{Outcome}
+use Rattle.lent.specs.declared.Outcome.the-variants.{Done, Refused}
 use Rattle.refusals.specs.declared.Refusal.{Refusal}
-use Rattle.dialect.specs.Dialects.{byNumber, namedAnswer}
-use Rattle.dialect.specs.declared.Dialect.{Dialect}
-use Rattle.dialect.specs.declared.Named.{Named}
-use Rattle.dialect.specs.declared.Named.the-variants.{Known, Refused}
-use Rattle.list_options.specs.declared.ListOptions.{ListOptions}
-use Rattle.listing.specs.Listing.{listingUnder}
-use Rattle.text_image.specs.Crunched.{crunched}
 use Rattle.d64.specs.Calls.{Holding, After, changedAnswer, diskAnswer, leaving}
 use Rattle.d64.specs.declared.Changed.{Changed}
+use Rattle.directory.specs.Listing.{directoryText, Shows}
 use Rattle.d64.specs.declared.DiskCheck.{DiskCheck}
 use Rattle.index_entries.specs.declared.Held.{Held}
 use Rattle.relink.specs.Relinking.{Relinking, relinkedAnswer}
@@ -27,7 +24,7 @@ use Rattle.relink.specs.declared.Relinked.the-variants.{Changed as Relinked·Ch
 use Rattle.counting.specs.Carried.{Kept, carriedAnswer, carried}
 use Rattle.counting.specs.declared.Carried.{Carried}
 use Rattle.counting.specs.declared.Carried.the-variants.{Apart}
-use Rattle.moldthatch.specs.Told.{Told, toldCode, crunchedBy, oldMode, listedBy, bareCode, toldDisk, holdingCode, heldCode, relinkingCode, fateCode, toldTotals}
+use Rattle.moldthatch.specs.Told.{Told, toldCode, bareCode, toldDisk, holdingCode, shownDirectory, heldCode, relinkingCode, fateCode, toldTotals}
 
 module _ (o : Outcome) {c : Code} (code : c ≡ lengthCode (outcomeAnswer o)) where
   pub tells : {b : List ℕ} {l : Lent} → left o b ≡ l → _≡_ {A = Told} (record { code = c; buffer = b }) (toldCode l)
@@ -36,50 +33,14 @@ module _ (o : Outcome) {c : Code} (code : c ≡ lengthCode (outcomeAnswer o)) wh
   pub tells-room : {a : Answer ℕ} → outcomeAnswer o ≡ a → c ≡ lengthCode a
   tells-room q = code ∙ ap lengthCode q
 
-module _ (number load : ℕ) (text : List ℕ) {n : Named} (answer : namedAnswer n ≡ byNumber number) where
-  crunched-with : {m : Named} → n ≡ m → andThen (namedAnswer m) (λ d. crunched (record { load = load; dialect = d; profile = false; forms = false }) text) ≡ crunchedBy number load text
-  crunched-with e = ap (λ (a : Answer Dialect). andThen a (λ d. crunched (record { load = load; dialect = d; profile = false; forms = false }) text)) (ap namedAnswer (sym e) ∙ answer)
+-- a result that is refused before anything is stored
+module _ (r : Refusal) {c : Code} (code : c ≡ codeOf (numbered r)) where
+  pub tells-refused : (buffer : List ℕ) {a : Answer (List ℕ)} → refused (numbered r) ≡ a → _≡_ {A = Told} (record { code = c; buffer = buffer }) (toldCode (intoBuffer a buffer))
+  unfolding intoBuffer
+  tells-refused buffer q = ap (λ (x : Code). record { code = x; buffer = buffer }) code ∙ ap (λ (x : Answer (List ℕ)). toldCode (intoBuffer x buffer)) q
 
-  module _ {d : Dialect} (e : n ≡ Known d) (o : Outcome) {c : Code} (code : c ≡ lengthCode (outcomeAnswer o)) where
-    pub tells-image : (buffer : List ℕ) {b : List ℕ} → left o b ≡ intoBuffer (crunched (record { load = load; dialect = d; profile = false; forms = false }) text) buffer
-        → _≡_ {A = Told} (record { code = c; buffer = b }) (toldCode (intoBuffer (crunchedBy number load text) buffer))
-    tells-image buffer {b} q = tells o code (q ∙ ap (λ (a : Answer (List ℕ)). intoBuffer a buffer) (crunched-with e))
-
-    pub tells-image-room : outcomeAnswer o ≡ roomFor (crunched (record { load = load; dialect = d; profile = false; forms = false }) text) → c ≡ lengthCode (roomFor (crunchedBy number load text))
-    tells-image-room q = tells-room o code (q ∙ ap roomFor (crunched-with e))
-
-  module _ {r : Refusal} (e : n ≡ Refused r) {c : Code} (code : c ≡ codeOf (numbered r)) where
-    pub tells-unknown : (buffer : List ℕ) → _≡_ {A = Told} (record { code = c; buffer = buffer }) (toldCode (intoBuffer (crunchedBy number load text) buffer))
-    unfolding intoBuffer
-    tells-unknown buffer =
-        ap (λ (x : Code). record { code = x; buffer = buffer }) code
-        ∙ ap (λ (a : Answer (List ℕ)). toldCode (intoBuffer a buffer)) (crunched-with e)
-
-    pub tells-unknown-room : c ≡ lengthCode (roomFor (crunchedBy number load text))
-    tells-unknown-room = code ∙ ap (λ (a : Answer (List ℕ)). lengthCode (roomFor a)) (crunched-with e)
-
--- the same of a listing
-module _ (number : ℕ) (image : List ℕ) {n : Named} (answer : namedAnswer n ≡ byNumber number) where
-  listed-with : {m : Named} → n ≡ m → andThen (namedAnswer m) (λ d. listingUnder (oldMode d) image) ≡ listedBy number image
-  listed-with e = ap (λ (a : Answer Dialect). andThen a (λ d. listingUnder (oldMode d) image)) (ap namedAnswer (sym e) ∙ answer)
-
-  module _ {d : Dialect} (e : n ≡ Known d) {p : ListOptions} (is : p ≡ oldMode d) (o : Outcome) {c : Code} (code : c ≡ lengthCode (outcomeAnswer o)) where
-    pub tells-listing : (buffer : List ℕ) {b : List ℕ} → left o b ≡ intoBuffer (listingUnder p image) buffer
-        → _≡_ {A = Told} (record { code = c; buffer = b }) (toldCode (intoBuffer (listedBy number image) buffer))
-    tells-listing buffer {b} q = tells o code (q ∙ ap (λ (a : Answer (List ℕ)). intoBuffer a buffer) (ap (λ (x : ListOptions). listingUnder x image) is ∙ listed-with e))
-
-    pub tells-listing-room : outcomeAnswer o ≡ roomFor (listingUnder p image) → c ≡ lengthCode (roomFor (listedBy number image))
-    tells-listing-room q = tells-room o code (q ∙ ap roomFor (ap (λ (x : ListOptions). listingUnder x image) is ∙ listed-with e))
-
-  module _ {r : Refusal} (e : n ≡ Refused r) {c : Code} (code : c ≡ codeOf (numbered r)) where
-    pub tells-unlisted : (buffer : List ℕ) → _≡_ {A = Told} (record { code = c; buffer = buffer }) (toldCode (intoBuffer (listedBy number image) buffer))
-    unfolding intoBuffer
-    tells-unlisted buffer =
-        ap (λ (x : Code). record { code = x; buffer = buffer }) code
-        ∙ ap (λ (a : Answer (List ℕ)). toldCode (intoBuffer a buffer)) (listed-with e)
-
-    pub tells-unlisted-room : c ≡ lengthCode (roomFor (listedBy number image))
-    tells-unlisted-room = code ∙ ap (λ (a : Answer (List ℕ)). lengthCode (roomFor a)) (listed-with e)
+  pub tells-refused-room : {a : Answer (List ℕ)} → refused (numbered r) ≡ a → c ≡ lengthCode (roomFor a)
+  tells-refused-room q = code ∙ ap (λ (x : Answer (List ℕ)). lengthCode (roomFor x)) q
 
 -- ---- disks
 
@@ -91,6 +52,23 @@ tells-changed r e code = code ∙ ap (λ (x : Changed). bareCode (changedAnswer 
 
 pub tells-holding : (r : DiskCheck) {m : DiskCheck} → r ≡ m → {a : Answer Holding} → diskAnswer r ≡ a → {c : Code} → c ≡ holdingCode (diskAnswer m) → c ≡ holdingCode a
 tells-holding r e q code = code ∙ ap (λ (x : DiskCheck). holdingCode (diskAnswer x)) (sym e) ∙ ap holdingCode q
+
+-- a text at a buffer's start
+clipped-length : {n : ℕ} (m k : ℕ) → n ≡ min (0 + m) k → n ≡ min m k
+clipped-length m k e = e ∙ ap (λ (x : ℕ). min x k) zero-front
+  where
+    zero-front : 0 + m ≡ m
+    zero-front = omega arith
+
+pub tells-directory : (o : Outcome) {c : Code} → c ≡ lengthCode (outcomeAnswer o) → (disk buffer : List ℕ) {b : List ℕ} → Shows disk buffer o b → _≡_ {A = Told} (record { code = c; buffer = b }) (shownDirectory disk buffer)
+tells-directory (Done n) code disk buffer {b} shows =
+    ap (λ (x : Code). record { code = x; buffer = b }) (code ∙ ap (λ (x : ℕ). lengthCode (done x)) (clipped-length _ _ (shows .1 .ends)))
+    ∙ ap (λ (x : List ℕ). record { code = lengthCode (done (min (length (directoryText disk)) (length buffer))); buffer = x }) (shows .1 .stored)
+    ∙ simp (shows .0)
+tells-directory (Refused r) code disk buffer {b} shows =
+    ap (λ (x : Code). record { code = x; buffer = b }) (code ∙ ap codeOf (shows .1))
+    ∙ ap (λ (x : List ℕ). record { code = codeOf badDisk; buffer = x }) (shows .2)
+    ∙ simp (shows .0)
 
 -- ---- indexes, relinking, counts
 

@@ -1,1 +1,5 @@
+pub mod Given
 pub mod Told
+pub mod ToldDialects
+pub mod ToldLines
+pub mod ToldStretch

@@ -1,20 +1,19 @@
--- What callers in other languages are told: each answer as one code (crates/refusals/specs/Code.antt), a dialect by its number.
+-- What callers in other languages are told: each answer as one code (crates/refusals/specs/Code.antt).
 -- Assumes nothing.
-use Prim.Native.Nat.{ℕ}
-use mathlib.Core.Bool.{false}
+use Prim.Native.Nat.{ℕ, min}
+use mathlib.Core.Bool.{cond}
 use mathlib.Core.List.{List, [], _∷_}
-use Rattle.refusals.specs.Answer.{Answer, done, refused, andThen}
-use Rattle.refusals.specs.Code.{answerCode, lengthCode}
+use lib.ListN.{length}
+use lib.Seq.{sets}
+use Rattle.refusals.specs.Answer.{Answer, done, refused}
+use Rattle.refusals.specs.Code.{codeOf, answerCode, lengthCode}
+use Rattle.refusals.specs.Numbers.{badDisk}
 use Rattle.lent.specs.Lent.{Lent}
 use Rattle.refusals.specs.declared.Code.{Code}
-use Rattle.dialect.specs.Dialects.{byNumber}
-use Rattle.dialect.specs.declared.Dialect.{Dialect}
 use Rattle.readers.specs.Lines.{Overview}
-use Rattle.readers.specs.declared.By.the-variants.{Terminators}
-use Rattle.list_options.specs.declared.ListOptions.{ListOptions}
-use Rattle.listing.specs.Listing.{listingUnder}
-use Rattle.text_image.specs.Crunched.{crunched}
 use Rattle.d64.specs.Calls.{Holding, After}
+use Rattle.d64.specs.Check.{sound}
+use Rattle.directory.specs.Listing.{directoryText}
 use Rattle.index_entries.specs.declared.Held.{Held}
 use Rattle.index_entries.specs.declared.Held.the-variants.{Nothing, Numbers}
 use Rattle.relink.specs.Relinking.{Relinking, same, changed, leaves, endless}
@@ -27,17 +26,6 @@ pub record Told : Type 0 where
 
 abbrev pub toldCode : Lent → Told
 toldCode l = record { code = lengthCode (l .answer); buffer = l .buffer }
-
--- the image of a text, the dialect given by its number; no short forms are taken
-abbrev pub crunchedBy : ℕ → ℕ → List ℕ → Answer (List ℕ)
-crunchedBy dialect load text = andThen (byNumber dialect) (λ d. crunched (record { load = load; dialect = d; profile = false; forms = false }) text)
-
--- the listing of an image under a dialect, as document 02, No. 5, has it: remarks are bytes like others
-abbrev pub oldMode : Dialect → ListOptions
-oldMode d = record { dialect = d; remarks = false; by = Terminators }
-
-abbrev pub listedBy : ℕ → List ℕ → Answer (List ℕ)
-listedBy dialect image = andThen (byNumber dialect) (λ d. listingUnder (oldMode d) image)
 
 -- the load address and the line count
 abbrev pub overviewCode : Answer Overview → Code
@@ -57,6 +45,13 @@ toldDisk a = record { code = bareCode (a .answer); buffer = a .disk }
 abbrev pub holdingCode : Answer Holding → Code
 holdingCode (done h) = answerCode (done (h .files ∷ h .free ∷ []))
 holdingCode (refused n) = answerCode (refused n)
+
+-- the text of a sound disk's directory, as much of it as fits
+abbrev pub shownDirectory : List ℕ → List ℕ → Told
+shownDirectory disk buffer =
+    cond (sound disk)
+    (record { code = lengthCode (done (min (length (directoryText disk)) (length buffer))); buffer = sets buffer 0 (directoryText disk) })
+    (record { code = codeOf badDisk; buffer = buffer })
 
 -- an index's two numbers, or none
 abbrev pub heldCode : Held → Code

@@ -2,7 +2,9 @@
 use counting::Carried;
 use refusals::Code;
 ghost use mathlib.Core.Path.{_≡_};
-ghost use Rattle.counting.specs.Totals.{tokensCounted, shareOf};
+ghost use lib.ListN.{getD};
+ghost use Rattle.counting.specs.Tokens.{countedTokens};
+ghost use Rattle.counting.specs.Totals.{isTotals, tokensCounted, shareOf};
 ghost use Rattle.counting.specs.Carried.{withImage, joined, carriedAnswer};
 ghost use Rattle.moldthatch.specs.Told.{toldTotals, fateCode};
 
@@ -36,6 +38,22 @@ pub extern "C" fn moldthatch_count_share(totals: &[u64], token: u8) -> u64
     ensures { λ r. ⌜ r ≡ shareOf (now (totals .entry)) token ⌝ }
 {
     counting::share(totals, token)
+}
+
+// Whether numbers are totals that images can give.
+#[no_mangle]
+pub extern "C" fn moldthatch_count_are_totals(totals: &[u64]) -> bool
+    ensures { λ r. ⌜ r ≡ isTotals (now (totals .entry)) ⌝ }
+{
+    counting::are_totals(totals)
+}
+
+// The tokens that are counted, by their place from 0; 0, which is no token, behind the last.
+#[no_mangle]
+pub extern "C" fn moldthatch_count_token_at(place: usize) -> u8
+    ensures { λ r. ⌜ r ≡ getD countedTokens place 0 ⌝ }
+{
+    counting::token_at(place)
 }
 
 fn carried_code(carried: Carried) -> Code

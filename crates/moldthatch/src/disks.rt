@@ -5,7 +5,9 @@ use refusals::Code;
 ghost use mathlib.Core.Path.{_≡_};
 ghost use Rattle.lent.specs.Lent.{intoBuffer};
 ghost use Rattle.d64.specs.Calls.{formatted, saved, scratched, fileBytes, diskHolding, ontoDisk, changedAnswer, diskAnswer};
-ghost use Rattle.moldthatch.specs.Told.{toldCode, bareCode, toldDisk, holdingCode};
+ghost use Rattle.sentences.specs.Clipped.{Clipped};
+ghost use Rattle.disk_names.specs.Names.{nameGiven};
+ghost use Rattle.moldthatch.specs.Told.{toldCode, bareCode, toldDisk, holdingCode, shownDirectory};
 
 // Makes a disk without files.
 #[no_mangle]
@@ -53,6 +55,22 @@ pub extern "C" fn moldthatch_disk_check(disk: &[u8]) -> Code
         },
         DiskCheck::Refused(refusal) => refusals::refusal_code(refusal),
     }
+}
+
+// Stores a disk's directory as a text at the start of a buffer, as much of it as fits: how many bytes that are.
+#[no_mangle]
+pub extern "C" fn moldthatch_disk_directory(disk: &[u8], out: &mut [u8]) -> Code
+    ensures { λ r. ⌜ record { code = r; buffer = now (out .exit) } ≡ shownDirectory (now (disk .entry)) (now (out .entry)) ⌝ }
+{
+    lent::outcome_code(directory::put_directory(disk, out))
+}
+
+// Stores the name that a text stands for at the start of a buffer, as much of it as fits: how many bytes that are.
+#[no_mangle]
+pub extern "C" fn moldthatch_disk_name(text: &[u8], out: &mut [u8]) -> usize
+    ensures { λ r. ⌜ Clipped (now (out .entry)) 0 (nameGiven (now (text .entry))) r (now (out .exit)) ⌝ }
+{
+    disk_names::given(text, out)
 }
 
 fn changed_code(changed: Changed) -> Code

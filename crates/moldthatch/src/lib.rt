@@ -1,11 +1,12 @@
 // The library for C and for Rust: its calls take and give numbers and slices. A dialect is 0 for Auto, 1 for BASIC V2, 2 for TSB,
-// 3 for BASIC 3.5.
+// 3 for BASIC 3.5. A choice is 0 for no, and any other number for yes.
 use dialect::Dialect;
 use dialect::Named;
 use list_options::ListOptions;
 use readers::By;
 use readers::Checked;
 use readers::links;
+use readers::terminators;
 use refusals::Code;
 use text_image::Options;
 ghost use mathlib.Core.Path.{_≡_};
@@ -14,52 +15,99 @@ ghost use Rattle.lent.specs.Lent.{intoBuffer, roomFor};
 ghost use Rattle.readers.specs.Answers.{checkedAnswer};
 ghost use Rattle.readers.specs.Lines.{overview};
 ghost use Rattle.readers.specs.Links.{linkStep};
+ghost use Rattle.readers.specs.Terminators.{terminatorStep};
 ghost use Rattle.listing.specs.Listing.{listing};
 ghost use Rattle.sentences.specs.Clipped.{Clipped};
 ghost use Rattle.sentences.specs.Sentence.{sentence};
-ghost use Rattle.moldthatch.specs.Told.{crunchedBy, listedBy, oldMode, toldCode, overviewCode};
+ghost use Rattle.moldthatch.specs.Given.{crunchOptions, crunchedWith, crunchedBy, readerBy, listOptions, listedWith, listedBy};
+ghost use Rattle.moldthatch.specs.Told.{toldCode, overviewCode};
 
 pub mod counts;
+pub mod dialects;
 pub mod disks;
 pub mod indexes;
+pub mod lines;
+pub mod stretch;
 
-// Crunches a text into the start of a buffer: the image's length.
+// What a text is crunched with: where its image begins, its dialect, whether the machine profile is asked, and whether short forms are taken.
+#[repr(C)]
+pub struct CrunchNumbers {
+    pub load: u16,
+    pub dialect: u8,
+    pub profile: u8,
+    pub forms: u8,
+}
+
+// How an image is listed: under a dialect, with remarks as text or not, by links or by terminators.
+#[repr(C)]
+pub struct ListNumbers {
+    pub dialect: u8,
+    pub remarks: u8,
+    pub links: u8,
+}
+
+// Crunches a text with options into the start of a buffer: the image's length.
 #[no_mangle]
-pub extern "C" fn moldthatch_crunch(text: &[u8], load: u16, dialect: u8, out: &mut [u8]) -> Code
-    ensures { λ r. ⌜ record { code = r; buffer = now (out .exit) } ≡ toldCode (intoBuffer (crunchedBy dialect load (now (text .entry))) (now (out .entry))) ⌝ }
+pub extern "C" fn moldthatch_crunch_with(
+    text: &[u8],
+    options: CrunchNumbers,
+    out: &mut [u8],
+) -> Code
+    ensures { λ r. ⌜ record { code = r; buffer = now (out .exit) } ≡ toldCode (intoBuffer (crunchedWith options (now (text .entry))) (now (out .entry))) ⌝ }
 {
-    match dialect::dialect_by_number(dialect) {
-        Named::Known(known) => lent::outcome_code(image::crunch(
+    match dialect::dialect_by_number(options.dialect) {
+        Named::Known(known) => {
+            lent::outcome_code(image::crunch(text, crunch_options(options, known), out))
+        }
+        Named::Refused(refusal) => refusals::refusal_code(refusal),
+    }
+}
+
+// The room that this image needs.
+#[no_mangle]
+pub extern "C" fn moldthatch_crunch_with_room(text: &[u8], options: CrunchNumbers) -> Code
+    ensures { λ r. ⌜ r ≡ lengthCode (roomFor (crunchedWith options (now (text .entry)))) ⌝ }
+{
+    match dialect::dialect_by_number(options.dialect) {
+        Named::Known(known) => lent::outcome_code(image::room(
             text,
-            Options {
-                load,
-                dialect: known,
-                profile: false,
-                forms: false,
-            },
-            out,
+            crunch_options(options, known),
         )),
         Named::Refused(refusal) => refusals::refusal_code(refusal),
     }
 }
 
-// The room that the image of a text needs.
+// Crunches a text into the start of a buffer, without the profile and without short forms: the image's length.
+#[no_mangle]
+pub extern "C" fn moldthatch_crunch(text: &[u8], load: u16, dialect: u8, out: &mut [u8]) -> Code
+    ensures { λ r. ⌜ record { code = r; buffer = now (out .exit) } ≡ toldCode (intoBuffer (crunchedBy dialect load (now (text .entry))) (now (out .entry))) ⌝ }
+{
+    moldthatch_crunch_with(
+        text,
+        CrunchNumbers {
+            load,
+            dialect,
+            profile: 0,
+            forms: 0,
+        },
+        out,
+    )
+}
+
+// The room that this image needs.
 #[no_mangle]
 pub extern "C" fn moldthatch_crunch_room(text: &[u8], load: u16, dialect: u8) -> Code
     ensures { λ r. ⌜ r ≡ lengthCode (roomFor (crunchedBy dialect load (now (text .entry)))) ⌝ }
 {
-    match dialect::dialect_by_number(dialect) {
-        Named::Known(known) => lent::outcome_code(image::room(
-            text,
-            Options {
-                load,
-                dialect: known,
-                profile: false,
-                forms: false,
-            },
-        )),
-        Named::Refused(refusal) => refusals::refusal_code(refusal),
-    }
+    moldthatch_crunch_with_room(
+        text,
+        CrunchNumbers {
+            load,
+            dialect,
+            profile: 0,
+            forms: 0,
+        },
+    )
 }
 
 // Lists an image into the start of a buffer: the listing's length.
@@ -78,28 +126,61 @@ pub extern "C" fn moldthatch_list_room(image: &[u8]) -> Code
     lent::outcome_code(listing::room(image))
 }
 
-// Lists an image under a dialect into the start of a buffer: the listing's length.
+// Lists an image with options into the start of a buffer: the listing's length.
 #[no_mangle]
-pub extern "C" fn moldthatch_list_under(image: &[u8], dialect: u8, out: &mut [u8]) -> Code
-    ensures { λ r. ⌜ record { code = r; buffer = now (out .exit) } ≡ toldCode (intoBuffer (listedBy dialect (now (image .entry))) (now (out .entry))) ⌝ }
+pub extern "C" fn moldthatch_list_with(image: &[u8], options: ListNumbers, out: &mut [u8]) -> Code
+    ensures { λ r. ⌜ record { code = r; buffer = now (out .exit) } ≡ toldCode (intoBuffer (listedWith options (now (image .entry))) (now (out .entry))) ⌝ }
 {
-    match dialect::dialect_by_number(dialect) {
+    match dialect::dialect_by_number(options.dialect) {
         Named::Known(known) => {
-            lent::outcome_code(listing::list_under(image, old_mode(known), out))
+            lent::outcome_code(listing::list_under(image, list_options(options, known), out))
         }
         Named::Refused(refusal) => refusals::refusal_code(refusal),
     }
 }
 
-// The room that the listing of an image under a dialect needs.
+// The room that this listing needs.
+#[no_mangle]
+pub extern "C" fn moldthatch_list_with_room(image: &[u8], options: ListNumbers) -> Code
+    ensures { λ r. ⌜ r ≡ lengthCode (roomFor (listedWith options (now (image .entry)))) ⌝ }
+{
+    match dialect::dialect_by_number(options.dialect) {
+        Named::Known(known) => {
+            lent::outcome_code(listing::room_under(image, list_options(options, known)))
+        }
+        Named::Refused(refusal) => refusals::refusal_code(refusal),
+    }
+}
+
+// Lists an image under a dialect into the start of a buffer, in the first mode and by terminators: the listing's length.
+#[no_mangle]
+pub extern "C" fn moldthatch_list_under(image: &[u8], dialect: u8, out: &mut [u8]) -> Code
+    ensures { λ r. ⌜ record { code = r; buffer = now (out .exit) } ≡ toldCode (intoBuffer (listedBy dialect (now (image .entry))) (now (out .entry))) ⌝ }
+{
+    moldthatch_list_with(
+        image,
+        ListNumbers {
+            dialect,
+            remarks: 0,
+            links: 0,
+        },
+        out,
+    )
+}
+
+// The room that this listing needs.
 #[no_mangle]
 pub extern "C" fn moldthatch_list_under_room(image: &[u8], dialect: u8) -> Code
     ensures { λ r. ⌜ r ≡ lengthCode (roomFor (listedBy dialect (now (image .entry)))) ⌝ }
 {
-    match dialect::dialect_by_number(dialect) {
-        Named::Known(known) => lent::outcome_code(listing::room_under(image, old_mode(known))),
-        Named::Refused(refusal) => refusals::refusal_code(refusal),
-    }
+    moldthatch_list_with_room(
+        image,
+        ListNumbers {
+            dialect,
+            remarks: 0,
+            links: 0,
+        },
+    )
 }
 
 // Reads a whole image by its links: its load address and how many lines it has.
@@ -108,6 +189,14 @@ pub extern "C" fn moldthatch_check(image: &[u8]) -> Code
     ensures { λ r. ⌜ r ≡ overviewCode (overview linkStep (now (image .entry))) ⌝ }
 {
     checked_code(links::check(image))
+}
+
+// The same by terminators.
+#[no_mangle]
+pub extern "C" fn moldthatch_check_terminators(image: &[u8]) -> Code
+    ensures { λ r. ⌜ r ≡ overviewCode (overview terminatorStep (now (image .entry))) ⌝ }
+{
+    checked_code(terminators::check(image))
 }
 
 // Stores the sentence of a refusal at the start of a buffer, as much of it as fits: how many bytes that are.
@@ -131,15 +220,32 @@ pub extern "C" fn moldthatch_sentence(
     )
 }
 
-// The listing of a dialect: remarks are bytes like others, lines are read by terminators.
-fn old_mode(dialect: Dialect) -> ListOptions
-    ensures { λ r. ⌜ r ≡ oldMode dialect ⌝ }
+// The options of a dialect that is known by now.
+fn crunch_options(given: CrunchNumbers, dialect: Dialect) -> Options
+    ensures { λ r. ⌜ r ≡ crunchOptions given dialect ⌝ }
+{
+    Options {
+        load: given.load,
+        dialect,
+        profile: given.profile != 0,
+        forms: given.forms != 0,
+    }
+}
+
+fn list_options(given: ListNumbers, dialect: Dialect) -> ListOptions
+    ensures { λ r. ⌜ r ≡ listOptions given dialect ⌝ }
 {
     ListOptions {
         dialect,
-        remarks: false,
-        by: By::Terminators,
+        remarks: given.remarks != 0,
+        by: reader(given.links != 0),
     }
+}
+
+fn reader(links: bool) -> By
+    ensures { λ r. ⌜ r ≡ readerBy links ⌝ }
+{
+    if links { By::Links } else { By::Terminators }
 }
 
 fn checked_code(checked: Checked) -> Code

@@ -1,9 +1,9 @@
--- `moldthatch::moldthatch_list_under_room` meets its contract.
+-- `moldthatch::moldthatch_list_with_room` meets its contract.
 -- Assumes nothing.
-use Rattle.moldthatch.proofs.Telling.{tells-listing-room, tells-unlisted-room}
+use Rattle.moldthatch.proofs.TellingOptions.{tells-listing-room, tells-unlisted-room}
 use borrow.Author.Needs.{needs}
-use Rattle.moldthatch.proofs.moldthatch_list_under_room.Statement.{statement}
-use Rattle.moldthatch.proofs.moldthatch_list_under_room.Tie as tie
+use Rattle.moldthatch.proofs.moldthatch_list_with_room.Statement.{statement}
+use Rattle.moldthatch.proofs.moldthatch_list_with_room.Tie as tie
 
 returns : tie.Need-returns
 returns c = search tells-listing-room
@@ -11,8 +11,8 @@ returns c = search tells-listing-room
 returns-2 : tie.Need-returns-2
 returns-2 c = search tells-unlisted-room
 
-pub moldthatch-list-under-room-spec : {M : Type 1} → statement M
-moldthatch-list-under-room-spec =
+pub moldthatch-list-with-room-spec : {M : Type 1} → statement M
+moldthatch-list-with-room-spec =
     tie.close
     (tie.spec
     (λ c κs. search needs)

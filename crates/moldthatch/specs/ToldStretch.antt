@@ -1,0 +1,68 @@
+-- A stretch of a line's listing (crates/listing/specs/Stretch.antt) in numbers, and what is left of the line.
+-- Assumes nothing.
+use Prim.Native.Nat.{ℕ, zero, suc}
+use mathlib.Core.List.{List, [], _∷_}
+use lib.ListN.{length}
+use lib.Seq.{sets}
+use Rattle.refusals.specs.Answer.{Answer, done, refused, andThen}
+use Rattle.refusals.specs.Code.{codeOf, answerCode}
+use Rattle.dialect.specs.Dialects.{byNumber}
+use Rattle.units.specs.declared.Mode.{Mode}
+use Rattle.units.specs.declared.Mode.the-variants.{Plain, Quoted, Remark, Data, QuotedData}
+use Rattle.list_options.specs.Modes.{rulesUnder}
+use Rattle.line_stretches.specs.Stretch.{Stretched, stretchOf, stretchAnswer}
+use Rattle.line_stretches.specs.declared.Place.{Place}
+use Rattle.line_stretches.specs.declared.Place.the-variants.{Number, Body, Over}
+use Rattle.line_stretches.specs.declared.Stretch.{Stretch}
+use Rattle.moldthatch.specs.declared.ListNumbers.{ListNumbers}
+use Rattle.moldthatch.specs.declared.stretch.PlaceNumbers.{PlaceNumbers}
+use Rattle.moldthatch.specs.declared.stretch.StretchCode.{StretchCode}
+use Rattle.moldthatch.specs.Given.{listOptions}
+
+-- a mode as a number, and back (`mode-back`, proofs/TellingStretch.antt)
+abbrev pub modeNumber : Mode → ℕ
+modeNumber Plain = 0
+modeNumber Quoted = 1
+modeNumber Remark = 2
+modeNumber Data = 3
+modeNumber QuotedData = 4
+
+unfoldable pub modeOf : ℕ → Mode
+modeOf zero = Plain
+modeOf (suc zero) = Quoted
+modeOf (suc (suc zero)) = Remark
+modeOf (suc (suc (suc zero))) = Data
+modeOf (suc (suc (suc (suc zero)))) = QuotedData
+modeOf (suc (suc (suc (suc (suc n))))) = Plain
+
+-- what is left of a line in numbers, and back (`place-back`)
+abbrev pub placeNumbers : Place → PlaceNumbers
+placeNumbers (Number n) = record { kind = 0; mode = 0; number = n; at = 0 }
+placeNumbers (Body at mode) = record { kind = 1; mode = modeNumber mode; number = 0; at = at }
+placeNumbers Over = record { kind = 2; mode = 0; number = 0; at = 0 }
+
+unfoldable pub placeOfKind : ℕ → PlaceNumbers → Place
+unfolding modeOf
+placeOfKind zero x = Number (x .number)
+placeOfKind (suc zero) x = Body (x .at) (modeOf (x .mode))
+placeOfKind (suc (suc n)) x = Over
+
+abbrev pub placeOf : PlaceNumbers → Place
+placeOf x = placeOfKind (x .kind) x
+
+abbrev pub stretchCode : Stretch → StretchCode
+stretchCode s = record { code = answerCode (done (s .length ∷ [])); place = placeNumbers (s .place) }
+
+-- what is told, and what the buffer that was lent holds then
+pub record StretchTold : Type 0 where
+  pub told : StretchCode
+  pub buffer : List ℕ
+
+-- a stretch at the buffer's start; a refusal leaves the buffer and the place as they were
+abbrev pub stretchTold : PlaceNumbers → List ℕ → Answer Stretched → StretchTold
+stretchTold x buffer (done s) = record { told = stretchCode (stretchAnswer s); buffer = sets buffer 0 (s .text) }
+stretchTold x buffer (refused n) = record { told = record { code = codeOf n; place = x }; buffer = buffer }
+
+abbrev pub stretchedWith : ListNumbers → List ℕ → PlaceNumbers → List ℕ → StretchTold
+stretchedWith o body x buffer =
+    stretchTold x buffer (andThen (byNumber (o .dialect)) (λ d. done (stretchOf (rulesUnder (listOptions o d)) body (length buffer) (placeOf x))))
