@@ -1,6 +1,6 @@
 -- The steps of the evidence scan, case by case; how far a step goes; and the loop over a line.
 -- Assumes nothing.
-use Prim.Native.Nat.{ℕ, suc, _+_, _≤_, _<_}
+use Prim.Native.Nat.{ℕ, zero, suc, _+_, _≤_, _<_}
 use mathlib.Core.Path.{_≡_, refl, sym, ap, _∙_, subst}
 use mathlib.Core.Bool.{Bool, true, false}
 use mathlib.Core.List.{List, [], _∷_}
@@ -12,9 +12,12 @@ use lib.Seq.{drop-drop, getD-drop}
 use borrow.Author.Tests.{eq-eqb, ne-eqb}
 use mir.Syntax.{w64}
 use mir.Val.{Fits}
+use Rattle.steps.specs.Again.{again}
 use Rattle.steps.proofs.Nearer.{Nearer, again-on}
 use Rattle.ascii.specs.Bytes.{between, upper, isDigit, isLetter}
 use Rattle.ascii.specs.Search.{isWhite, isBlank, front, past}
+use Rattle.ascii.specs.declared.search.Found.{Found}
+use Rattle.ascii.specs.declared.search.Found.the-variants.{At, Nowhere}
 use Rattle.ascii.proofs.Searching.{tail, front-le, front-more}
 use Rattle.words.specs.Compare.{begins}
 use Rattle.words.specs.Find.{wordIn}
@@ -25,13 +28,14 @@ use Rattle.tables.specs.Tsb.{tsbWords}
 use Rattle.text_lines.proofs.Blanks.{blank-white}
 use Rattle.ascii.proofs.Choice.{taken, left, either}
 use Rattle.word_uses.specs.Proving.{proves}
-use Rattle.evidence_scan.specs.Evidence.{wordProves, wordStep, statementStep, evidenceStep, evidenceOn, evidenceFrom, numberLength, lineEvidence}
+use Rattle.evidence_scan.specs.Evidence.{wordProves, wordStep, statementStep, evidenceStep, evidenceOn, evidenceFrom, numberLength, lineEvidence, decidingOn, decidingFrom, decidingPlace, listPlace, decidingWord, decides}
 use Rattle.scan_places.specs.Places.{isPlain, isStart, aside}
 use Rattle.scan_places.specs.PlaceHelpers.{stays}
 use Rattle.scan_places.specs.declared.place.Place.{Place}
 use Rattle.scan_places.specs.declared.place.Place.the-variants.{Start, Within, Quoted, Data}
 use Rattle.evidence_scan.specs.declared.EvidenceStep.{EvidenceStep}
 use Rattle.evidence_scan.specs.declared.EvidenceStep.the-variants.{Proved, Remark, On}
+use Rattle.evidence_scan.specs.declared.DecidingWord.the-variants.{Decides, NoneDecides}
 use Rattle.word_uses.proofs.Behind.{rest, rest-long}
 use Rattle.scan_places.proofs.Places.{Same, stretch}
 use Rattle.scan_places.proofs.Words.{begins-long, word-bounds, no-letter, not-rem, not-data, letter-high, letter-not-white}
@@ -175,54 +179,58 @@ module _ (place : Place) (t : List ℕ) (h : 0 < length t) where
 
 -- ---- the loop over a line
 
--- what is answered behind a step
-abbrev behindStep : (Place × List ℕ → Bool) → List ℕ → EvidenceStep → Bool
-behindStep more t Proved = true
-behindStep more t Remark = false
-behindStep more t (On used next) = more (next, drop used t)
+-- where a scan stands: so many bytes into the line, in a place, with what is left
+abbrev Standing : Type 0
+Standing = ℕ × Place × List ℕ
 
-on-some : (more : Place × List ℕ → Bool) (place : Place) (t : List ℕ) → 0 < length t → evidenceOn more (place, t) ≡ behindStep more t (evidenceStep place t)
-unfolding evidenceOn
-on-some more place [] h = absurd (omega arith)
-on-some more place (b ∷ s) h = go (evidenceStep place (b ∷ s))
+-- what is answered behind a step
+abbrev behindStep : (Standing → Found) → ℕ → List ℕ → EvidenceStep → Found
+behindStep more i t Proved = At i
+behindStep more i t Remark = Nowhere
+behindStep more i t (On used next) = more (i + used, next, drop used t)
+
+on-some : (more : Standing → Found) (i : ℕ) (place : Place) (t : List ℕ) → 0 < length t → decidingOn more (i, place, t) ≡ behindStep more i t (evidenceStep place t)
+unfolding decidingOn
+on-some more i place [] h = absurd (omega arith)
+on-some more i place (b ∷ s) h = go (evidenceStep place (b ∷ s))
   where
-    go : (x : EvidenceStep) → elim x [ Proved ↦ true | Remark ↦ false | On used next ↦ more (next, drop used (b ∷ s)) ] ≡ behindStep more (b ∷ s) x
+    go : (x : EvidenceStep) → elim x [ Proved ↦ At i | Remark ↦ Nowhere | On used next ↦ more (i + used, next, drop used (b ∷ s)) ] ≡ behindStep more i (b ∷ s) x
     go Proved = refl
     go Remark = refl
     go (On used next) = refl
 
-near : Nearer {S = Place × List ℕ} {R = Bool} (λ x. length (x .1)) evidenceOn
-unfolding evidenceOn
-near x f g h = go (x .0) (x .1) h
+near : Nearer {S = Standing} {R = Found} (λ x. length (x .2)) decidingOn
+unfolding decidingOn
+near x f g h = go (x .0) (x .1) (x .2) h
   where
-    go : (place : Place) (t : List ℕ) → ((y : Place × List ℕ) → length (y .1) < length t → f y ≡ g y) → evidenceOn f (place, t) ≡ evidenceOn g (place, t)
-    go place [] k = refl
-    go place (b ∷ s) k = on-some f place (b ∷ s) (omega arith) ∙ same (evidenceStep place (b ∷ s)) (far-step place (b ∷ s) (omega arith)) ∙ sym (on-some g place (b ∷ s) (omega arith))
+    go : (i : ℕ) (place : Place) (t : List ℕ) → ((y : Standing) → length (y .2) < length t → f y ≡ g y) → decidingOn f (i, place, t) ≡ decidingOn g (i, place, t)
+    go i place [] k = refl
+    go i place (b ∷ s) k = on-some f i place (b ∷ s) (omega arith) ∙ same (evidenceStep place (b ∷ s)) (far-step place (b ∷ s) (omega arith)) ∙ sym (on-some g i place (b ∷ s) (omega arith))
       where
-        same : (y : EvidenceStep) → Far (suc (length s)) y → behindStep f (b ∷ s) y ≡ behindStep g (b ∷ s) y
+        same : (y : EvidenceStep) → Far (suc (length s)) y → behindStep f i (b ∷ s) y ≡ behindStep g i (b ∷ s) y
         same Proved q = refl
         same Remark q = refl
-        same (On used next) q = k (next, drop used (b ∷ s)) (omega (arith, q .0, length-drop used (b ∷ s)))
+        same (On used next) q = k (i + used, next, drop used (b ∷ s)) (omega (arith, q .0, length-drop used (b ∷ s)))
 
-abbrev from : Place × List ℕ → Bool
-from y = evidenceFrom (y .0) (y .1)
+abbrev from : Standing → Found
+from y = decidingFrom (y .0) (y .1) (y .2)
 
-once : (place : Place) (t : List ℕ) → evidenceFrom place t ≡ evidenceOn from (place, t)
-unfolding evidenceFrom
-once place t = again-on near false (λ y. suc (length (y .1))) (λ y. omega arith) (place, t)
+once : (i : ℕ) (place : Place) (t : List ℕ) → decidingFrom i place t ≡ decidingOn from (i, place, t)
+unfolding decidingFrom
+once i place t = again-on near Nowhere (λ y. suc (length (y .2))) (λ y. omega arith) (i, place, t)
 
-none-left : (place : Place) → evidenceFrom place [] ≡ false
-unfolding evidenceOn
-none-left place = once place []
+none-left : (i : ℕ) (place : Place) → decidingFrom i place [] ≡ Nowhere
+unfolding decidingOn
+none-left i place = once i place []
 
 -- a step that is known, and what it comes to
-stepped : (place : Place) (t : List ℕ) {s x : EvidenceStep} → s ≡ x → s ≡ evidenceStep place t → 0 < length t → evidenceFrom place t ≡ behindStep from t x
-stepped place t e q h = once place t ∙ on-some from place t h ∙ ap (behindStep from t) (sym q ∙ e)
+stepped : (i : ℕ) (place : Place) (t : List ℕ) {s x : EvidenceStep} → s ≡ x → s ≡ evidenceStep place t → 0 < length t → decidingFrom i place t ≡ behindStep from i t x
+stepped i place t e q h = once i place t ∙ on-some from i place t h ∙ ap (behindStep from i t) (sym q ∙ e)
 
--- what is left of the line proves what the line does, w
-pub record Scanned (line : List ℕ) (w : Bool) (place : Place) (i : ℕ) : Type 0 where
+-- what is left of the line answers what the line does, w
+pub record Scanned (line : List ℕ) (w : Found) (place : Place) (i : ℕ) : Type 0 where
   pub within : i ≤ length line
-  pub gives : evidenceFrom place (drop i line) ≡ w
+  pub gives : decidingFrom i place (drop i line) ≡ w
 
 number-le : (l : List ℕ) → numberLength l ≤ length l
 unfolding numberLength
@@ -237,21 +245,21 @@ number-is l {a} {n} q p =
 pub number-fits : (l : List ℕ) {a n : ℕ} → n ≡ front isDigit (rest l a) → a ≡ front isWhite l → Fits w64 (length l) → Fits w64 (a + n)
 number-fits l q p f = record { fits = omega (arith, f .fits, number-is l q p, number-le l) }
 
-pub scanned-start : (l : List ℕ) {i : ℕ} → i ≡ numberLength l → Scanned l (lineEvidence l) Start i
-unfolding lineEvidence
-scanned-start l {i} e = record { within = omega (arith, number-le l); gives = ap (λ (n : ℕ). evidenceFrom Start (drop n l)) e }
+pub scanned-start : (l : List ℕ) {i : ℕ} → i ≡ numberLength l → Scanned l (decidingPlace l) Start i
+unfolding decidingPlace
+scanned-start l {i} e = record { within = omega (arith, number-le l); gives = ap (λ (n : ℕ). decidingFrom n Start (drop n l)) e }
 
-pub scanned-end : {line : List ℕ} {w : Bool} {place : Place} {i : ℕ} → length line ≤ i → Scanned line w place i → false ≡ w
-scanned-end {line} {w} {place} h k = sym (none-left place) ∙ (rw (drop-of-length-le line h) at (k .gives))
+pub scanned-end : {line : List ℕ} {w : Found} {place : Place} {i : ℕ} → length line ≤ i → Scanned line w place i → Nowhere ≡ w
+scanned-end {line} {w} {place} {i} h k = sym (none-left i place) ∙ (rw (drop-of-length-le line h) at (k .gives))
 
 module _ (line : List ℕ) (place : Place) (i : ℕ) {s : EvidenceStep} where
-  there : {x : EvidenceStep} → s ≡ x → s ≡ evidenceStep place (rest line i) → i < length line → evidenceFrom place (drop i line) ≡ behindStep from (drop i line) x
-  there e q h = stepped place (drop i line) e (q ∙ ap (evidenceStep place) (tail line i)) (omega (arith, length-drop i line))
+  there : {x : EvidenceStep} → s ≡ x → s ≡ evidenceStep place (rest line i) → i < length line → decidingFrom i place (drop i line) ≡ behindStep from i (drop i line) x
+  there e q h = stepped i place (drop i line) e (q ∙ ap (evidenceStep place) (tail line i)) (omega (arith, length-drop i line))
 
-  pub scanned-proved : {w : Bool} → s ≡ Proved → s ≡ evidenceStep place (rest line i) → i < length line → Scanned line w place i → true ≡ w
+  pub scanned-proved : {w : Found} → s ≡ Proved → s ≡ evidenceStep place (rest line i) → i < length line → Scanned line w place i → At i ≡ w
   scanned-proved e q h k = sym (there e q h) ∙ k .gives
 
-  pub scanned-remark : {w : Bool} → s ≡ Remark → s ≡ evidenceStep place (rest line i) → i < length line → Scanned line w place i → false ≡ w
+  pub scanned-remark : {w : Found} → s ≡ Remark → s ≡ evidenceStep place (rest line i) → i < length line → Scanned line w place i → Nowhere ≡ w
   scanned-remark e q h k = sym (there e q h) ∙ k .gives
 
   module _ {used : ℕ} {next : Place} (e : s ≡ On used next) (q : s ≡ evidenceStep place (rest line i)) (h : i < length line) where
@@ -264,13 +272,13 @@ module _ (line : List ℕ) (place : Place) (i : ℕ) {s : EvidenceStep} where
     pub on-fits : Fits w64 (length line) → Fits w64 (i + used)
     on-fits f = record { fits = omega (arith, f .fits, far .1) }
 
-    scanned-turn : {w : Bool} → Scanned line w place i → Scanned line w next (i + used)
+    scanned-turn : {w : Found} → Scanned line w place i → Scanned line w next (i + used)
     scanned-turn k =
-        record { within = far .1; gives = ap (evidenceFrom next) (sym (drop-drop used i line)) ∙ sym (there e q h) ∙ k .gives }
+        record { within = far .1; gives = ap (decidingFrom (i + used) next) (sym (drop-drop used i line)) ∙ sym (there e q h) ∙ k .gives }
 
 -- ---- a step, and the bytes of a string or of DATA behind it
 
-same-turn : (line : List ℕ) (place : Place) (j : ℕ) {w : Bool} → j < length line → Same place (getD line j 0) → Scanned line w place j → Scanned line w place (j + 1)
+same-turn : (line : List ℕ) (place : Place) (j : ℕ) {w : Found} → j < length line → Same place (getD line j 0) → Scanned line w place j → Scanned line w place (j + 1)
 unfolding evidenceStep
 same-turn line place j h s k =
     let first : getD (rest line j) 0 0 ≡ getD line j 0 = ap (λ (t : List ℕ). getD t 0 0) (tail line j) ∙ getD-drop j line 0 0 ∙ ap (λ (n : ℕ). getD line n 0) (add-zero j) in
@@ -284,8 +292,81 @@ module _ (line : List ℕ) (place : Place) (i : ℕ) {s : EvidenceStep} {used : 
   pub behind-within : i + used ≤ length line
   behind-within = far line place i e q h .1
 
-  pub scanned-stretch : {w : Bool} {n : ℕ} → n ≡ front (stays next) (rest line (i + used)) → Scanned line w place i → Scanned line w next (i + used + n)
+  pub scanned-stretch : {w : Found} {n : ℕ} → n ≡ front (stays next) (rest line (i + used)) → Scanned line w place i → Scanned line w next (i + used + n)
   scanned-stretch {w} p k = stretch line next i used p behind-within (Scanned line w next) (λ j g o. same-turn line next j g o) (scanned-turn line place i e q h k)
+
+-- ---- a word decides exactly where there is evidence, and stands within the line
+
+abbrev isAt : Found → Bool
+isAt (At i) = true
+isAt Nowhere = false
+
+same-walk : (k i : ℕ) (place : Place) (t : List ℕ) → isAt (again Nowhere decidingOn k (i, place, t)) ≡ again false evidenceOn k (place, t)
+unfolding again decidingOn evidenceOn
+same-walk zero i place t = refl
+same-walk (suc k) i place [] = refl
+same-walk (suc k) i place (b ∷ s) = go (evidenceStep place (b ∷ s)) (λ j next u. same-walk k j next u)
+  where
+    go : (x : EvidenceStep) → ((j : ℕ) (next : Place) (u : List ℕ) → isAt (again Nowhere decidingOn k (j, next, u)) ≡ again false evidenceOn k (next, u))
+        → isAt (elim x [ Proved ↦ At i | Remark ↦ Nowhere | On used next ↦ again Nowhere decidingOn k (i + used, next, drop used (b ∷ s)) ])
+        ≡ elim x [ Proved ↦ true | Remark ↦ false | On used next ↦ again false evidenceOn k (next, drop used (b ∷ s)) ]
+    go Proved f = refl
+    go Remark f = refl
+    go (On used next) f = f (i + used) next (drop used (b ∷ s))
+
+place-by-evidence : (l : List ℕ) → isAt (decidingPlace l) ≡ lineEvidence l
+unfolding decidingPlace decidingFrom lineEvidence evidenceFrom
+place-by-evidence l = same-walk (suc (length (drop (numberLength l) l))) (numberLength l) Start (drop (numberLength l) l)
+
+pub word-by-evidence : (l : List ℕ) → decides (decidingWord l) ≡ lineEvidence l
+unfolding decidingWord decides
+word-by-evidence l = go (decidingPlace l) ∙ place-by-evidence l
+  where
+    go : (f : Found) → decides (elim f [ At i ↦ Decides i (listPlace (drop i l)) | Nowhere ↦ NoneDecides ]) ≡ isAt f
+    go (At i) = refl
+    go Nowhere = refl
+
+walk-within : (k i : ℕ) (place : Place) (t : List ℕ) {j : ℕ} → again Nowhere decidingOn k (i, place, t) ≡ At j → j ≤ i + length t
+unfolding again decidingOn
+walk-within zero i place t {j} e = let z : _≡_ {A = ℕ} 0 1 = cc in absurd (omega arith)
+walk-within (suc k) i place [] {j} e = let z : _≡_ {A = ℕ} 0 1 = cc in absurd (omega arith)
+walk-within (suc k) i place (b ∷ s) {j} e = go (evidenceStep place (b ∷ s)) (far-step place (b ∷ s) (omega arith)) (λ n next u q. walk-within k n next u q) e
+  where
+    go : (x : EvidenceStep) → Far (suc (length s)) x → ((n : ℕ) (next : Place) (u : List ℕ) → again Nowhere decidingOn k (n, next, u) ≡ At j → j ≤ n + length u)
+        → elim x [ Proved ↦ At i | Remark ↦ Nowhere | On used next ↦ again Nowhere decidingOn k (i + used, next, drop used (b ∷ s)) ] ≡ At j
+        → j ≤ i + suc (length s)
+    go Proved d f q = let p : i ≡ j = cc in omega arith
+    go Remark d f q = let z : _≡_ {A = ℕ} 0 1 = cc in absurd (omega arith)
+    go (On used next) d f q = omega (arith, f (i + used) next (drop used (b ∷ s)) q, length-drop used (b ∷ s), d .1)
+
+module _ (l : List ℕ) {f : Found} where
+  pub evidence-somewhere : {i : ℕ} → f ≡ At i → f ≡ decidingPlace l → true ≡ lineEvidence l
+  evidence-somewhere e q = sym (ap isAt (sym q ∙ e)) ∙ place-by-evidence l
+
+  pub evidence-nowhere : f ≡ Nowhere → f ≡ decidingPlace l → false ≡ lineEvidence l
+  evidence-nowhere e q = sym (ap isAt (sym q ∙ e)) ∙ place-by-evidence l
+
+  pub place-within : {i : ℕ} → f ≡ At i → f ≡ decidingPlace l → i ≤ length l
+  unfolding decidingPlace decidingFrom
+  place-within e q =
+      omega (arith, walk-within (suc (length (drop (numberLength l) l))) (numberLength l) Start (drop (numberLength l) l) (sym q ∙ e), length-drop (numberLength l) l, number-le l)
+
+  pub word-told : {i n : ℕ} → n ≡ listPlace (rest l i) → f ≡ At i → f ≡ decidingPlace l → Decides i n ≡ decidingWord l
+  unfolding decidingWord
+  word-told {i} p e q = rw (decidingWord, sym q ∙ e) (ap (Decides i) (p ∙ ap listPlace (tail l i)))
+
+  pub no-word-told : f ≡ Nowhere → f ≡ decidingPlace l → NoneDecides ≡ decidingWord l
+  unfolding decidingWord
+  no-word-told e q = rw (decidingWord, sym q ∙ e)
+
+module _ (t : List ℕ) {m : Match} where
+  pub place-listed : {index used token : ℕ} → m ≡ Word index used token → m ≡ wordIn tsbWords t → index ≡ listPlace t
+  unfolding listPlace
+  place-listed e q = rw (sym q ∙ e)
+
+  pub place-none : m ≡ Nothing → m ≡ wordIn tsbWords t → 0 ≡ listPlace t
+  unfolding listPlace
+  place-none e q = rw (sym q ∙ e)
 
 -- ---- a blank in front of a line is passed before the first step
 

@@ -9,6 +9,8 @@ use lib.ListN.{length, getD, drop}
 use Rattle.steps.specs.Again.{again}
 use Rattle.ascii.specs.Bytes.{isDigit}
 use Rattle.ascii.specs.Search.{isWhite, front, past}
+use Rattle.ascii.specs.declared.search.Found.{Found}
+use Rattle.ascii.specs.declared.search.Found.the-variants.{At, Nowhere}
 use Rattle.words.specs.Compare.{begins}
 use Rattle.words.specs.Find.{wordIn}
 use Rattle.words.specs.declared.Match.the-variants.{Word, Nothing}
@@ -20,6 +22,8 @@ use Rattle.scan_places.specs.declared.place.Place.{Place}
 use Rattle.scan_places.specs.declared.place.Place.the-variants.{Start, Within, Quoted, Data}
 use Rattle.evidence_scan.specs.declared.EvidenceStep.{EvidenceStep}
 use Rattle.evidence_scan.specs.declared.EvidenceStep.the-variants.{Proved, Remark, On}
+use Rattle.evidence_scan.specs.declared.DecidingWord.{DecidingWord}
+use Rattle.evidence_scan.specs.declared.DecidingWord.the-variants.{Decides, NoneDecides}
 
 -- a TSB word in front of a text proves it
 unfoldable pub wordProves : Place → List ℕ → Bool
@@ -77,3 +81,36 @@ numberLength l = front isWhite l + front isDigit (past isWhite l)
 unfoldable pub lineEvidence : List ℕ → Bool
 unfolding evidenceFrom numberLength
 lineEvidence l = evidenceFrom Start (drop (numberLength l) l)
+
+-- ---- the same walk, which answers where the word that proves it stands
+
+-- a step so many bytes into the line; then on from behind it
+unfoldable pub decidingOn : (ℕ × Place × List ℕ → Found) → ℕ × Place × List ℕ → Found
+unfolding evidenceStep
+decidingOn more x =
+    elim (x .2) [
+      | [] ↦ Nowhere
+      | b ∷ s ↦ elim (evidenceStep (x .1) (x .2)) [ Proved ↦ At (x .0) | Remark ↦ Nowhere | On used next ↦ more (x .0 + used, next, drop used (x .2)) ]
+    ]
+
+unfoldable pub decidingFrom : ℕ → Place → List ℕ → Found
+unfolding again decidingOn
+decidingFrom i place t = again Nowhere decidingOn (suc (length t)) (i, place, t)
+
+unfoldable pub decidingPlace : List ℕ → Found
+unfolding decidingFrom numberLength
+decidingPlace l = decidingFrom (numberLength l) Start (drop (numberLength l) l)
+
+-- the place in the list of the TSB word that a text begins with; 0 where there is none
+unfoldable pub listPlace : List ℕ → ℕ
+unfolding wordIn tsbWords
+listPlace t = elim (wordIn tsbWords t) [ Word index used token ↦ index | Nothing ↦ 0 ]
+
+unfoldable pub decidingWord : List ℕ → DecidingWord
+unfolding decidingPlace listPlace
+decidingWord l = elim (decidingPlace l) [ At i ↦ Decides i (listPlace (drop i l)) | Nowhere ↦ NoneDecides ]
+
+-- a word decides
+unfoldable pub decides : DecidingWord → Bool
+decides (Decides offset word) = true
+decides NoneDecides = false

@@ -1,9 +1,11 @@
-// Whether a line uses a TSB word as a statement, as a function or as ELSE.
+// Whether a line uses a TSB word as a statement, as a function or as ELSE; and where.
 use ascii::search;
+use ascii::search::Found;
 use ascii::search::Kind;
 use scan_places::beginnings;
 use scan_places::place;
 use scan_places::place::Place;
+use tables::spellings;
 use word_uses::lists;
 use word_uses::proving;
 use words::Match;
@@ -14,8 +16,15 @@ ghost use lib.ListN.{length, getD};
 ghost use Rattle.ascii.specs.Bytes.{isLetter};
 ghost use Rattle.ascii.specs.declared.search.Kind.the-variants.{White};
 ghost use Rattle.tables.specs.WordsHelpers.{SpellsWords};
-ghost use Rattle.evidence_scan.specs.Evidence.{wordProves, statementStep, evidenceStep, numberLength, lineEvidence};
+ghost use Rattle.evidence_scan.specs.Evidence.{wordProves, statementStep, evidenceStep, numberLength, lineEvidence, listPlace, decidingPlace, decidingWord};
 ghost use Rattle.word_uses.specs.MarkHelpers.{MarksOf};
+
+// The word that proves it.
+pub enum DecidingWord {
+    // So many bytes into the line; and its place in the TSB list.
+    Decides { offset: usize, word: usize },
+    NoneDecides,
+}
 
 pub enum EvidenceStep {
     // A TSB word that proves it.
@@ -126,19 +135,34 @@ fn number_length(line: &[u8]) -> usize
     blanks + search::front(&line[blanks..], Kind::Digit)
 }
 
-fn marked_evidence(line: &[u8], marks: &[u8], bytes: &[u8], index: &[u16]) -> bool
+// The place in the list of the TSB word that a text begins with.
+fn list_place(text: &[u8], bytes: &[u8], index: &[u16]) -> usize
+    requires { ⌜ SpellsWords (now bytes) (now index) ⌝ }
+    ensures { λ r. ⌜ r ≡ listPlace (now (text .entry)) ⌝ }
+{
+    match beginnings::tsb_word(text, bytes, index) {
+        Match::Word {
+            index: word,
+            used: _,
+            token: _,
+        } => word,
+        Match::Nothing => 0,
+    }
+}
+
+fn marked_place(line: &[u8], marks: &[u8], bytes: &[u8], index: &[u16]) -> Found
     requires { ⌜ SpellsWords (now bytes) (now index) × MarksOf White (now line) (now marks) ⌝ }
-    ensures { λ r. ⌜ r ≡ lineEvidence (now (line .entry)) ⌝ }
+    ensures { λ r. ⌜ r ≡ decidingPlace (now (line .entry)) ⌝ }
 {
     let mut i = number_length(line);
     let mut place = Place::Start;
     while i < line.len() {
         match evidence_step(place, &line[i..], marks, bytes, index) {
             EvidenceStep::Proved => {
-                return true;
+                return Found::At(i);
             }
             EvidenceStep::Remark => {
-                return false;
+                return Found::Nowhere;
             }
             EvidenceStep::On { used, place: next } => {
                 let behind = i + used;
@@ -147,42 +171,75 @@ fn marked_evidence(line: &[u8], marks: &[u8], bytes: &[u8], index: &[u16]) -> bo
             }
         }
     }
-    false
+    Found::Nowhere
 }
 
-fn long_evidence(line: &[u8], bytes: &[u8], index: &[u16]) -> bool
+fn long_place(line: &[u8], bytes: &[u8], index: &[u16]) -> Found
     requires { ⌜ SpellsWords (now bytes) (now index) × (length (now line) ≤ 16384) ⌝ }
-    ensures { λ r. ⌜ r ≡ lineEvidence (now (line .entry)) ⌝ }
+    ensures { λ r. ⌜ r ≡ decidingPlace (now (line .entry)) ⌝ }
 {
     let mut marks = [0u8; 2048];
     let mut levels = [0u8; 2048];
     lists::mark_long(line, Kind::White, &mut marks, &mut levels);
-    marked_evidence(line, &marks, bytes, index)
+    marked_place(line, &marks, bytes, index)
 }
 
-fn longest_evidence(line: &[u8], bytes: &[u8], index: &[u16]) -> bool
+fn longest_place(line: &[u8], bytes: &[u8], index: &[u16]) -> Found
     requires { ⌜ SpellsWords (now bytes) (now index) × (length (now line) ≤ 1048576) ⌝ }
-    ensures { λ r. ⌜ r ≡ lineEvidence (now (line .entry)) ⌝ }
+    ensures { λ r. ⌜ r ≡ decidingPlace (now (line .entry)) ⌝ }
 {
     let mut marks = [0u8; 131072];
     let mut levels = [0u8; 131072];
     lists::mark_longest(line, Kind::White, &mut marks, &mut levels);
-    marked_evidence(line, &marks, bytes, index)
+    marked_place(line, &marks, bytes, index)
 }
 
-// Whether a line proves that a text is TSB. The room for marks goes by its length; a short line needs none, and no text has a longer one.
-pub fn line_evidence(line: &[u8], bytes: &[u8], index: &[u16]) -> bool
+// Where the first word that proves it stands. The room for marks goes by the line's length; a short line needs none, and no text has a
+// longer one.
+fn deciding_place(line: &[u8], bytes: &[u8], index: &[u16]) -> Found
     requires { ⌜ SpellsWords (now bytes) (now index) ⌝ }
-    ensures { λ r. ⌜ r ≡ lineEvidence (now (line .entry)) ⌝ }
+    ensures { λ r. ⌜ r ≡ decidingPlace (now (line .entry)) ⌝ }
 {
     let n = line.len();
     if n > 256 {
         if n <= 16384 {
-            return long_evidence(line, bytes, index);
+            return long_place(line, bytes, index);
         }
         if n <= 1048576 {
-            return longest_evidence(line, bytes, index);
+            return longest_place(line, bytes, index);
         }
     }
-    marked_evidence(line, b"", bytes, index)
+    marked_place(line, b"", bytes, index)
+}
+
+// Whether a line proves that a text is TSB.
+pub fn line_evidence(line: &[u8], bytes: &[u8], index: &[u16]) -> bool
+    requires { ⌜ SpellsWords (now bytes) (now index) ⌝ }
+    ensures { λ r. ⌜ r ≡ lineEvidence (now (line .entry)) ⌝ }
+{
+    match deciding_place(line, bytes, index) {
+        Found::At(_) => true,
+        Found::Nowhere => false,
+    }
+}
+
+// The word that proves it, with the tables lent.
+fn word_with(line: &[u8], bytes: &[u8], index: &[u16]) -> DecidingWord
+    requires { ⌜ SpellsWords (now bytes) (now index) ⌝ }
+    ensures { λ r. ⌜ r ≡ decidingWord (now (line .entry)) ⌝ }
+{
+    match deciding_place(line, bytes, index) {
+        Found::At(offset) => DecidingWord::Decides {
+            offset,
+            word: list_place(&line[offset..], bytes, index),
+        },
+        Found::Nowhere => DecidingWord::NoneDecides,
+    }
+}
+
+// The first TSB word of a line that proves it: where it stands in the line, and its place in the list.
+pub fn deciding_word(line: &[u8]) -> DecidingWord
+    ensures { λ r. ⌜ r ≡ decidingWord (now (line .entry)) ⌝ }
+{
+    word_with(line, &spellings::WORD_BYTES, &spellings::WORD_INDEX)
 }

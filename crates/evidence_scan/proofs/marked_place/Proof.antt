@@ -1,18 +1,18 @@
--- `evidence_scan::marked_evidence` meets its contract.
+-- `evidence_scan::marked_place` meets its contract.
 -- Assumes nothing.
 use Prim.Native.Nat.{_-_}
 use lib.ListN.{length}
-use Rattle.evidence_scan.specs.Evidence.{lineEvidence}
+use Rattle.evidence_scan.specs.Evidence.{decidingPlace}
 use Rattle.evidence_scan.proofs.Steps.{Scanned, scanned-start, scanned-proved, scanned-remark, scanned-stretch, scanned-end, on-fits, behind-some, behind-within}
 use Rattle.word_uses.proofs.Behind.{rest-some}
 use Rattle.word_uses.proofs.Marks.{marks-rest}
 use Rattle.scan_places.proofs.Places.{stretch-fits, stretch-less}
 use borrow.Author.Needs.{needs}
-use Rattle.evidence_scan.proofs.marked_evidence.Statement.{statement}
-use Rattle.evidence_scan.proofs.marked_evidence.Tie as tie
+use Rattle.evidence_scan.proofs.marked_place.Statement.{statement}
+use Rattle.evidence_scan.proofs.marked_place.Tie as tie
 
 abbrev Inv-loop : tie.InvT-loop
-Inv-loop line marks bytes index i₀ place₀ i place = Scanned line (lineEvidence line) place i
+Inv-loop line marks bytes index i₀ place₀ i place = Scanned line (decidingPlace line) place i
 
 abbrev μ-loop : tie.MeasureT-loop
 μ-loop line marks bytes index i₀ place₀ i place = length line - i
@@ -50,8 +50,8 @@ loop-again c = search scanned-stretch
 returns-3 : tie.Need-returns-3 Inv-loop μ-loop
 returns-3 c = search scanned-end
 
-pub marked-evidence-spec : {M : Type 1} → statement M
-marked-evidence-spec =
+pub marked-place-spec : {M : Type 1} → statement M
+marked-place-spec =
     tie.close
     (tie.spec
     Inv-loop

@@ -1,0 +1,21 @@
+-- `evidence_scan::deciding_place` meets its contract.
+-- Assumes nothing.
+use Rattle.word_uses.proofs.Marks.{no-marks}
+use borrow.Author.Needs.{needs}
+use Rattle.evidence_scan.proofs.deciding_place.Statement.{statement}
+use Rattle.evidence_scan.proofs.deciding_place.Tie as tie
+
+marked-place-requires : tie.Need-marked-place-requires
+marked-place-requires c κs = search no-marks
+
+pub deciding-place-spec : {M : Type 1} → statement M
+deciding-place-spec =
+    tie.close
+    (tie.spec
+    (λ c κs. search needs)
+    (λ c. search needs)
+    (λ c κs. search needs)
+    (λ c. search needs)
+    (λ c. search needs)
+    marked-place-requires
+    (λ c. search needs))
