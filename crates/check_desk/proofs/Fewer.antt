@@ -5,11 +5,12 @@ use mathlib.Core.Path.{_≡_, ap, subst}
 use mathlib.Core.List.{List, _∷_}
 use native.Mathlib.Omega.{arith}
 use lib.ListN.{length}
-use Rattle.fitness.specs.declared.Fault.{Fault}
+use Rattle.faults.specs.declared.Fault.{Fault}
 use Rattle.fitness.specs.declared.Place.{Place}
 use Rattle.fitness.specs.declared.Found.{Found}
 use Rattle.fitness.specs.declared.Found.the-variants.{Fault as FoundFault}
-use Rattle.fitness.specs.FaultHelpers.{hasMark, faultsAt, FaultIs}
+use Rattle.faults.specs.ToldHelpers.{hasMark}
+use Rattle.fitness.specs.FaultHelpers.{faultsAt, FaultIs}
 
 pub fewer-left : (marked s : List ℕ) (x : Place) {r : Found} {f : Fault} {q : Place} → r ≡ FoundFault f q → FaultIs (hasMark marked) s x r
     → length (faultsAt (hasMark marked) s q) < length (faultsAt (hasMark marked) s x)

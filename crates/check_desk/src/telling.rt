@@ -2,7 +2,7 @@
 // processes do not mix.
 use crate::Run;
 use desk::result;
-use fitness::Fault;
+use faults::Fault;
 use libc::STDOUT_FILENO;
 use refusals::Refusal;
 use sentences::put::put_decimal;

@@ -12,20 +12,20 @@ use borrow.Author.Tests.{ltb-false, eqb-true, eqb-false}
 use Rattle.refusals.specs.Answer.{Answer, done, refused, mapDone}
 use Rattle.readers.specs.declared.Line.{Line}
 use Rattle.readers.specs.Chain.{Chain, here, on, Leads}
-use Rattle.readers.specs.Image.{addressAt, lineAt, Found, line, end}
+use Rattle.readers.specs.Image.{addressAt, Found, line, end}
 use Rattle.readers.specs.Lines.{linesFrom, linesOf}
 use Rattle.readers.specs.Links.{targetAt, linkStep}
 use Rattle.readers.specs.Terminators.{beforeZero, bodyEnd, terminatedLine, terminatorStep}
-use Rattle.readers.proofs.ByLinks.{LinkedAt, link-found, link-sound}
+use Rattle.readers.proofs.ByLinks.{link-found, link-sound}
 use Rattle.readers.proofs.ByTerminators.{terminator-line, terminator-end, terminator-sound}
 use Rattle.readers.proofs.Equations.{lines-line, lines-end}
 use Rattle.readers.proofs.Finding.{RightLength, cond-by, sized-right}
 use Rattle.readers.proofs.Reading.{lines-lead}
 use Rattle.relink.specs.Relinking.{Relinking, same, changed, leaves, endless, relinkFrom, relinking}
-use Rattle.fitness.specs.declared.Fault.{Fault}
-use Rattle.fitness.specs.declared.Fault.the-variants.{ZeroInBody}
-use Rattle.fitness.specs.Faults.{memoryFaults, relinkFault, relinkFaults, numberFaults, orderFaults, firstZero, zeroFaults, lineFaults, linesFaults, hasTarget, faultsIn, fitness}
-use Rattle.fitness.specs.FaultHelpers.{LineIs}
+use Rattle.faults.specs.declared.Fault.{Fault}
+use Rattle.faults.specs.declared.Fault.the-variants.{ZeroInBody}
+use Rattle.faults.specs.Faults.{memoryFaults, relinkFault, relinkFaults, numberFaults, orderFaults, firstZero, zeroFaults, lineFaults, linesFaults, hasTarget, faultsIn, fitness}
+use Rattle.faults.specs.ToldHelpers.{LineIs}
 
 -- ---- lists without elements
 

@@ -1,6 +1,5 @@
 pub mod Alike
 pub mod Moving
 pub mod Table
-pub mod Telling
 pub mod Walking
 pub mod Whole

@@ -1,11 +1,10 @@
 -- The walk from place to place: what is left at a place is what is told there, and what is left at the next.
 -- Assumes nothing.
-use Prim.Native.Nat.{ℕ, _+_, _-_, _<_}
+use Prim.Native.Nat.{ℕ, _+_, _<_}
 use mathlib.Core.Path.{_≡_, refl, sym, ap, _∙_, subst}
 use mathlib.Core.Bool.{Bool, false}
 use mathlib.Core.List.{List, [], _∷_, _++_, map, append-assoc, append-nil}
 use native.Mathlib.Omega.{arith}
-use lib.ListN.{length, take, drop}
 use Rattle.refusals.specs.declared.Refusal.{Refusal}
 use Rattle.refusals.specs.Answer.{Answer, done, refused}
 use Rattle.readers.specs.declared.Line.{Line}
@@ -27,20 +26,30 @@ use Rattle.jumps.specs.declared.Next.{Next}
 use Rattle.jumps.specs.declared.Next.the-variants.{Jump, None}
 use Rattle.jumps.specs.JumpHelpers.{leftOf}
 use Rattle.jumps.proofs.Stepping.{left-text}
-use Rattle.fitness.specs.declared.Fault.{Fault}
-use Rattle.fitness.specs.declared.Fault.the-variants.{NoTarget}
+use Rattle.faults.specs.declared.Fault.{Fault}
+use Rattle.faults.specs.declared.Fault.the-variants.{NoTarget}
 use Rattle.fitness.specs.declared.Check.{Check}
 use Rattle.fitness.specs.declared.Check.the-variants.{Number, Order, Zero, Length, Jumps}
 use Rattle.fitness.specs.declared.Stage.{Stage}
 use Rattle.fitness.specs.declared.Stage.the-variants.{Memory, Line as LineStage, Relinking, Done}
 use Rattle.fitness.specs.declared.Place.{Place}
-use Rattle.fitness.specs.declared.Told.{Told}
-use Rattle.fitness.specs.declared.Told.the-variants.{Fault as ToldFault, Nothing}
+use Rattle.faults.specs.declared.Told.{Told}
+use Rattle.faults.specs.declared.Told.the-variants.{Fault as ToldFault, Nothing}
 use Rattle.fitness.specs.declared.Moved.{Moved}
 use Rattle.fitness.specs.declared.Moved.the-variants.{Told as MovedTold, On, End}
 use Rattle.fitness.specs.declared.Found.the-variants.{Fault as FoundFault, None as NoFault}
-use Rattle.fitness.specs.Faults.{memoryFaults, relinkFaults, numberFaults, orderFaults, zeroFaults, lengthFaults, unmet, jumpFaults, lineFaults, linesFaults}
-use Rattle.fitness.specs.FaultHelpers.{hasMark, restFrom, faultsBy, checkFaults, stageFaults, faultsAt, placeAhead, toldFault, movedBy, WalksOn, MovedIs, FaultIs, LineIs, UnmetIs}
+use Rattle.faults.specs.Faults.{memoryFaults, relinkFaults, numberFaults, orderFaults, zeroFaults, lengthFaults, unmet, jumpFaults, lineFaults, linesFaults}
+use Rattle.faults.specs.ToldHelpers.{hasMark, toldFault, LineIs, UnmetIs}
+use Rattle.fitness.specs.FaultHelpers.{restFrom, faultsBy, checkFaults, stageFaults, faultsAt, placeAhead, movedBy, WalksOn, MovedIs, FaultIs}
+
+-- ---- what is led on
+
+module _ (told : Told) (q : Place) where
+  pub led-fault : {f : Fault} → told ≡ ToldFault f → MovedTold f q ≡ movedBy told q
+  led-fault is = rw is
+
+  pub led-on : told ≡ Nothing → On q ≡ movedBy told q
+  led-on is = rw is
 
 abbrev pub placeIn : Stage → ℕ → ℕ → Place
 placeIn stage p least = record { stage = stage; offset = p; least = least }

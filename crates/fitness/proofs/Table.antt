@@ -3,7 +3,7 @@
 use mathlib.Core.Path.{refl}
 use Rattle.layout.specs.Layout.{imageOf}
 use Rattle.relink.specs.Relinking.{inMemory, zeroSought, stored, relinkStep, relinkFrom, relinking}
-use Rattle.fitness.specs.Faults.{fitness}
+use Rattle.faults.specs.Faults.{fitness}
 use Rattle.fitness.specs.FitnessTable.{FitnessTable}
 
 pub fitness-table : FitnessTable

@@ -1,12 +1,10 @@
--- The loops: the jumps of a body without a target, and the marks of an image's numbers.
+-- The loop that marks an image's numbers.
 -- Assumes nothing.
-use Prim.Native.Nat.{ℕ, _-_, _≤_, _<_, min}
-use mathlib.Core.Path.{_≡_, refl, sym, ap, _∙_, subst}
-use mathlib.Core.Bool.{Bool, true, false, not}
-use mathlib.Core.List.{List, [], _∷_}
+use Prim.Native.Nat.{ℕ, _-_, _≤_, _<_}
+use mathlib.Core.Path.{_≡_, refl, sym, ap, _∙_}
+use mathlib.Core.List.{List}
 use lib.ListN.{length, set}
 use lib.Seq.{set-out}
-use borrow.Author.Tests.{not-true, not-false}
 use Rattle.refusals.specs.declared.Refusal.{Refusal}
 use Rattle.readers.specs.declared.Line.{Line}
 use Rattle.readers.specs.declared.Step.{Step}
@@ -18,47 +16,7 @@ use Rattle.readers.proofs.Equations.{next-nearer}
 use Rattle.readers.proofs.Finding.{told}
 use Rattle.find_line.specs.Sought.{Lined, linedFrom}
 use Rattle.find_line.proofs.Seeking.{lined-line, lined-end, lined-refused}
-use Rattle.jumps.specs.declared.Cursor.{Cursor}
-use Rattle.jumps.specs.declared.Next.{Next}
-use Rattle.jumps.specs.declared.Next.the-variants.{Jump, None}
-use Rattle.jumps.specs.JumpHelpers.{leftOf, distance, JumpsTo, NextIs}
-use Rattle.fitness.specs.Faults.{unmet}
-use Rattle.fitness.specs.FaultHelpers.{hasMark, lineMarks, UnmetIs}
-
--- ---- the jumps of a body
-
--- the targets up to a place are met
-pub record UnmetAhead (marked body : List ℕ) (c₀ c : Cursor) : Type 0 where
-  pub gives : unmet (hasMark marked) (leftOf body c) ≡ unmet (hasMark marked) (leftOf body c₀)
-
-pub unmet-start : (marked body : List ℕ) (c : Cursor) → UnmetAhead marked body c c
-unmet-start marked body c = record { gives = refl }
-
-module _ {marked body : List ℕ} {c₀ c : Cursor} (k : UnmetAhead marked body c₀ c) {r : Next} (next : NextIs body c r) where
-  module _ {target : ℕ} {d : Cursor} (is : r ≡ Jump target d) where
-    jumped : JumpsTo body c target d
-    jumped = subst (NextIs body c) is next
-
-    pub unmet-less : distance body d < distance body c
-    unmet-less = jumped .nearer
-
-    module _ {t : ℕ} {b : Bool} (cut : t ≡ min target 65536) (e : b ≡ hasMark marked t) where
-      here : unmet (hasMark marked) (leftOf body c₀) ≡ unmet (hasMark marked) (t ∷ leftOf body d)
-      here = sym (k .gives) ∙ ap (unmet (hasMark marked)) (jumped .same ∙ rw cut)
-
-      pub unmet-told : not b ≡ true → UnmetIs (hasMark marked) body c₀ (Jump t d)
-      unfolding unmet
-      unmet-told n = let w : hasMark marked t ≡ false = sym e ∙ not-true b n in here ∙ rw (w, unmet)
-
-      pub unmet-turn : not b ≡ false → UnmetAhead marked body c₀ d
-      unfolding unmet
-      unmet-turn n = let w : hasMark marked t ≡ true = sym e ∙ not-false b n in record { gives = sym (here ∙ rw (w, unmet)) }
-
-  pub unmet-end : r ≡ None → UnmetIs (hasMark marked) body c₀ None
-  unfolding unmet
-  unmet-end is = let w : leftOf body c ≡ [] = subst (NextIs body c) is next in sym (k .gives) ∙ ap (unmet (hasMark marked)) w
-
--- ---- the marks
+use Rattle.fitness.specs.FaultHelpers.{lineMarks}
 
 -- the numbers up to p are marked
 pub record MarksAhead (s marked₀ marked : List ℕ) (p : ℕ) : Type 0 where

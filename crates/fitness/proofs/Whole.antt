@@ -2,14 +2,14 @@
 -- Assumes nothing.
 use Prim.Native.Nat.{ℕ, _+_, min}
 use mathlib.Core.Path.{_≡_, refl, sym, ap, _∙_}
-use mathlib.Core.Bool.{Bool, true, false, not, _&&_, _||_, and-false}
+use mathlib.Core.Bool.{Bool, true, false, not, _&&_, _||_}
 use mathlib.Core.List.{List, [], _∷_, _++_, map}
 use native.Mathlib.Omega.{arith}
 use lib.Dec.{ltb, eqb}
 use lib.ListN.{length, getD, set, replicate, length-set, length-replicate, getD-replicate, List·getD-eq-default}
 use lib.Seq.{set-out, getD-set-same, getD-set-other}
 use borrow.Author.Tests.{ltb-true, ltb-false, eqb-true, eqb-false}
-use Rattle.refusals.specs.Answer.{Answer, done, mapDone}
+use Rattle.refusals.specs.Answer.{done, mapDone}
 use Rattle.readers.specs.declared.Line.{Line}
 use Rattle.readers.specs.Bodies.{bodyOf}
 use Rattle.readers.specs.Lines.{linesOf}
@@ -18,11 +18,12 @@ use Rattle.find_line.specs.Sought.{Lined, linedFrom}
 use Rattle.find_line.proofs.Limits.{accepted}
 use Rattle.jumps.specs.Jumps.{jumpsOf}
 use Rattle.line_index.specs.Index.{indexLine, hasLine}
-use Rattle.fitness.specs.declared.Fault.{Fault}
-use Rattle.fitness.specs.declared.Fault.the-variants.{NoTarget}
+use Rattle.faults.specs.declared.Fault.{Fault}
+use Rattle.faults.specs.declared.Fault.the-variants.{NoTarget}
 use Rattle.fitness.specs.declared.Stage.the-variants.{Memory}
-use Rattle.fitness.specs.Faults.{memoryFaults, relinkFaults, numberFaults, orderFaults, zeroFaults, lengthFaults, unmet, jumpFaults, lineFaults, linesFaults, hasTarget, faultsIn, fitness}
-use Rattle.fitness.specs.FaultHelpers.{hasMark, lineMarks, restFrom, stageFaults, faultsAt}
+use Rattle.faults.specs.Faults.{memoryFaults, relinkFaults, numberFaults, orderFaults, zeroFaults, lengthFaults, unmet, jumpFaults, lineFaults, linesFaults, hasTarget, faultsIn, fitness}
+use Rattle.faults.specs.ToldHelpers.{hasMark}
+use Rattle.fitness.specs.FaultHelpers.{lineMarks, restFrom, stageFaults, faultsAt}
 
 -- ---- the marks tell the numbers
 

@@ -1,40 +1,33 @@
--- What the contracts of the walk say: what is left of an image's faults at a place. A target is met where its number is marked.
+-- What the contracts of the walk say: what is left of an image's faults at a place.
 -- Assumes nothing.
 use Prim.Native.Nat.{ℕ, _+_, _-_, _*_, _<_}
 use mathlib.Core.Path.{_≡_}
-use mathlib.Core.Bool.{Bool, not}
+use mathlib.Core.Bool.{Bool}
 use mathlib.Core.List.{List, [], _∷_, _++_, map}
-use lib.Dec.{eqb}
-use lib.ListN.{length, getD, set}
+use lib.ListN.{length, set}
 use Rattle.refusals.specs.Answer.{Answer, done, refused}
 use Rattle.readers.specs.declared.Line.{Line}
 use Rattle.readers.specs.Bodies.{bodyOf}
 use Rattle.readers.specs.Image.{Found, line, end}
 use Rattle.readers.specs.Links.{linkStep}
 use Rattle.find_line.specs.Sought.{linedFrom}
-use Rattle.jumps.specs.declared.Cursor.{Cursor}
-use Rattle.jumps.specs.declared.Next.{Next}
-use Rattle.jumps.specs.declared.Next.the-variants.{Jump, None}
 use Rattle.jumps.specs.JumpHelpers.{leftOf}
-use Rattle.fitness.specs.declared.Fault.{Fault}
-use Rattle.fitness.specs.declared.Fault.the-variants.{NoTarget}
+use Rattle.faults.specs.declared.Fault.{Fault}
+use Rattle.faults.specs.declared.Fault.the-variants.{NoTarget}
 use Rattle.fitness.specs.declared.Check.{Check}
 use Rattle.fitness.specs.declared.Check.the-variants.{Number, Order, Zero, Length, Jumps}
 use Rattle.fitness.specs.declared.Stage.{Stage}
 use Rattle.fitness.specs.declared.Stage.the-variants.{Memory, Line as LineStage, Relinking, Done}
 use Rattle.fitness.specs.declared.Place.{Place}
-use Rattle.fitness.specs.declared.Told.{Told}
-use Rattle.fitness.specs.declared.Told.the-variants.{Fault as ToldFault, Nothing}
+use Rattle.faults.specs.declared.Told.{Told}
+use Rattle.faults.specs.declared.Told.the-variants.{Fault as ToldFault, Nothing}
 use Rattle.fitness.specs.declared.Moved.{Moved}
 use Rattle.fitness.specs.declared.Moved.the-variants.{Told as MovedTold, On, End}
 use Rattle.fitness.specs.declared.Found.{Found as NextFault}
 use Rattle.fitness.specs.declared.Found.the-variants.{Fault as FoundFault, None as NoFault}
-use Rattle.fitness.specs.Faults.{memoryFaults, relinkFaults, numberFaults, orderFaults, zeroFaults, lengthFaults, unmet, jumpFaults, lineFaults, linesFaults}
+use Rattle.faults.specs.Faults.{memoryFaults, relinkFaults, orderFaults, zeroFaults, lengthFaults, unmet, jumpFaults, lineFaults, linesFaults}
 
 -- ---- marks
-
-abbrev pub hasMark : List ℕ → ℕ → Bool
-hasMark marked t = not (eqb (getD marked t 0) 0)
 
 -- the numbers of lines marked, as far as the marks reach
 unfoldable pub lineMarks : List ℕ → List Line → List ℕ
@@ -93,10 +86,6 @@ stagesLeft Done = 0
 abbrev pub placeAhead : List ℕ → Place → ℕ
 placeAhead s x = 8 * (length s - x .offset) + stagesLeft (x .stage)
 
-abbrev pub toldFault : Told → List Fault
-toldFault (ToldFault f) = f ∷ []
-toldFault Nothing = []
-
 abbrev pub movedBy : Told → Place → Moved
 movedBy (ToldFault f) q = MovedTold f q
 movedBy Nothing q = On q
@@ -115,12 +104,3 @@ MovedIs has s x End = faultsAt has s x ≡ []
 abbrev pub FaultIs : (ℕ → Bool) → List ℕ → Place → NextFault → Type 0
 FaultIs has s x (FoundFault f q) = faultsAt has s x ≡ f ∷ faultsAt has s q
 FaultIs has s x NoFault = faultsAt has s x ≡ []
-
--- the line at an offset
-abbrev pub LineIs : List ℕ → ℕ → Line → Type 0
-LineIs s p l = linkStep s p ≡ done (line l)
-
--- the next target that is not met, and what is left behind it
-abbrev pub UnmetIs : (ℕ → Bool) → List ℕ → Cursor → Next → Type 0
-UnmetIs has body c (Jump t d) = unmet has (leftOf body c) ≡ t ∷ unmet has (leftOf body d)
-UnmetIs has body c None = unmet has (leftOf body c) ≡ []

@@ -1,3 +1,2 @@
 pub mod FaultHelpers
-pub mod Faults
 pub mod FitnessTable

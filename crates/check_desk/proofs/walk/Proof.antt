@@ -1,7 +1,8 @@
 -- `check_desk::walk` is safe and ends.
 -- Assumes nothing.
 use lib.ListN.{length}
-use Rattle.fitness.specs.FaultHelpers.{hasMark, faultsAt}
+use Rattle.faults.specs.ToldHelpers.{hasMark}
+use Rattle.fitness.specs.FaultHelpers.{faultsAt}
 use Rattle.check_desk.proofs.Fewer.{fewer-left}
 use borrow.Author.Needs.{needs}
 use Rattle.check_desk.proofs.walk.Statement.{statement}

@@ -1,6 +1,6 @@
 -- `fitness::jumps_step` meets its contract.
 -- Assumes nothing.
-use Rattle.fitness.proofs.Telling.{line-runs, line-within}
+use Rattle.faults.proofs.Telling.{line-runs, line-within}
 use Rattle.fitness.proofs.Moving.{jumps-told, jumps-on}
 use borrow.Author.Needs.{needs}
 use Rattle.fitness.proofs.jumps_step.Statement.{statement}

@@ -1,6 +1,6 @@
 -- `fitness::lead` meets its contract.
 -- Assumes nothing.
-use Rattle.fitness.proofs.Telling.{led-fault, led-on}
+use Rattle.fitness.proofs.Moving.{led-fault, led-on}
 use borrow.Author.Needs.{needs}
 use Rattle.fitness.proofs.lead.Statement.{statement}
 use Rattle.fitness.proofs.lead.Tie as tie

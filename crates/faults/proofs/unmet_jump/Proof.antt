@@ -1,10 +1,10 @@
--- `fitness::unmet_jump` meets its contract.
+-- `faults::unmet_jump` meets its contract.
 -- Assumes nothing.
 use Rattle.jumps.specs.JumpHelpers.{distance}
-use Rattle.fitness.proofs.Walking.{UnmetAhead, unmet-start, unmet-told, unmet-turn, unmet-less, unmet-end}
+use Rattle.faults.proofs.Unmet.{UnmetAhead, unmet-start, unmet-told, unmet-turn, unmet-less, unmet-end}
 use borrow.Author.Needs.{needs}
-use Rattle.fitness.proofs.unmet_jump.Statement.{statement}
-use Rattle.fitness.proofs.unmet_jump.Tie as tie
+use Rattle.faults.proofs.unmet_jump.Statement.{statement}
+use Rattle.faults.proofs.unmet_jump.Tie as tie
 
 abbrev Inv-loop : tie.InvT-loop
 Inv-loop body marked cursor₀ cursor = UnmetAhead marked body cursor₀ cursor

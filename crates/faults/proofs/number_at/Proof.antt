@@ -1,9 +1,9 @@
--- `fitness::number_at` meets its contract.
+-- `faults::number_at` meets its contract.
 -- Assumes nothing.
-use Rattle.fitness.proofs.Telling.{number-beyond}
+use Rattle.faults.proofs.Telling.{number-beyond}
 use borrow.Author.Needs.{needs}
-use Rattle.fitness.proofs.number_at.Statement.{statement}
-use Rattle.fitness.proofs.number_at.Tie as tie
+use Rattle.faults.proofs.number_at.Statement.{statement}
+use Rattle.faults.proofs.number_at.Tie as tie
 
 returns : tie.Need-returns
 returns c = search number-beyond

@@ -18,8 +18,8 @@ use Rattle.readers.specs.Terminators.{beforeZero}
 use Rattle.jumps.specs.Jumps.{jumpsFrom, jumpsOf}
 use Rattle.line_index.specs.Index.{indexLine, hasLine}
 use Rattle.relink.specs.Relinking.{Relinking, same, changed, leaves, endless, relinking}
-use Rattle.fitness.specs.declared.Fault.{Fault}
-use Rattle.fitness.specs.declared.Fault.the-variants.{OutsideMemory, NumberTooHigh, NotAscending, ZeroInBody, BodyLength, NoTarget, LinkChanges, LinksLeave, LinksEndless}
+use Rattle.faults.specs.declared.Fault.{Fault}
+use Rattle.faults.specs.declared.Fault.the-variants.{OutsideMemory, NumberTooHigh, NotAscending, ZeroInBody, BodyLength, NoTarget, LinkChanges, LinksLeave, LinksEndless}
 
 -- a fault where a test holds
 abbrev pub faultIf : Bool → Fault → List Fault

@@ -1,9 +1,9 @@
--- `fitness::length_fault` meets its contract.
+-- `faults::length_fault` meets its contract.
 -- Assumes nothing.
-use Rattle.fitness.proofs.Telling.{line-runs, length-low, length-high, length-none}
+use Rattle.faults.proofs.Telling.{line-runs, length-low, length-high, length-none}
 use borrow.Author.Needs.{needs}
-use Rattle.fitness.proofs.length_fault.Statement.{statement}
-use Rattle.fitness.proofs.length_fault.Tie as tie
+use Rattle.faults.proofs.length_fault.Statement.{statement}
+use Rattle.faults.proofs.length_fault.Tie as tie
 
 sub-length : tie.Need-sub-length
 sub-length c = search line-runs

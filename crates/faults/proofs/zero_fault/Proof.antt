@@ -1,10 +1,10 @@
--- `fitness::zero_fault` meets its contract.
+-- `faults::zero_fault` meets its contract.
 -- Assumes nothing.
-use Rattle.fitness.proofs.Telling.{line-low, line-from, zero-fits, zero-told, zero-none}
+use Rattle.faults.proofs.Telling.{line-low, line-from, zero-fits, zero-told, zero-none}
 use native.Mathlib.Omega.{arith}
 use borrow.Author.Needs.{needs}
-use Rattle.fitness.proofs.zero_fault.Statement.{statement}
-use Rattle.fitness.proofs.zero_fault.Tie as tie
+use Rattle.faults.proofs.zero_fault.Statement.{statement}
+use Rattle.faults.proofs.zero_fault.Tie as tie
 
 add-zero : tie.Need-add-zero
 add-zero c = search zero-fits

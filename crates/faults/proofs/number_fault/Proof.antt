@@ -1,9 +1,9 @@
--- `fitness::number_fault` meets its contract.
+-- `faults::number_fault` meets its contract.
 -- Assumes nothing.
-use Rattle.fitness.proofs.Telling.{number-told, number-none}
+use Rattle.faults.proofs.Telling.{number-told, number-none}
 use borrow.Author.Needs.{needs}
-use Rattle.fitness.proofs.number_fault.Statement.{statement}
-use Rattle.fitness.proofs.number_fault.Tie as tie
+use Rattle.faults.proofs.number_fault.Statement.{statement}
+use Rattle.faults.proofs.number_fault.Tie as tie
 
 returns : tie.Need-returns
 returns c = search number-told

@@ -1,11 +1,11 @@
 -- The faults one by one: a law for each answer.
 -- Assumes nothing.
-use Prim.Native.Nat.{ℕ, _+_, _-_, _*_, _≤_, _<_}
+use Prim.Native.Nat.{ℕ, _+_, _-_, _≤_, _<_}
 use mathlib.Core.Path.{_≡_, refl, sym, ap, _∙_}
-use mathlib.Core.Bool.{Bool, true, false, cond}
+use mathlib.Core.Bool.{Bool, true, false}
 use mathlib.Core.List.{List, [], _∷_}
 use native.Mathlib.Omega.{arith}
-use lib.Dec.{leb, ltb, eqb}
+use lib.Dec.{leb}
 use lib.ListN.{length, getD, drop, length-drop, List·getD-eq-default}
 use lib.Seq.{length-take-le}
 use mir.Syntax.{w64}
@@ -13,27 +13,21 @@ use mir.Val.{Fits}
 use borrow.Author.Tests.{le-leb, lt-leb, le-ltb, lt-ltb}
 use Rattle.ascii.specs.Bytes.{between}
 use Rattle.refusals.specs.declared.Refusal.{Refusal}
-use Rattle.refusals.specs.Answer.{Answer, done, refused}
+use Rattle.refusals.specs.Answer.{Answer, done}
 use Rattle.readers.specs.declared.Line.{Line}
 use Rattle.readers.specs.Bodies.{bodyOf, bodyFound, bodyAt}
-use Rattle.readers.specs.Image.{lowFirstAt, addressAt, Found, line}
-use Rattle.readers.specs.Links.{linkStep}
+use Rattle.readers.specs.Image.{lowFirstAt, Found, line}
 use Rattle.readers.specs.Terminators.{beforeZero, bodyEnd, terminatedLine, terminatorStep}
-use Rattle.readers.proofs.ByLinks.{LinkedAt, link-found, link-sound}
+use Rattle.readers.proofs.ByLinks.{link-found, link-sound}
 use Rattle.readers.proofs.ByTerminators.{terminator-line, body-end-within}
 use Rattle.readers.proofs.Equations.{LiesAt}
 use Rattle.readers.proofs.Reading.{body-length}
 use Rattle.relink.specs.declared.Relinked.{Relinked}
 use Rattle.relink.specs.declared.Relinked.the-variants.{Same, Changed, Leaves, Endless, Refused}
-use Rattle.relink.specs.Relinking.{Relinking, relinking, relinkedAnswer}
-use Rattle.fitness.specs.declared.Fault.{Fault}
-use Rattle.fitness.specs.declared.Fault.the-variants.{OutsideMemory, NumberTooHigh, NotAscending, ZeroInBody, BodyLength, LinkChanges, LinksLeave, LinksEndless}
-use Rattle.fitness.specs.declared.Place.{Place}
-use Rattle.fitness.specs.declared.Told.{Told}
-use Rattle.fitness.specs.declared.Told.the-variants.{Fault as ToldFault, Nothing}
-use Rattle.fitness.specs.declared.Moved.the-variants.{Told as MovedTold, On}
-use Rattle.fitness.specs.Faults.{inBasicMemory, memoryFaults, numberFaults, orderFaults, firstZero, zeroFaults, lengthFaults, relinkFault, relinkFaults}
-use Rattle.fitness.specs.FaultHelpers.{hasMark, toldFault, movedBy, LineIs}
+use Rattle.relink.specs.Relinking.{relinking, relinkedAnswer}
+use Rattle.faults.specs.declared.Fault.the-variants.{OutsideMemory, NumberTooHigh, NotAscending, ZeroInBody, BodyLength, LinkChanges, LinksLeave, LinksEndless}
+use Rattle.faults.specs.Faults.{inBasicMemory, memoryFaults, numberFaults, orderFaults, firstZero, zeroFaults, lengthFaults, relinkFault, relinkFaults}
+use Rattle.faults.specs.ToldHelpers.{hasMark, LineIs}
 
 -- ---- bytes and marks
 
@@ -49,15 +43,6 @@ module _ (s : List ℕ) {p : ℕ} (h : length s ≤ p) where
 
   pub mark-beyond : false ≡ hasMark s p
   mark-beyond = rw (List·getD-eq-default s 0 h)
-
--- ---- what is led on
-
-module _ (told : Told) (q : Place) where
-  pub led-fault : {f : Fault} → told ≡ ToldFault f → MovedTold f q ≡ movedBy told q
-  led-fault is = rw is
-
-  pub led-on : told ≡ Nothing → On q ≡ movedBy told q
-  led-on is = rw is
 
 -- ---- memory
 

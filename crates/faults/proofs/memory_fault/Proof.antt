@@ -1,9 +1,9 @@
--- `fitness::memory_fault` meets its contract.
+-- `faults::memory_fault` meets its contract.
 -- Assumes nothing.
-use Rattle.fitness.proofs.Telling.{memory-none, memory-told}
+use Rattle.faults.proofs.Telling.{memory-none, memory-told}
 use borrow.Author.Needs.{needs}
-use Rattle.fitness.proofs.memory_fault.Statement.{statement}
-use Rattle.fitness.proofs.memory_fault.Tie as tie
+use Rattle.faults.proofs.memory_fault.Statement.{statement}
+use Rattle.faults.proofs.memory_fault.Tie as tie
 
 returns : tie.Need-returns
 returns c = search memory-none

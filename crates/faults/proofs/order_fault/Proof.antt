@@ -1,9 +1,9 @@
--- `fitness::order_fault` meets its contract.
+-- `faults::order_fault` meets its contract.
 -- Assumes nothing.
-use Rattle.fitness.proofs.Telling.{order-told, order-none}
+use Rattle.faults.proofs.Telling.{order-told, order-none}
 use borrow.Author.Needs.{needs}
-use Rattle.fitness.proofs.order_fault.Statement.{statement}
-use Rattle.fitness.proofs.order_fault.Tie as tie
+use Rattle.faults.proofs.order_fault.Statement.{statement}
+use Rattle.faults.proofs.order_fault.Tie as tie
 
 returns : tie.Need-returns
 returns c = search order-told

@@ -1,9 +1,9 @@
--- `fitness::relink_fault` meets its contract.
+-- `faults::relink_fault` meets its contract.
 -- Assumes nothing.
-use Rattle.fitness.proofs.Telling.{relink-same, relink-changed, relink-leaves, relink-endless, relink-refused}
+use Rattle.faults.proofs.Telling.{relink-same, relink-changed, relink-leaves, relink-endless, relink-refused}
 use borrow.Author.Needs.{needs}
-use Rattle.fitness.proofs.relink_fault.Statement.{statement}
-use Rattle.fitness.proofs.relink_fault.Tie as tie
+use Rattle.faults.proofs.relink_fault.Statement.{statement}
+use Rattle.faults.proofs.relink_fault.Tie as tie
 
 returns : tie.Need-returns
 returns c = search relink-same

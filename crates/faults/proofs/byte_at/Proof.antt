@@ -1,9 +1,9 @@
--- `fitness::byte_at` meets its contract.
+-- `faults::byte_at` meets its contract.
 -- Assumes nothing.
-use Rattle.fitness.proofs.Telling.{byte-beyond}
+use Rattle.faults.proofs.Telling.{byte-beyond}
 use borrow.Author.Needs.{needs}
-use Rattle.fitness.proofs.byte_at.Statement.{statement}
-use Rattle.fitness.proofs.byte_at.Tie as tie
+use Rattle.faults.proofs.byte_at.Statement.{statement}
+use Rattle.faults.proofs.byte_at.Tie as tie
 
 returns-2 : tie.Need-returns-2
 returns-2 c = search byte-beyond

@@ -1,9 +1,9 @@
--- `fitness::has_mark` meets its contract.
+-- `faults::has_mark` meets its contract.
 -- Assumes nothing.
-use Rattle.fitness.proofs.Telling.{mark-beyond}
+use Rattle.faults.proofs.Telling.{mark-beyond}
 use borrow.Author.Needs.{needs}
-use Rattle.fitness.proofs.has_mark.Statement.{statement}
-use Rattle.fitness.proofs.has_mark.Tie as tie
+use Rattle.faults.proofs.has_mark.Statement.{statement}
+use Rattle.faults.proofs.has_mark.Tie as tie
 
 returns-2 : tie.Need-returns-2
 returns-2 c = search mark-beyond

@@ -1,9 +1,9 @@
--- `fitness::is_in_basic_memory` meets its contract.
+-- `faults::is_in_basic_memory` meets its contract.
 -- Assumes nothing.
-use Rattle.fitness.proofs.Telling.{memory-below, memory-long, memory-end}
+use Rattle.faults.proofs.Telling.{memory-below, memory-long, memory-end}
 use borrow.Author.Needs.{needs}
-use Rattle.fitness.proofs.is_in_basic_memory.Statement.{statement}
-use Rattle.fitness.proofs.is_in_basic_memory.Tie as tie
+use Rattle.faults.proofs.is_in_basic_memory.Statement.{statement}
+use Rattle.faults.proofs.is_in_basic_memory.Tie as tie
 
 returns : tie.Need-returns
 returns c = search memory-below
