@@ -1,11 +1,6 @@
-pub mod Beginnings
 pub mod Bound
-pub mod Braces
-pub mod PlainSteps
 pub mod Progress
 pub mod Run
-pub mod ShortSteps
-pub mod StringSteps
 pub mod Table
 pub mod Writing
 pub mod Zeros

@@ -15,15 +15,15 @@ use Rattle.lent.specs.Stores.{Room, Put}
 use Rattle.lent.proofs.Storing.{put-long, put-as, room-as, room-first, room-second, put-both, put-none}
 use Rattle.body.specs.Body.{prefixOf, written, crunchedFrom, crunchedBody}
 use Rattle.matching.specs.declared.sets.Sets.{Sets}
-use Rattle.body.specs.Lexicon.{Lexicon, lexicon}
-use Rattle.body.specs.ShortHelpers.{isShort, shortByte, shortMode, isLong, longStep}
-use Rattle.body.specs.Steps.{first, one, crunchStep}
-use Rattle.body.specs.declared.moves.Mode.{Mode}
-use Rattle.body.specs.declared.moves.Mode.the-variants.{Plain}
-use Rattle.body.specs.declared.moves.Move.{Move}
-use Rattle.body.proofs.Beginnings.{proper, Takes, document-proper}
+use Rattle.body_steps.specs.Lexicon.{Lexicon, lexicon}
+use Rattle.body_steps.specs.ShortHelpers.{isShort, shortByte, shortMode, isLong, longStep}
+use Rattle.body_steps.specs.Steps.{first, one, crunchStep}
+use Rattle.body_steps.specs.declared.moves.Mode.{Mode}
+use Rattle.body_steps.specs.declared.moves.Mode.the-variants.{Plain}
+use Rattle.body_steps.specs.declared.moves.Move.{Move}
+use Rattle.body_steps.proofs.Beginnings.{proper, Takes, document-proper}
 use Rattle.body.proofs.Progress.{step-takes}
-use Rattle.body.proofs.ShortSteps.{short-step, long-known, long-step, first-at}
+use Rattle.body_steps.proofs.ShortSteps.{short-step, long-known, long-step, first-at}
 use Rattle.body.proofs.Run.{length-prefix, length-written, body-end, body-step}
 
 -- ---- a step at a place of a body
@@ -65,9 +65,6 @@ module _ (s : List ℕ) (at : ℕ) (m : Mode) {x : Bool} (e : x ≡ isShort m (g
 
     pub long-here : (w : Sets) {o : Move} → o ≡ longStep (lexicon w) (drop at s) → x ≡ false → o ≡ crunchStep (lexicon w) m (drop at s)
     long-here w q f = q ∙ long-step w m (drop at s) (sym asked ∙ f)
-
-pub short-known : {x : Bool} (m : Mode) (b : ℕ) → x ≡ true → x ≡ isShort m b → isShort m b ≡ true
-short-known m b t e = sym e ∙ t
 
 -- ---- writing
 

@@ -2,24 +2,34 @@
 -- Assumes nothing.
 use Prim.Native.Nat.{ℕ, zero, suc, _+_, _-_, _≤_, _<_}
 use mathlib.Core.Path.{_≡_, refl, sym, ap, _∙_}
-use mathlib.Core.Bool.{Bool, true, false, _||_}
+use mathlib.Core.Bool.{Bool, true, false, cond, not, _&&_, _||_}
 use mathlib.Core.List.{List, [], _∷_, _++_}
 use native.Mathlib.Omega.{arith}
 use lib.Dec.{T, eqb}
 use lib.ListN.{length, getD, drop, replicate, drop-of-length-le}
-use borrow.Author.Tests.{eq-eqb, ne-eqb}
+use borrow.Author.Tests.{eq-eqb, ne-eqb, eqb-true, not-true}
 use mir.Syntax.{w64}
 use mir.Val.{Fits}
+use Rattle.ascii.specs.Bytes.{between, upper}
+use Rattle.ascii.proofs.Ranges.{between-in}
+use Rattle.words.specs.Compare.{passes}
+use Rattle.words.specs.Find.{Entry, firstThat, wordIn}
+use Rattle.words.specs.declared.Match.{Match}
+use Rattle.words.specs.declared.Match.the-variants.{Word, Nothing}
+use Rattle.words.specs.declared.Test.the-variants.{Begins}
+use Rattle.words.proofs.Search.{and-left, and-right}
+use Rattle.words.proofs.Sameness.{T-true}
+use Rattle.tables.specs.Rom.{operators}
 use Rattle.matching.specs.declared.sets.Sets.{Sets}
 use Rattle.body.specs.Body.{prefixOf, written, crunchedFrom, crunchedBody}
-use Rattle.body.specs.Lexicon.{Lexicon, lexicon}
-use Rattle.body.specs.ShortHelpers.{isShort, shortByte, shortMode}
-use Rattle.body.specs.Steps.{one, crunchStep}
+use Rattle.body_steps.specs.Lexicon.{Lexicon, lexicon}
+use Rattle.body_steps.specs.ShortHelpers.{isShort, plainByte, shortByte, shortMode}
+use Rattle.body_steps.specs.Steps.{one, lettered, crunchStep}
 use Rattle.body.specs.Zero.{holdsZero}
-use Rattle.body.specs.declared.moves.Mode.{Mode}
-use Rattle.body.specs.declared.moves.Mode.the-variants.{Plain}
-use Rattle.body.specs.declared.moves.Move.{Move}
-use Rattle.body.proofs.Beginnings.{proper, document-proper}
+use Rattle.body_steps.specs.declared.moves.Mode.{Mode}
+use Rattle.body_steps.specs.declared.moves.Mode.the-variants.{Plain, String, Remark, Data, DataQuote}
+use Rattle.body_steps.specs.declared.moves.Move.{Move}
+use Rattle.body_steps.proofs.Beginnings.{proper, document-proper}
 use Rattle.body.proofs.Run.{body-end}
 use Rattle.body.proofs.Writing.{body-at, step-within, step-less, step-fits, short-here}
 
@@ -51,6 +61,65 @@ zero-prefix : (prefixed : Bool) (s : List ℕ) → holdsZero (prefixOf prefixed 
 unfolding holdsZero
 zero-prefix true s = refl
 zero-prefix false s = refl
+
+-- ---- a byte that gives one by itself gives a zero just where it is one
+
+module _ (b : ℕ) where
+  zero-as : (f : ℕ → ℕ) → eqb (f 0) 0 ≡ true → (eqb b 0 ≡ false → eqb (f b) 0 ≡ false) → eqb (f b) 0 ≡ eqb b 0
+  zero-as f z n = go (eqb b 0) refl
+    where
+      go : (x : Bool) → eqb b 0 ≡ x → eqb (f b) 0 ≡ x
+      go true e = ap (λ (i : ℕ). eqb (f i) 0) (eqb-true b 0 e) ∙ z
+      go false e = n e
+
+  upper-some : eqb b 0 ≡ false → eqb (upper b) 0 ≡ false
+  unfolding upper
+  upper-some n = go (between 97 122 b) refl
+    where
+      go : (x : Bool) → between 97 122 b ≡ x → eqb (cond x (b - 32) b) 0 ≡ false
+      go true q = ne-eqb (b - 32) 0 (λ z. omega (arith, z, between-in 97 122 b q))
+      go false q = n
+
+  lettered-some : eqb b 0 ≡ false → eqb (lettered b) 0 ≡ false
+  unfolding lettered
+  lettered-some n = go (between 97 122 b) refl (between 65 90 b)
+    where
+      go : (x : Bool) → between 97 122 b ≡ x → (y : Bool) → eqb (cond x (b - 32) (cond y (b + 0x80) b)) 0 ≡ false
+      go true q y = ne-eqb (b - 32) 0 (λ z. omega (arith, z, between-in 97 122 b q))
+      go false q true = ne-eqb (b + 0x80) 0 (λ z. omega (arith, z))
+      go false q false = n
+
+-- no operator has the token 0
+unfoldable someTokens : List Entry → Bool
+someTokens [] = true
+someTokens (e ∷ es) = not (eqb (e .token) 0) && someTokens es
+
+found-some : (p : ℕ → List ℕ → Bool) (es : List Entry) (k : ℕ) {i u token : ℕ} → T (someTokens es) → firstThat p es k ≡ Word i u token → eqb token 0 ≡ false
+unfolding firstThat someTokens
+found-some p [] k t e = let z : _≡_ {A = ℕ} 0 1 = cc in absurd (omega arith)
+found-some p (x ∷ es) k {i} {u} {token} t e = go (p k (x .word)) e (found-some p es (suc k) (and-right (not (eqb (x .token) 0)) _ t))
+  where
+    go : (r : Bool) → elim r [ true ↦ Word k (length (x .word)) (x .token) | false ↦ firstThat p es (suc k) ] ≡ Word i u token
+        → (firstThat p es (suc k) ≡ Word i u token → eqb token 0 ≡ false) → eqb token 0 ≡ false
+    go true q f = let z : x .token ≡ token = cc in rw (← z) (not-true _ (T-true _ (and-left (not (eqb (x .token) 0)) _ t)))
+    go false q f = f q
+
+operator-some : (b : ℕ) → eqb b 0 ≡ false → eqb (plainByte b) 0 ≡ false
+unfolding plainByte wordIn someTokens operators
+operator-some b n = go (wordIn operators (b ∷ [])) refl (eqb b 0x3F)
+  where
+    go : (w : Match) → wordIn operators (b ∷ []) ≡ w → (q : Bool) → eqb (elim w [ Word i u k ↦ k | Nothing ↦ cond q 0x99 b ]) 0 ≡ false
+    go (Word i u k) e q = found-some (λ n w. passes Begins w (b ∷ [])) operators 0 tt e
+    go Nothing e true = refl
+    go Nothing e false = n
+
+zero-alone : (m : Mode) (b : ℕ) → eqb (shortByte m b) 0 ≡ eqb b 0
+unfolding shortByte lettered upper plainByte
+zero-alone Plain b = zero-as b plainByte refl (operator-some b)
+zero-alone String b = zero-as b lettered refl (lettered-some b)
+zero-alone Remark b = refl
+zero-alone Data b = zero-as b upper refl (upper-some b)
+zero-alone DataQuote b = zero-as b upper refl (upper-some b)
 
 -- ---- what a step writes
 
@@ -110,13 +179,13 @@ module _ {l : Lexicon} {s : List ℕ} {m : Mode} {at : ℕ} (k : NoneTo l s m at
 
 -- a short byte
 module _ (w : Sets) {s : List ℕ} {m : Mode} {at : ℕ} (k : NoneTo (lexicon w) s m at) (h : at < length s) {x : Bool} (t : x ≡ true)
-    (e : x ≡ isShort m (getD s at 0)) {b : ℕ} (is : b ≡ shortByte m (getD s at 0)) where
-  writes : eqb b 0 ≡ holdsZero (written (one (shortByte m (getD s at 0)) (shortMode m (getD s at 0))))
+    (e : x ≡ isShort m (getD s at 0)) where
+  writes : eqb (getD s at 0) 0 ≡ holdsZero (written (one (shortByte m (getD s at 0)) (shortMode m (getD s at 0))))
   unfolding written holdsZero
-  writes = ap (λ (i : ℕ). eqb i 0) is ∙ sym (or-false (eqb (shortByte m (getD s at 0)) 0))
+  writes = sym (zero-alone m (getD s at 0)) ∙ sym (or-false (eqb (shortByte m (getD s at 0)) 0))
 
-  pub short-found : b ≡ 0 → true ≡ holdsZero (crunchedBody (lexicon w) s)
-  short-found z = none-found k (short-here s at m e h w t) h (document-proper w) writes (eq-eqb b 0 z)
+  pub short-found : getD s at 0 ≡ 0 → true ≡ holdsZero (crunchedBody (lexicon w) s)
+  short-found z = none-found k (short-here s at m e h w t) h (document-proper w) writes (eq-eqb (getD s at 0) 0 z)
 
-  pub short-none : {behind : Mode} → behind ≡ shortMode m (getD s at 0) → (b ≡ 0 → ⊥) → NoneTo (lexicon w) s behind (at + 1)
-  short-none q f = rw q (none-turn k (short-here s at m e h w t) h (document-proper w) writes (ne-eqb b 0 f))
+  pub short-none : {behind : Mode} → behind ≡ shortMode m (getD s at 0) → (getD s at 0 ≡ 0 → ⊥) → NoneTo (lexicon w) s behind (at + 1)
+  short-none q f = rw q (none-turn k (short-here s at m e h w t) h (document-proper w) writes (ne-eqb (getD s at 0) 0 f))

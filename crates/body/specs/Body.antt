@@ -6,11 +6,11 @@ use mathlib.Core.Bool.{Bool, true, false}
 use mathlib.Core.List.{List, [], _∷_, _++_}
 use lib.ListN.{length, drop, replicate}
 use Rattle.steps.specs.Again.{again}
-use Rattle.body.specs.Lexicon.{Lexicon}
-use Rattle.body.specs.Steps.{crunchStep}
-use Rattle.body.specs.declared.moves.Mode.{Mode}
-use Rattle.body.specs.declared.moves.Mode.the-variants.{Plain}
-use Rattle.body.specs.declared.moves.Move.{Move}
+use Rattle.body_steps.specs.Lexicon.{Lexicon}
+use Rattle.body_steps.specs.Steps.{crunchStep}
+use Rattle.body_steps.specs.declared.moves.Mode.{Mode}
+use Rattle.body_steps.specs.declared.moves.Mode.the-variants.{Plain}
+use Rattle.body_steps.specs.declared.moves.Move.{Move}
 
 -- the 64 in front of a TSB token
 abbrev pub prefixOf : Bool → List ℕ

@@ -1,6 +1,3 @@
 pub mod Body
-pub mod BraceHelpers
-pub mod Lexicon
-pub mod ShortHelpers
-pub mod Steps
+pub mod BoundHelpers
 pub mod Zero

@@ -1,8 +1,11 @@
 // One body, crunched: its length, and its bytes written into a lent buffer from that buffer's first byte on.
-use crate::moves::Mode;
-use crate::moves::Move;
 use ascii::search;
 use ascii::search::Kind;
+use body_steps::moves::Mode;
+use body_steps::moves::Move;
+use body_steps::short;
+use body_steps::step;
+use body_steps::string;
 use matching::sets::Sets;
 ghost use mathlib.Core.Path.{_≡_};
 ghost use Prim.Native.Nat.{_+_, _≤_, _<_, min};
@@ -10,15 +13,9 @@ ghost use lib.ListN.{length, replicate};
 ghost use Rattle.lent.specs.Stores.{Room, Put};
 ghost use Rattle.tables.specs.WordsHelpers.{SpellsWords};
 ghost use Rattle.body.specs.Body.{prefixOf, written, crunchedBody};
-ghost use Rattle.body.specs.Lexicon.{lexicon};
-ghost use Rattle.body.specs.BraceHelpers.{mayRepeat};
+ghost use Rattle.body_steps.specs.Lexicon.{lexicon};
+ghost use Rattle.body.specs.BoundHelpers.{mayRepeat};
 
-pub mod at;
-pub mod moves;
-mod plain;
-mod short;
-mod step;
-mod string;
 pub mod zero;
 
 // The length of a body, or 65,536 where it is that or more.

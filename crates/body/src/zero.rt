@@ -1,17 +1,17 @@
 // Whether a crunched body holds a zero, at which the machine would end its line.
-use crate::moves::Mode;
-use crate::moves::Move;
-use crate::short;
-use crate::step;
-use crate::string;
+use body_steps::moves::Mode;
+use body_steps::moves::Move;
+use body_steps::short;
+use body_steps::step;
+use body_steps::string;
 use matching::sets::Sets;
 ghost use mathlib.Core.Path.{_≡_};
 ghost use Rattle.tables.specs.WordsHelpers.{SpellsWords};
 ghost use Rattle.body.specs.Body.{written, crunchedBody};
-ghost use Rattle.body.specs.Lexicon.{lexicon};
+ghost use Rattle.body_steps.specs.Lexicon.{lexicon};
 ghost use Rattle.body.specs.Zero.{holdsZero};
 
-// Looks to the body's end, however long it is; a byte that an escape repeats is looked at once.
+// Looks to the body's end, however long it is; a byte that an escape repeats is looked at once. A short byte gives a zero just where it is one.
 pub fn holds_zero(text: &[u8], bytes: &[u8], index: &[u16], sets: Sets) -> bool
     requires { ⌜ SpellsWords (now bytes) (now index) ⌝ }
     ensures { λ r. ⌜ r ≡ holdsZero (crunchedBody (lexicon sets) (now (text .entry))) ⌝ }
@@ -22,7 +22,7 @@ pub fn holds_zero(text: &[u8], bytes: &[u8], index: &[u16], sets: Sets) -> bool
     while at < text.len() {
         let b = text[at];
         if short::is_short(mode, b) {
-            if short::short_byte(mode, b) == 0 {
+            if b == 0 {
                 return true;
             }
             mode = short::mode_behind(mode, b);

@@ -7,9 +7,9 @@ use mathlib.Core.List.{List}
 use lib.Dec.{eqb, ltb}
 use borrow.Author.Tests.{eq-eqb, ne-eqb, lt-ltb, le-ltb}
 use Rattle.ascii.specs.Search.{equals, before}
-use Rattle.body.specs.declared.moves.Mode.{Mode}
-use Rattle.body.specs.declared.moves.Mode.the-variants.{String}
-use Rattle.body.specs.declared.moves.Move.{Move}
+use Rattle.body_steps.specs.declared.moves.Mode.{Mode}
+use Rattle.body_steps.specs.declared.moves.Mode.the-variants.{String}
+use Rattle.body_steps.specs.declared.moves.Move.{Move}
 use Rattle.findings.specs.Braces.{insideOf}
 use Rattle.findings.specs.Sights.{isCode, isControl, isKept, findingOf}
 use Rattle.findings.specs.declared.braces.Inside.the-variants.{Closed, Unclosed}

@@ -14,11 +14,11 @@ use Rattle.steps.proofs.Nearer.{Nearer, again-on}
 use Rattle.ascii.proofs.Searching.{tail}
 use Rattle.ascii.proofs.Choice.{taken, left}
 use Rattle.matching.specs.declared.sets.Sets.{Sets}
-use Rattle.body.specs.Lexicon.{Lexicon, lexicon}
-use Rattle.body.specs.Steps.{crunchStep}
-use Rattle.body.specs.declared.moves.Mode.{Mode}
-use Rattle.body.specs.declared.moves.Move.{Move}
-use Rattle.body.proofs.Beginnings.{proper, Takes, document-proper}
+use Rattle.body_steps.specs.Lexicon.{Lexicon, lexicon}
+use Rattle.body_steps.specs.Steps.{crunchStep}
+use Rattle.body_steps.specs.declared.moves.Mode.{Mode}
+use Rattle.body_steps.specs.declared.moves.Move.{Move}
+use Rattle.body_steps.proofs.Beginnings.{proper, Takes, document-proper}
 use Rattle.body.proofs.Progress.{step-takes}
 use Rattle.findings.specs.Sights.{findingOf, isUsual, stepFrom, spotBehind, toldOr, sightOn, firstSight}
 use Rattle.findings.specs.declared.sights.Finding.{Finding}

@@ -1,12 +1,12 @@
 // The steps of a body that an editor is told of, one after the other.
-use body::at;
-use body::moves::Mode;
-use body::moves::Move;
+use body_steps::at;
+use body_steps::moves::Mode;
+use body_steps::moves::Move;
 use matching::sets::Sets;
 use tables::spellings;
 ghost use mathlib.Core.Path.{_≡_};
 ghost use Rattle.tables.specs.WordsHelpers.{SpellsWords};
-ghost use Rattle.body.specs.Lexicon.{lexicon};
+ghost use Rattle.body_steps.specs.Lexicon.{lexicon};
 ghost use Rattle.findings.specs.Sights.{isCode, isControl, isKept, findingOf, isUsual, firstSight};
 
 // What a step is to an editor.

@@ -2,7 +2,7 @@
 use crate::Run;
 use crate::sentence;
 use crate::strange;
-use body::moves::Mode;
+use body_steps::moves::Mode;
 use desk::result;
 use dialect::Dialect;
 use domain::TextCheck;

@@ -5,12 +5,12 @@ use denote.Ref.{now}
 use lib.ListN.{length}
 use mir.Syntax.{w64}
 use mir.Val.{Fits}
-use Rattle.body.specs.Lexicon.{lexicon}
-use Rattle.body.proofs.Beginnings.{document-proper}
-use Rattle.body.proofs.Writing.{short-known, long-byte, long-here}
+use Rattle.body_steps.specs.Lexicon.{lexicon}
+use Rattle.body_steps.proofs.Beginnings.{document-proper}
+use Rattle.body.proofs.Writing.{long-byte, long-here}
 use Rattle.body.proofs.Zeros.{NoneTo, none-start, none-found, none-turn, none-end, none-less, none-fits, short-found, short-none}
-use Rattle.body.specs.BraceHelpers.{Spans}
-use Rattle.body.proofs.Braces.{spans-on, reaches-on}
+use Rattle.body_steps.specs.BraceHelpers.{Spans}
+use Rattle.body_steps.proofs.Braces.{spans-on, reaches-on}
 use Rattle.steps.proofs.The.{the}
 use native.Mathlib.Omega.{arith}
 use borrow.Author.Needs.{needs}
@@ -28,9 +28,6 @@ text-fits c = record { fits = omega arith }
 
 loop-holds : tie.Need-loop-holds Inv-loop μ-loop
 loop-holds c = search none-start
-
-short-byte-requires : tie.Need-short-byte-requires Inv-loop μ-loop
-short-byte-requires c κs = search short-known
 
 returns : tie.Need-returns Inv-loop μ-loop
 returns c = search short-found
@@ -66,7 +63,6 @@ holds-zero-spec =
     loop-holds
     (λ c. search needs)
     (λ c κs. search needs)
-    short-byte-requires
     returns
     (λ c κs. search needs)
     (λ c. search needs)

@@ -1,0 +1,5 @@
+pub mod Beginnings
+pub mod Braces
+pub mod PlainSteps
+pub mod ShortSteps
+pub mod StringSteps

@@ -1,0 +1,4 @@
+pub mod BraceHelpers
+pub mod Lexicon
+pub mod ShortHelpers
+pub mod Steps

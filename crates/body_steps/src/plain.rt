@@ -1,0 +1,94 @@
+// A step in plain mode at a letter or at the first byte of pi. The functions are lent the text from the step's place on.
+use crate::moves;
+use crate::moves::Mode;
+use crate::moves::Move;
+use matching::sets::Sets;
+use words::Match;
+ghost use mathlib.Core.Path.{_≡_};
+ghost use mathlib.Core.Bool.{true, false};
+ghost use Prim.Native.Nat.{_<_};
+ghost use lib.ListN.{length};
+ghost use Rattle.ascii.specs.Bytes.{isLetter};
+ghost use Rattle.tables.specs.Tsb.{tsbWords};
+ghost use Rattle.tables.specs.WordsHelpers.{SpellsWords};
+ghost use Rattle.matching.specs.Sets.{liveWord};
+ghost use Rattle.body_steps.specs.Lexicon.{lexicon};
+ghost use Rattle.body_steps.specs.Steps.{first, opened as openedBy, otherStep, formStep, plainStep};
+
+// A letter: a TSB word, a V2 word or one of BASIC 3.5, a short form of a V2 word, or the letter.
+pub fn letter_step(rest: &[u8], bytes: &[u8], index: &[u16], sets: Sets) -> Move
+    requires { ⌜ (0 < length (now rest)) × (isLetter (first (now rest)) ≡ true) × SpellsWords (now bytes) (now index) ⌝ }
+    ensures { λ r. ⌜ r ≡ plainStep (lexicon sets) (now (rest .entry)) ⌝ }
+{
+    match live_word(rest, bytes, index, sets) {
+        Match::Word {
+            index: _,
+            used,
+            token,
+        } => moves::token(true, token, Mode::Plain, used),
+        Match::Nothing => match matching::match_plain(rest, bytes, index, sets) {
+            Match::Word {
+                index: _,
+                used,
+                token,
+            } => moves::token(false, token, opened(token), used),
+            Match::Nothing => form_step(rest, bytes, index, sets),
+        },
+    }
+}
+
+// The live TSB word there. The sets are copied where a word is looked up in them: not where no TSB word is live.
+fn live_word(rest: &[u8], bytes: &[u8], index: &[u16], sets: Sets) -> Match
+    requires { ⌜ SpellsWords (now bytes) (now index) ⌝ }
+    ensures { λ r. ⌜ r ≡ liveWord sets tsbWords (now (rest .entry)) ⌝ }
+{
+    if !sets.tsb {
+        return Match::Nothing;
+    }
+    matching::match_live(rest, bytes, index, sets)
+}
+
+// Where no whole word stands: a short form, or the letter.
+fn form_step(rest: &[u8], bytes: &[u8], index: &[u16], sets: Sets) -> Move
+    requires { ⌜ (0 < length (now rest)) × (isLetter (first (now rest)) ≡ true) × SpellsWords (now bytes) (now index) ⌝ }
+    ensures { λ r. ⌜ r ≡ formStep (lexicon sets) (now (rest .entry)) ⌝ }
+{
+    if !sets.forms {
+        return moves::one(ascii::upper(rest[0]), Mode::Plain);
+    }
+    match forms::match_form(rest, bytes, index, sets) {
+        Match::Word {
+            index: _,
+            used,
+            token,
+        } => moves::token(false, token, opened(token), used),
+        Match::Nothing => moves::one(ascii::upper(rest[0]), Mode::Plain),
+    }
+}
+
+// The mode behind a word.
+fn opened(token: u8) -> Mode
+    ensures { λ r. ⌜ r ≡ openedBy token ⌝ }
+{
+    if token == 0x8F {
+        return Mode::Remark;
+    }
+    if token == 0x83 {
+        return Mode::Data;
+    }
+    Mode::Plain
+}
+
+// CF with 80 behind it is pi.
+pub fn from_pi(rest: &[u8]) -> Move
+    requires { ⌜ (0 < length (now rest)) × (first (now rest) ≡ 0xCF) ⌝ }
+    ensures { λ r. ⌜ r ≡ otherStep (now (rest .entry)) ⌝ }
+{
+    if rest.len() <= 1 {
+        return moves::one(0xCF, Mode::Plain);
+    }
+    if rest[1] != 0x80 {
+        return moves::one(0xCF, Mode::Plain);
+    }
+    moves::token(false, 0xFF, Mode::Plain, 2)
+}
