@@ -33,7 +33,7 @@ use Rattle.units.specs.declared.Unit.{Unit}
 use Rattle.units.specs.declared.Unit.the-variants.{Char, Token, Token35, Pair, Lone, Remarked}
 use Rattle.units.specs.Units.{unitAt, unitsFrom}
 use Rattle.units.proofs.Walking.{unit-takes, units-none, units-more, by-units, units-end, units-at, unit-some, unit-within}
-use Rattle.counting.specs.Tokens.{countRules, ifWord, countedAs, tokensOf, tokensFrom, tokensIn}
+use Rattle.counted_tokens.specs.Tokens.{countRules, ifWord, countedAs, tokensOf, tokensFrom, tokensIn}
 use Rattle.counting.specs.Totals.{tally, added}
 use Rattle.counting.specs.TallyHelpers.{Raisable, Tallied}
 use Rattle.counting.proofs.Tallying.{tally-none, tally-on}

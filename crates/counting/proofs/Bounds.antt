@@ -14,11 +14,12 @@ use mir.Val.{Fits}
 use borrow.Author.Tests.{eq-eqb, ne-eqb, le-leb, lt-leb, le-ltb, lt-ltb, eqb-true, leb-true, not-true, not-false}
 use Rattle.refusals.specs.Numbers.{tooManyImages}
 use Rattle.refusals.specs.Answer.{done, refused}
-use Rattle.counting.specs.Tokens.{tokensIn}
+use Rattle.counted_tokens.specs.Tokens.{tokensIn}
 use Rattle.counting.specs.Totals.{added, sumBelow, tokensSum, imagesTaken, imagesRefused, isTotals, tokensCounted, thousandths, shareOf}
 use Rattle.counting.specs.Carried.{Kept, counted, noTotals, withMarks, withImage, joined}
 use Rattle.counting.specs.TallyHelpers.{Raisable, Small}
-use Rattle.counting.proofs.Raising.{below-or-not, sum-up, sum-next, small-raisable}
+use Rattle.counted_tokens.proofs.UnitTokens.{below-or-not}
+use Rattle.counting.proofs.Raising.{sum-up, sum-next, small-raisable}
 
 pub record AreTotals (t : List ℕ) : Type 0 where
   pub long : length t ≡ 206

@@ -6,7 +6,7 @@ use mathlib.Core.Path.{_≡_, refl, sym, ap, _∙_}
 use mathlib.Core.List.{List, [], _∷_, _++_, flatMap, append-assoc, List·Permᴰ, List·Permᴰ·nil, List·Permᴰ·cons, List·Permᴰ·swap, List·Permᴰ·trans}
 use native.Mathlib.Omega.{arith}
 use Rattle.refusals.specs.Answer.{refused}
-use Rattle.counting.specs.Tokens.{tokensIn}
+use Rattle.counted_tokens.specs.Tokens.{tokensIn}
 use Rattle.counting.specs.Totals.{occurrences, tally, imageMarks, totalsOf, added}
 use Rattle.counting.proofs.Tallying.{occurrences-append, tally-append, tally-alike}
 

@@ -3,7 +3,6 @@ pub mod Bounds
 pub mod Laws
 pub mod Raising
 pub mod Shares
-pub mod Table
 pub mod Taking
 pub mod Tallying
 pub mod Thousand

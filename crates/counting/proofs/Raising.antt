@@ -1,4 +1,4 @@
--- Numbers raised: one mark, a unit's token, two rows added, and the sum of the tokens' counts.
+-- Numbers raised: one mark, two rows added, and the sum of the tokens' counts.
 -- Assumes nothing.
 use Prim.Native.Nat.{ℕ, zero, suc, _+_, _-_, _≤_, _<_, min}
 use mathlib.Core.Path.{_≡_, refl, sym, ap, _∙_}
@@ -14,21 +14,11 @@ use lib.Seq.{ext-getD, getD-set-same, getD-set-other}
 use mir.Syntax.{w64}
 use mir.Val.{Fits}
 use borrow.Author.Tests.{lt-ltb, le-ltb, ltb-true, ltb-false}
-use Rattle.tables.specs.Tsb.{tsbId, tsbText}
-use Rattle.pieces.proofs.Spelling.{no-word}
-use Rattle.units.specs.declared.Unit.{Unit}
-use Rattle.units.specs.declared.Unit.the-variants.{Char, Token, Token35, Pair, Lone, Remarked}
-use Rattle.counting.specs.Tokens.{ifWord, countedAs}
+use Rattle.counted_tokens.specs.TokenHelpers.{only}
+use Rattle.counted_tokens.proofs.UnitTokens.{below-or-not}
 use Rattle.counting.specs.Totals.{tally, added, sumBelow, tokensSum}
-use Rattle.counting.specs.TallyHelpers.{only, Raisable, Small}
+use Rattle.counting.specs.TallyHelpers.{Raisable, Small}
 use Rattle.counting.proofs.Tallying.{occurrences-most, tally-none, tally-long, tally-on-at, tally-mark, length-added, getD-added}
-
-pub below-or-not : (a b : ℕ) → (a < b) ⊎ (b ≤ a)
-below-or-not a b = go (ltb a b) refl
-  where
-    go : (t : Bool) → ltb a b ≡ t → (a < b) ⊎ (b ≤ a)
-    go true e = inl (ltb-true a b e)
-    go false e = inr (ltb-false a b e)
 
 -- ---- how far
 
@@ -56,53 +46,6 @@ module _ {t : List ℕ} (k : ℕ) (r : Raisable 1 t) where
 
   pub raise-tally : k < 206 → set t k (getD t k 0 + 1) ≡ added t (tally (k ∷ []))
   raise-tally h = tally-mark t (r .long) k h
-
--- ---- the token of a unit
-
-module _ {u : Unit} where
-  pub char-none : {b : ℕ} → u ≡ Char b → only 0xFF ≡ countedAs u
-  unfolding only countedAs
-  char-none is = rw is
-
-  pub token-itself : {b : ℕ} → u ≡ Token b → only b ≡ countedAs u
-  unfolding only countedAs
-  token-itself is = rw is
-
-  pub token35-none : {b : ℕ} → u ≡ Token35 b → only 0xFF ≡ countedAs u
-  unfolding only countedAs
-  token35-none is = rw is
-
-  pub lone-none : u ≡ Lone → only 0xFF ≡ countedAs u
-  unfolding only countedAs
-  lone-none is = rw is
-
-  pub remarked-none : {b : ℕ} → u ≡ Remarked b → only 0xFF ≡ countedAs u
-  unfolding only countedAs
-  remarked-none is = rw is
-
-  module _ {b : ℕ} {w : List ℕ} (is : u ≡ Pair b) (e : w ≡ tsbText b) where
-    pub pair-none : length w ≤ 0 → only 0xFF ≡ countedAs u
-    unfolding only countedAs
-    pair-none h = rw (is, ← e) (go w h)
-      where
-        go : (v : List ℕ) → length v ≤ 0 → [] ≡ ifWord v (tsbId b)
-        go [] l = refl
-        go (x ∷ v) l = absurd (omega arith)
-
-    pub pair-token : {r : ℕ} → 0 < length w → r ≡ tsbId b → only r ≡ countedAs u
-    unfolding only countedAs
-    pair-token {r} h i = rw (is, ← e, ← i) (go w h refl)
-      where
-        low : 0 < length w → r < 0xCC
-        low l = go-low (below-or-not r 0x80)
-          where
-            go-low : (r < 0x80) ⊎ (0x80 ≤ r) → r < 0xCC
-            go-low (inl s) = omega arith
-            go-low (inr s) = absurd (omega (arith, ap length (no-word b s i), ap length e))
-
-        go : (v : List ℕ) → 0 < length v → w ≡ v → cond (ltb r 0xCC) (r ∷ []) [] ≡ ifWord v r
-        go [] l q = absurd (omega arith)
-        go (x ∷ v) l q = rw (lt-ltb r 0xCC (low h))
 
 -- ---- a unit counted
 

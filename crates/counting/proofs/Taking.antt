@@ -17,7 +17,7 @@ use Rattle.readers.specs.Lines.{Overview, overviewOf, overview}
 use Rattle.readers.specs.Readers.{stepBy}
 use Rattle.readers.proofs.Finding.{told-checked}
 use Rattle.readers.proofs.Reading.{overview-bodies}
-use Rattle.counting.specs.Tokens.{tokensOf, tokensFrom, tokensIn}
+use Rattle.counted_tokens.specs.Tokens.{tokensOf, tokensFrom, tokensIn}
 use Rattle.counting.specs.Totals.{tally, added}
 use Rattle.counting.specs.Carried.{Kept, counted, countedApart, withMarks}
 use Rattle.counting.specs.TallyHelpers.{Raisable, Tallied}

@@ -9,7 +9,7 @@ use Rattle.refusals.specs.Numbers.{Numbered, tooManyImages}
 use Rattle.refusals.specs.Answer.{Answer, done, refused, numbered}
 use Rattle.counting.specs.declared.Carried.{Carried}
 use Rattle.counting.specs.declared.Carried.the-variants.{Taken, Apart, Refused, NoTotals}
-use Rattle.counting.specs.Tokens.{tokensFrom, tokensIn}
+use Rattle.counted_tokens.specs.Tokens.{tokensFrom, tokensIn}
 use Rattle.counting.specs.Totals.{tally, imageMarks, added, imagesTaken, isTotals}
 
 -- what became of an image, or of totals to be joined; "is counted apart" with its refusal, which is none of the call

@@ -2,16 +2,10 @@
 -- Assumes nothing.
 use Prim.Native.Nat.{ℕ, _+_, _≤_}
 use mathlib.Core.Path.{_≡_}
-use mathlib.Core.Bool.{cond}
-use mathlib.Core.List.{List, [], _∷_}
-use lib.Dec.{ltb}
+use mathlib.Core.List.{List}
 use lib.ListN.{length, getD}
 use Rattle.refusals.specs.Answer.{Answer, done}
 use Rattle.counting.specs.Totals.{tally, added}
-
--- a token below CC; what is not below is none
-unfoldable pub only : ℕ → List ℕ
-only k = cond (ltb k 0xCC) (k ∷ []) []
 
 -- 206 numbers, each of which can be raised n times
 pub record Raisable (n : ℕ) (t : List ℕ) : Type 0 where

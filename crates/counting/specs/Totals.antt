@@ -8,7 +8,7 @@ use mathlib.Core.List.{List, [], _∷_, flatMap}
 use lib.Dec.{eqb, leb}
 use lib.ListN.{length, getD}
 use Rattle.refusals.specs.Answer.{Answer, done, refused}
-use Rattle.counting.specs.Tokens.{tokensFrom, tokensIn}
+use Rattle.counted_tokens.specs.Tokens.{tokensFrom, tokensIn}
 
 -- how often a mark was made
 unfoldable pub occurrences : ℕ → List ℕ → ℕ

@@ -8,16 +8,15 @@ ghost use Prim.Native.Nat.{_+_, _≤_, _<_, min};
 ghost use mathlib.Core.List.{[], _∷_};
 ghost use lib.ListN.{length, getD};
 ghost use Rattle.texts.specs.TextsHelpers.{SpellsTexts};
-ghost use Rattle.counting.specs.Tokens.{countRules, countedAs, tokensOf, tokensIn, countedTokens};
+ghost use Rattle.counted_tokens.specs.Tokens.{countedAs, tokensOf, tokensIn, countedTokens};
 ghost use Rattle.counting.specs.Totals.{tally, added, isTotals, tokensSum, tokensCounted, shareOf};
 ghost use Rattle.counting.specs.Carried.{carried, withMarks, withImage, joined};
-ghost use Rattle.counting.specs.TallyHelpers.{only, Raisable, Small, Tallied};
+ghost use Rattle.counting.specs.TallyHelpers.{Raisable, Small, Tallied};
 use readers::By;
 use readers::Checked;
 use readers::Step;
 use refusals::Refusal;
 use units::Mode;
-use units::Rules;
 use units::Unit;
 
 // How many numbers totals have.
@@ -169,7 +168,7 @@ fn take_image(totals: &mut [u64], image: &[u8]) -> Carried
     raise(totals, TAKEN);
     match readers::check_by(image, By::Terminators) {
         Checked::Image { load: _, lines: _ } => {
-            count_image(totals, &texts::TEXT_BYTES, &texts::TEXT_STARTS, image);
+            count_image(totals, image);
             Carried::Taken
         }
         Checked::Refused(refusal) => {
@@ -180,7 +179,15 @@ fn take_image(totals: &mut [u64], image: &[u8]) -> Carried
 }
 
 // Counts the tokens of an image that reading accepts.
-fn count_image(totals: &mut [u64], bytes: &[u8], starts: &[u16], image: &[u8])
+fn count_image(totals: &mut [u64], image: &[u8])
+    requires { ⌜ Raisable 1048576 (now totals) ⌝ }
+    ensures { λ r. ⌜ Tallied (tokensIn (now (image .entry))) (now (totals .entry)) (now (totals .exit)) ⌝ }
+{
+    count_lines(totals, &texts::TEXT_BYTES, &texts::TEXT_STARTS, image);
+}
+
+// The same with the texts lent, line by line.
+fn count_lines(totals: &mut [u64], bytes: &[u8], starts: &[u16], image: &[u8])
     requires { ⌜ SpellsTexts (now bytes) (now starts) × Raisable 1048576 (now totals) ⌝ }
     ensures { λ r. ⌜ Tallied (tokensIn (now (image .entry))) (now (totals .entry)) (now (totals .exit)) ⌝ }
 {
@@ -209,7 +216,7 @@ fn count_body(totals: &mut [u64], bytes: &[u8], starts: &[u16], body: &[u8])
     requires { ⌜ SpellsTexts (now bytes) (now starts) × Raisable (length (now body)) (now totals) ⌝ }
     ensures { λ r. ⌜ now (totals .exit) ≡ added (now (totals .entry)) (tally (tokensOf (now (body .entry)))) ⌝ }
 {
-    let rules = count_rules();
+    let rules = counted_tokens::count_rules();
     let mut i: usize = 0;
     let mut mode = Mode::Plain;
     while i < body.len() {
@@ -221,46 +228,14 @@ fn count_body(totals: &mut [u64], bytes: &[u8], starts: &[u16], body: &[u8])
     }
 }
 
-// What counting heeds.
-fn count_rules() -> Rules
-    ensures { λ r. ⌜ r ≡ countRules ⌝ }
-{
-    Rules {
-        prefix: true,
-        remarks: true,
-        items: false,
-        basic35: false,
-    }
-}
-
 // Counts a unit as its token, if it has one.
 fn count_unit(totals: &mut [u64], bytes: &[u8], starts: &[u16], unit: Unit)
     requires { ⌜ SpellsTexts (now bytes) (now starts) × Raisable 1 (now totals) ⌝ }
     ensures { λ r. ⌜ now (totals .exit) ≡ added (now (totals .entry)) (tally (countedAs unit)) ⌝ }
 {
-    let k = token_of(bytes, starts, unit) as usize;
+    let k = counted_tokens::token_of(bytes, starts, unit) as usize;
     if k < TAKEN {
         raise(totals, k);
-    }
-}
-
-// The token that a unit counts as; FF, which is no token, where it counts as none.
-fn token_of(bytes: &[u8], starts: &[u16], unit: Unit) -> u8
-    requires { ⌜ SpellsTexts (now bytes) (now starts) ⌝ }
-    ensures { λ r. ⌜ only r ≡ countedAs unit ⌝ }
-{
-    match unit {
-        Unit::Char(_) => 0xFF,
-        Unit::Token(b) => b,
-        Unit::Token35(_) => 0xFF,
-        Unit::Pair(b) => {
-            if pieces::tsb_word(bytes, starts, b).len() > 0 {
-                return pieces::tsb_id(b);
-            }
-            0xFF
-        }
-        Unit::Lone => 0xFF,
-        Unit::Remarked(_) => 0xFF,
     }
 }
 

@@ -1,13 +1,26 @@
--- The loop that stores a text: its invariant, a turn, and its end.
+-- A text stored: one byte, or the loop over more, with its invariant, a turn, and its end.
 -- Assumes nothing.
 use Prim.Native.Nat.{ℕ, suc, _+_, _≤_, _<_}
 use mathlib.Core.Path.{_≡_, refl, ap, _∙_}
-use mathlib.Core.List.{List}
+use mathlib.Core.List.{List, [], _∷_}
 use native.Mathlib.Numerals.{add-one}
 use native.Mathlib.Omega.{arith}
 use lib.ListN.{length, getD, drop, set, length-set, drop-of-length-le}
 use lib.Seq.{sets, drop-cons}
 use Rattle.lent.specs.Stores.{Room, Put}
+
+-- a text of one byte
+module _ {text : List ℕ} {at : ℕ} {buffer : List ℕ} where
+  pub one-room : Room buffer at text → length text ≡ 1 → at < length buffer
+  one-room r e = omega (arith, r .room)
+
+  pub one-put : length text ≡ 1 → Put buffer at text (at + 1) (set buffer at (getD text 0 0))
+  one-put e = record { ends = omega arith; stored = go text e }
+    where
+      go : (t : List ℕ) → length t ≡ 1 → set buffer at (getD t 0 0) ≡ sets buffer at t
+      go [] h = absurd (omega arith)
+      go (b ∷ []) h = refl
+      go (b ∷ (c ∷ t)) h = absurd (omega arith)
 
 -- i bytes of the text are stored from the place on: what is left makes the whole
 pub record Copied (text : List ℕ) (at : ℕ) (buffer out : List ℕ) (i : ℕ) : Type 0 where

@@ -73,8 +73,20 @@ pub fn put_unit(out: &mut [u8], at: usize, bytes: &[u8], starts: &[u16], unit: U
     }
 }
 
-// Stores a text from a place on, and answers the place behind it.
+// Stores a text from a place on, and answers the place behind it. One byte is stored at once.
 pub fn put(out: &mut [u8], at: usize, text: &[u8]) -> usize
+    requires { ⌜ Room (now out) at (now text) ⌝ }
+    ensures { λ r. ⌜ Put (now (out .entry)) at (now (text .entry)) r (now (out .exit)) ⌝ }
+{
+    if text.len() == 1 {
+        out[at] = text[0];
+        return at + 1;
+    }
+    copy(out, at, text)
+}
+
+// The same, byte by byte.
+fn copy(out: &mut [u8], at: usize, text: &[u8]) -> usize
     requires { ⌜ Room (now out) at (now text) ⌝ }
     ensures { λ r. ⌜ Put (now (out .entry)) at (now (text .entry)) r (now (out .exit)) ⌝ }
 {

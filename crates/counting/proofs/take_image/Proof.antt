@@ -1,7 +1,5 @@
--- `counting::take_image` meets its contract: the constants that it lends are the tables.
+-- `counting::take_image` meets its contract.
 -- Assumes nothing.
-use mathlib.Core.Path.{refl}
-use Rattle.texts.proofs.TextTable.{textBytes, textStarts, texts-spelt}
 use Rattle.counting.proofs.Taking.{once, room-left, once-more, image-counted, image-apart}
 use borrow.Author.Needs.{needs}
 use Rattle.counting.proofs.take_image.Statement.{statement}
@@ -11,8 +9,7 @@ raise-requires : tie.Need-raise-requires
 raise-requires c κs = (search needs, search once)
 
 count-image-requires : tie.Need-count-image-requires
-unfolding textBytes textStarts
-count-image-requires c κs = (texts-spelt refl refl, search room-left)
+count-image-requires c κs = search room-left
 
 raise-requires-2 : tie.Need-raise-requires-2
 raise-requires-2 c κs = (search needs, search once-more)
@@ -29,8 +26,6 @@ take-image-spec =
     (tie.spec
     raise-requires
     (λ c κs. search needs)
-    (λ c. search needs)
-    (λ c. search needs)
     (λ c. search needs)
     count-image-requires
     (λ c. search needs)

@@ -4,7 +4,7 @@ use mathlib.Core.Path.{_≡_, refl, sym}
 use lib.ListN.{length, getD, List·getD-eq-default}
 use native.Mathlib.Omega.{arith}
 use Prim.Native.Nat.{ℕ, _≤_}
-use Rattle.counting.specs.Tokens.{countedTokens}
+use Rattle.counted_tokens.specs.Tokens.{countedTokens}
 use borrow.Author.Needs.{needs}
 use Rattle.counting.proofs.token_at.Statement.{statement}
 use Rattle.counting.proofs.token_at.Tie as tie

@@ -1,40 +1,29 @@
--- `pieces::put` meets its contract.
+-- `pieces::put` meets its contract: one byte, or more of them.
 -- Assumes nothing.
-use Prim.Native.Nat.{_-_}
-use lib.ListN.{length}
-use Rattle.pieces.proofs.Copying.{Copied, copied-start, copied-turn, copied-end}
+use native.Mathlib.Omega.{arith}
+use Rattle.pieces.proofs.Copying.{one-room, one-put}
 use borrow.Author.Needs.{needs}
 use Rattle.pieces.proofs.put.Statement.{statement}
 use Rattle.pieces.proofs.put.Tie as tie
 
-abbrev Inv-loop : tie.InvT-loop
-Inv-loop out₀ at text i₀ out i = Copied text at out₀ out i
+slice-write-out : tie.Need-slice-write-out
+slice-write-out c = search one-room
 
-abbrev μ-loop : tie.MeasureT-loop
-μ-loop out₀ at text i₀ out i = length text - i
+add-result : tie.Need-add-result
+add-result c = omega (arith, slice-write-out (search))
 
-loop-holds : tie.Need-loop-holds Inv-loop μ-loop
-loop-holds c = search copied-start
-
-loop-again : tie.Need-loop-again Inv-loop μ-loop
-loop-again c = search copied-turn
-
-returns : tie.Need-returns Inv-loop μ-loop
-returns c = search copied-end
+returns : tie.Need-returns
+returns c = search one-put
 
 pub put-spec : {M : Type 1} → statement M
 put-spec =
     tie.close
     (tie.spec
-    Inv-loop
-    μ-loop
-    loop-holds
     (λ c. search needs)
+    slice-write-out
+    add-result
     (λ c. search needs)
+    returns
+    (λ c κs. search needs)
     (λ c. search needs)
-    (λ c. search needs)
-    (λ c. search needs)
-    loop-again
-    (λ c. search needs)
-    (λ c. search needs)
-    returns)
+    (λ c. search needs))

@@ -1,9 +1,9 @@
--- `counting::token_of` meets its contract.
+-- `counted_tokens::token_of` meets its contract.
 -- Assumes nothing.
-use Rattle.counting.proofs.Raising.{char-none, token-itself, token35-none, pair-token, pair-none, lone-none, remarked-none}
+use Rattle.counted_tokens.proofs.UnitTokens.{char-none, token-itself, token35-none, pair-token, pair-none, lone-none, remarked-none}
 use borrow.Author.Needs.{needs}
-use Rattle.counting.proofs.token_of.Statement.{statement}
-use Rattle.counting.proofs.token_of.Tie as tie
+use Rattle.counted_tokens.proofs.token_of.Statement.{statement}
+use Rattle.counted_tokens.proofs.token_of.Tie as tie
 
 returns : tie.Need-returns
 returns c = search pair-token

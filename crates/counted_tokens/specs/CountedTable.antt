@@ -4,7 +4,7 @@ use mathlib.Core.Path.{_≡_}
 use mathlib.Core.List.{[], _∷_}
 use Rattle.refusals.specs.Answer.{done, refused}
 use Rattle.refusals.specs.Numbers.{unexpectedEof}
-use Rattle.counting.specs.Tokens.{tokensOf, tokensIn}
+use Rattle.counted_tokens.specs.Tokens.{tokensOf, tokensIn}
 
 abbrev pub CountedTable : Type 0
 CountedTable =

@@ -2,8 +2,8 @@
 -- Assumes nothing.
 use mathlib.Core.Path.{refl}
 use Rattle.readers.specs.Terminators.{beforeZero}
-use Rattle.counting.specs.Tokens.{tokensOf, tokensFrom}
-use Rattle.counting.specs.CountedTable.{CountedTable}
+use Rattle.counted_tokens.specs.Tokens.{tokensOf, tokensFrom}
+use Rattle.counted_tokens.specs.CountedTable.{CountedTable}
 
 pub counted-table : CountedTable
 unfolding tokensOf tokensFrom beforeZero

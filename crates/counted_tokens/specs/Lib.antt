@@ -1,0 +1,3 @@
+pub mod CountedTable
+pub mod TokenHelpers
+pub mod Tokens
