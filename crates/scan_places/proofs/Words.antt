@@ -1,15 +1,15 @@
--- What is known of a TSB word that is found in a text: it begins with a letter, so that no other byte is looked up; its place and its
--- length are within bounds; and it is the first word of its length and spelling, the one that the Rust enters into its set.
+-- What is known of a TSB word that is found in a text: it begins with a letter and has one of some second bytes, so that no other place
+-- is looked up; its place and its length are within bounds; and it is the first word of its length and spelling, the one that the Rust enters into its set.
 -- Assumes nothing.
-use Prim.Native.Nat.{ℕ, zero, suc, _≤_, _<_}
+use Prim.Native.Nat.{ℕ, zero, suc, _-_, _/_, _%_, _^_, _≤_, _<_}
 use mathlib.Core.Path.{_≡_, refl, sym, ap, _∙_}
-use mathlib.Core.Bool.{Bool, true, false, _&&_, false≢true}
+use mathlib.Core.Bool.{Bool, true, false, not, _&&_, false≢true}
 use mathlib.Core.List.{List, [], _∷_}
 use native.Mathlib.Omega.{arith}
 use native.Mathlib.Nat.{not-suc-le-zero, le-of-suc-le-suc}
 use lib.Dec.{T, eqb, leb}
 use lib.ListN.{length, getD}
-use borrow.Author.Tests.{eq-eqb, ne-eqb, leb-true, leb-false, lt-leb}
+use borrow.Author.Tests.{eq-eqb, ne-eqb, leb-true, leb-false, lt-leb, le-leb, not-true}
 use Rattle.ascii.specs.Bytes.{isLetter, between, upper}
 use Rattle.ascii.specs.Search.{isWhite}
 use Rattle.words.specs.Compare.{begins}
@@ -22,6 +22,7 @@ use Rattle.words.proofs.Sameness.{T-true}
 use Rattle.words.specs.Spelling.{bytesOf}
 use Rattle.tables.specs.Tsb.{tsbWords}
 use Rattle.ascii.proofs.Choice.{taken, left}
+use Rattle.scan_places.specs.PlaceHelpers.{isSecond, maySecond}
 
 -- ---- each TSB word begins with a letter: one test over the list, carried to each entry
 
@@ -30,17 +31,27 @@ unfolding between upper
 initial [] = false
 initial (b ∷ w) = isLetter b
 
-unfoldable pub initials : List Entry → Bool
-unfolding initial
-initials [] = true
-initials (e ∷ es) = initial (e .word) && initials es
+-- the second byte may be one of a TSB word
+unfoldable follow : List ℕ → Bool
+unfolding maySecond
+follow [] = false
+follow (b ∷ []) = false
+follow (b ∷ c ∷ w) = maySecond c
 
-tsb-initials : T (initials tsbWords)
-unfolding initials tsbWords
+unfoldable allWords : (List ℕ → Bool) → List Entry → Bool
+allWords test [] = true
+allWords test (e ∷ es) = test (e .word) && allWords test es
+
+tsb-initials : T (allWords initial tsbWords)
+unfolding allWords initial tsbWords
 tsb-initials = tt
 
-initial-at : (es : List Entry) → T (initials es) → (k : ℕ) → k < length es → T (initial (wordAt es k))
-unfolding initials
+tsb-follow : T (allWords follow tsbWords)
+unfolding allWords follow tsbWords isSecond upper between
+tsb-follow = tt
+
+initial-at : (es : List Entry) → T (allWords initial es) → (k : ℕ) → k < length es → T (initial (wordAt es k))
+unfolding allWords
 initial-at [] t k h = absurd (not-suc-le-zero h)
 initial-at (e ∷ es) t zero h = and-left (initial (e .word)) _ t
 initial-at (e ∷ es) t (suc k) h = initial-at es (and-right (initial (e .word)) _ t) k (le-of-suc-le-suc h)
@@ -59,23 +70,71 @@ not-begun (c ∷ w) [] i n = refl
 not-begun (c ∷ w) (b ∷ s) i n =
     left _ _ (ne-eqb (upper c) (upper b) (λ e. false≢true (sym n ∙ ap (between 65 90) (sym e) ∙ T-true (isLetter c) i)))
 
-none-begun : (t : List ℕ) (es : List Entry) (k : ℕ) → T (initials es) → isLetter (getD t 0 0) ≡ false → firstThat (λ i w. begins w t) es k ≡ Nothing
-unfolding firstThat initials
-none-begun t [] k i n = refl
-none-begun t (e ∷ es) k i n =
-    left _ _ (not-begun (e .word) t (and-left (initial (e .word)) _ i) n) ∙ none-begun t es (suc k) (and-right (initial (e .word)) _ i) n
+-- nor one that has no such second byte
+not-followed : (w t : List ℕ) → T (follow w) → follow t ≡ false → begins w t ≡ false
+unfolding follow begins maySecond
+not-followed [] t i n = absurd i
+not-followed (c ∷ []) t i n = absurd i
+not-followed (c ∷ d ∷ w) [] i n = refl
+not-followed (c ∷ d ∷ w) (b ∷ []) i n = go (eqb (upper c) (upper b))
+  where
+    go : (r : Bool) → _≡_ {A = Bool} (elim r [ true ↦ false | false ↦ false ]) false
+    go true = refl
+    go false = refl
+not-followed (c ∷ d ∷ w) (b ∷ a ∷ s) i n = go (eqb (upper c) (upper b))
+  where
+    apart : begins (d ∷ w) (a ∷ s) ≡ false
+    apart = left _ _ (ne-eqb (upper d) (upper a) (λ e. false≢true (sym n ∙ ap isSecond (sym e) ∙ T-true (maySecond d) i)))
+
+    go : (r : Bool) → elim r [ true ↦ begins (d ∷ w) (a ∷ s) | false ↦ false ] ≡ false
+    go true = apart
+    go false = refl
+
+module _ (b : ℕ) {c : ℕ} where
+  pub second-low : c < 0x20 → c ≡ upper b → false ≡ maySecond b
+  unfolding maySecond isSecond
+  second-low h q = sym (ap isSecond (sym q) ∙ simp (lt-leb 0x20 c h))
+
+  pub second-high : 0x5F < c → 0x20 ≤ c → c ≡ upper b → false ≡ maySecond b
+  unfolding maySecond isSecond
+  second-high h l q = sym (ap isSecond (sym q) ∙ simp (le-leb 0x20 c l, lt-leb c 0x5F h))
+
+  pub second-told : c ≤ 0x5F → 0x20 ≤ c → c ≡ upper b → eqb (0x13DF3EA00000002 / 2 ^ (c - 0x20) % 2) 1 ≡ maySecond b
+  unfolding maySecond isSecond
+  second-told h l q = sym (ap isSecond (sym q) ∙ simp (le-leb 0x20 c l, le-leb c 0x5F h))
+
+-- what no word of a list passes
+none-begun : (t : List ℕ) (test : List ℕ → Bool) → ((w : List ℕ) → T (test w) → begins w t ≡ false) → (es : List Entry) (k : ℕ) → T (allWords test es)
+    → firstThat (λ i w. begins w t) es k ≡ Nothing
+unfolding firstThat allWords
+none-begun t test f [] k i = refl
+none-begun t test f (e ∷ es) k i = left _ _ (f (e .word) (and-left (test (e .word)) _ i)) ∙ none-begun t test f es (suc k) (and-right (test (e .word)) _ i)
 
 no-word : (t : List ℕ) → isLetter (getD t 0 0) ≡ false → Nothing ≡ wordIn tsbWords t
 unfolding wordIn
-no-word t n = sym (none-begun t tsbWords 0 tsb-initials n)
+no-word t n = sym (none-begun t initial (λ w i. not-begun w t i n) tsbWords 0 tsb-initials)
+
+no-follower : (t : List ℕ) → follow t ≡ false → Nothing ≡ wordIn tsbWords t
+unfolding wordIn
+no-follower t n = sym (none-begun t follow (λ w i. not-followed w t i n) tsbWords 0 tsb-follow)
+
+pub no-second : (t : List ℕ) {x : Bool} → not x ≡ true → x ≡ maySecond (getD t 1 0) → 2 ≤ length t → Nothing ≡ wordIn tsbWords t
+unfolding follow
+no-second [] e p h = absurd (omega arith)
+no-second (b ∷ []) e p h = absurd (omega arith)
+no-second (b ∷ c ∷ s) {x} e p h = no-follower (b ∷ c ∷ s) (sym p ∙ not-true x e)
+
+pub no-word-short : (t : List ℕ) → length t < 2 → Nothing ≡ wordIn tsbWords t
+unfolding follow
+no-word-short [] h = no-follower [] refl
+no-word-short (b ∷ []) h = no-follower (b ∷ []) refl
+no-word-short (b ∷ c ∷ s) h = absurd (omega arith)
+
+pub no-first : (t : List ℕ) {x : Bool} → not x ≡ true → x ≡ isLetter (getD t 0 0) → Nothing ≡ wordIn tsbWords t
+no-first t {x} e p = no-word t (sym p ∙ not-true x e)
 
 pub no-letter : (t : List ℕ) {x : Bool} → x ≡ false → x ≡ isLetter (getD t 0 0) → Nothing ≡ wordIn tsbWords t
 no-letter t e p = no-word t (sym p ∙ e)
-
-pub no-word-empty : (t : List ℕ) → length t ≡ 0 → Nothing ≡ wordIn tsbWords t
-unfolding between upper
-no-word-empty [] h = no-word [] refl
-no-word-empty (b ∷ s) h = absurd (omega arith)
 
 -- ---- bounds of a word that is found
 

@@ -10,19 +10,40 @@ ghost use Rattle.words.specs.Find.{wordIn};
 ghost use Rattle.words.specs.Spelling.{bytesOf};
 ghost use Rattle.tables.specs.Tsb.{tsbWords};
 ghost use Rattle.tables.specs.WordsHelpers.{SpellsWords};
+ghost use Rattle.scan_places.specs.PlaceHelpers.{maySecond};
 
-// The TSB word that a text begins with. Each begins with a letter, so any other byte is not looked up.
+// A bit for each byte from 20 on that is the second one of a TSB word: !ACEFGHILMNOPRSTUX.
+const SECONDS: u64 = 0x13DF3EA00000002;
+
+// Whether a byte may be the second one of a TSB word.
+fn may_be_second(b: u8) -> bool
+    ensures { λ r. ⌜ r ≡ maySecond b ⌝ }
+{
+    let c = ascii::upper(b);
+    if c < 0x20 {
+        return false;
+    }
+    if c > 0x5F {
+        return false;
+    }
+    (SECONDS >> (c - 0x20)) % 2 == 1
+}
+
+// The TSB word that a text begins with. Each begins with a letter and has a second byte, so that most places are not looked up.
 pub fn tsb_word(text: &[u8], bytes: &[u8], index: &[u16]) -> Match
     requires { ⌜ SpellsWords (now bytes) (now index) ⌝ }
     ensures { λ r. ⌜ r ≡ wordIn tsbWords (now (text .entry)) ⌝ }
 {
-    if text.len() == 0 {
+    if text.len() < 2 {
         return Match::Nothing;
     }
-    if ascii::is_letter(text[0]) {
-        return matching::match_in(WordList::Tsb, Test::Begins, text, bytes, index);
+    if !ascii::is_letter(text[0]) {
+        return Match::Nothing;
     }
-    Match::Nothing
+    if !may_be_second(text[1]) {
+        return Match::Nothing;
+    }
+    matching::match_in(WordList::Tsb, Test::Begins, text, bytes, index)
 }
 
 // Whether a text begins with REM. Its first byte is asked for first: most places have another.

@@ -1,19 +1,23 @@
--- `scan_places::beginnings::tsb_word` meets its contract. Where the first byte is no letter, no word is there to be found.
+-- `scan_places::beginnings::tsb_word` meets its contract. Where the first byte is no letter, or the second none of a word's, no word is there
+-- to be found.
 -- Assumes nothing.
-use Rattle.scan_places.proofs.Words.{no-letter, no-word-empty}
+use Rattle.scan_places.proofs.Words.{no-first, no-second, no-word-short}
 use Rattle.matching.proofs.Storage.{word-found}
 use borrow.Author.Needs.{needs}
 use Rattle.scan_places.proofs.beginnings.tsb_word.Statement.{statement}
 use Rattle.scan_places.proofs.beginnings.tsb_word.Tie as tie
 
 returns : tie.Need-returns
-returns c = search no-word-empty
+returns c = search no-word-short
 
 returns-2 : tie.Need-returns-2
-returns-2 c = search word-found
+returns-2 c = search no-first
 
 returns-3 : tie.Need-returns-3
-returns-3 c = search no-letter
+returns-3 c = search no-second
+
+returns-4 : tie.Need-returns-4
+returns-4 c = search word-found
 
 pub tsb-word-spec : {M : Type 1} → statement M
 tsb-word-spec =
@@ -22,6 +26,9 @@ tsb-word-spec =
     returns
     (λ c. search needs)
     (λ c κs. search needs)
-    (λ c κs. search needs)
     returns-2
-    returns-3)
+    (λ c. search needs)
+    (λ c κs. search needs)
+    returns-3
+    (λ c κs. search needs)
+    returns-4)
