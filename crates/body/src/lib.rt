@@ -16,6 +16,7 @@ ghost use Rattle.body.specs.Body.{prefixOf, written, crunchedBody};
 ghost use Rattle.body_steps.specs.Lexicon.{lexicon};
 ghost use Rattle.body.specs.BoundHelpers.{mayRepeat};
 
+pub mod at;
 pub mod zero;
 
 // The length of a body, or 65,536 where it is that or more.

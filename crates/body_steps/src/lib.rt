@@ -1,5 +1,4 @@
 // One step of crunching a body: what the front of the text left gives in each mode, and how much of the text it takes.
-pub mod at;
 pub mod moves;
 mod plain;
 pub mod short;

@@ -5,14 +5,15 @@ use mathlib.Core.Path.{_≡_, refl, sym, ap, _∙_}
 use mathlib.Core.Bool.{Bool, true, false, cond, not, _&&_, _||_, false≢true, true≢false}
 use mathlib.Core.List.{List}
 use lib.Dec.{eqb, ltb}
+use lib.ListN.{take}
 use borrow.Author.Tests.{eq-eqb, ne-eqb, lt-ltb, le-ltb}
 use Rattle.ascii.specs.Search.{equals, before}
 use Rattle.body_steps.specs.declared.moves.Mode.{Mode}
 use Rattle.body_steps.specs.declared.moves.Mode.the-variants.{String}
 use Rattle.body_steps.specs.declared.moves.Move.{Move}
-use Rattle.findings.specs.Braces.{insideOf}
+use Rattle.findings.specs.Braces.{insideBy, insideOf}
 use Rattle.findings.specs.Sights.{isCode, isControl, isKept, findingOf}
-use Rattle.findings.specs.declared.braces.Inside.the-variants.{Closed, Unclosed}
+use Rattle.findings.specs.declared.braces.Inside.the-variants.{Closed, Unclosed, Long}
 use Rattle.findings.specs.declared.sights.Finding.the-variants.{Usual, TsbWord, Zero, Brace, Control}
 
 -- ---- a { that is kept
@@ -70,11 +71,16 @@ module _ (m : Mode) (b : ℕ) (o : Move) where
 
 -- ---- what stands between braces
 
-module _ (t : List ℕ) {a b : ℕ} where
-  pub inside-closed : a < b → b ≡ before (equals 0x22) t → a ≡ before (equals 0x7D) t → Closed a ≡ insideOf t
-  unfolding insideOf
-  inside-closed h q p = rw (← p, ← q, lt-ltb _ _ h)
+module _ (t : List ℕ) {near : List ℕ} {a b : ℕ} where
+  pub inside-closed : a < b → b ≡ before (equals 0x22) near → a ≡ before (equals 0x7D) near → near ≡ take 64 t → Closed a ≡ insideOf t
+  unfolding insideOf insideBy
+  inside-closed h q p e = rw (← e, ← p, ← q, lt-ltb _ _ h)
 
-  pub inside-open : b ≤ a → b ≡ before (equals 0x22) t → a ≡ before (equals 0x7D) t → Unclosed b ≡ insideOf t
-  unfolding insideOf
-  inside-open h q p = rw (← p, ← q, le-ltb _ _ h)
+  module _ (h : b ≤ a) (q : b ≡ before (equals 0x22) near) (p : a ≡ before (equals 0x7D) near) (e : near ≡ take 64 t) where
+    pub inside-open : b < 64 → Unclosed b ≡ insideOf t
+    unfolding insideOf insideBy
+    inside-open l = rw (← e, ← p, ← q, le-ltb _ _ h, lt-ltb _ _ l)
+
+    pub inside-long : 64 ≤ b → Long ≡ insideOf t
+    unfolding insideOf insideBy
+    inside-long l = rw (← e, ← p, ← q, le-ltb _ _ h, le-ltb _ _ l)

@@ -6,12 +6,11 @@ use mathlib.Core.Bool.{Bool, true, false, not, false≢true, true≢false}
 use mathlib.Core.List.{List}
 use native.Mathlib.Omega.{arith}
 use lib.Dec.{T, ltb}
-use lib.ListN.{length, getD, take, drop, length-drop}
+use lib.ListN.{length, getD, drop, length-drop}
 use borrow.Author.Tests.{lt-ltb, le-ltb, ltb-true}
 use mir.Syntax.{w64}
 use mir.Val.{Fits}
 use Rattle.steps.proofs.Nearer.{Nearer, again-on}
-use Rattle.ascii.proofs.Searching.{tail}
 use Rattle.ascii.proofs.Choice.{taken, left}
 use Rattle.matching.specs.declared.sets.Sets.{Sets}
 use Rattle.body_steps.specs.Lexicon.{Lexicon, lexicon}
@@ -25,13 +24,6 @@ use Rattle.findings.specs.declared.sights.Finding.{Finding}
 use Rattle.findings.specs.declared.sights.Sighting.{Sighting}
 use Rattle.findings.specs.declared.sights.Sighting.the-variants.{Seen, Over}
 use Rattle.findings.specs.declared.sights.Spot.{Spot}
-
--- the text from a place on, as it is lent
-abbrev pub rest : List ℕ → ℕ → List ℕ
-rest t at = take (length t - at) (drop at t)
-
-pub rest-some : (t : List ℕ) {at : ℕ} → at < length t → 0 < length (rest t at)
-rest-some t {at} h = rw (tail t at) (omega (arith, length-drop at t))
 
 module _ (l : Lexicon) (t : List ℕ) (g : T (proper l)) where
   takes : (s : Spot) → s .at < length t → Takes (drop (s .at) t) (stepFrom l t s .used)
@@ -69,13 +61,10 @@ spotAt mode at = record { mode = mode; at = at }
 
 -- ---- a step of the loop
 
-module _ (w : Sets) (t : List ℕ) (mode : Mode) {at : ℕ} {o : Move} (e : o ≡ crunchStep (lexicon w) mode (rest t at)) (h : at < length t) where
-  step-here : o ≡ stepFrom (lexicon w) t (spotAt mode at)
-  step-here = e ∙ ap (crunchStep (lexicon w) mode) (tail t at)
-
+module _ (w : Sets) (t : List ℕ) (mode : Mode) {at : ℕ} {o : Move} (e : o ≡ crunchStep (lexicon w) mode (drop at t)) (h : at < length t) where
   within : (0 < o .used) × (at + o .used ≤ length t)
   within =
-      let f : Takes (drop at t) (o .used) = rw step-here (takes (lexicon w) t (document-proper w) (spotAt mode at) h) in
+      let f : Takes (drop at t) (o .used) = rw e (takes (lexicon w) t (document-proper w) (spotAt mode at) h) in
       (f .more, omega (arith, f .most, length-drop at t))
 
   pub step-fits : Fits w64 (length t) → Fits w64 (at + o .used)
@@ -103,10 +92,10 @@ module _ {w : Sets} {t : List ℕ} {first : Spot} {mode : Mode} {at : ℕ} where
   pub walked-end : length t ≤ at → Walked w t first mode at → Over ≡ firstSight (lexicon w) t first
   walked-end h k = sym (none-left (lexicon w) t (document-proper w) (spotAt mode at) h) ∙ k .gives
 
-  module _ {o : Move} (e : o ≡ crunchStep (lexicon w) mode (rest t at)) (h : at < length t) (k : Walked w t first mode at) where
+  module _ {o : Move} (e : o ≡ crunchStep (lexicon w) mode (drop at t)) (h : at < length t) (k : Walked w t first mode at) where
     comes : toldOr (firstSight (lexicon w) t) t (spotAt mode at) o ≡ firstSight (lexicon w) t first
     comes =
-        ap (toldOr (firstSight (lexicon w) t) t (spotAt mode at)) (step-here w t mode e h)
+        ap (toldOr (firstSight (lexicon w) t) t (spotAt mode at)) e
         ∙ sym (there (lexicon w) t (document-proper w) (spotAt mode at) h)
         ∙ k .gives
 
@@ -117,10 +106,10 @@ module _ {w : Sets} {t : List ℕ} {first : Spot} {mode : Mode} {at : ℕ} where
     onward p n = record { gives = sym (taken _ _ (ap isUsual (sym p) ∙ n)) ∙ comes }
 
   module _ {o : Move} {f : Finding} {x : Bool} where
-    pub walked-seen : not x ≡ true → x ≡ isUsual f → f ≡ findingOf mode (getD t at 0) o → o ≡ crunchStep (lexicon w) mode (rest t at) → at < length t
+    pub walked-seen : not x ≡ true → x ≡ isUsual f → f ≡ findingOf mode (getD t at 0) o → o ≡ crunchStep (lexicon w) mode (drop at t) → at < length t
         → Walked w t first mode at → Seen f at (spotBehind (spotAt mode at) o) ≡ firstSight (lexicon w) t first
     walked-seen n q p e h k = seen e h k p (sym q ∙ not-true x n)
 
-    pub walked-turn : not x ≡ false → x ≡ isUsual f → f ≡ findingOf mode (getD t at 0) o → o ≡ crunchStep (lexicon w) mode (rest t at) → at < length t
+    pub walked-turn : not x ≡ false → x ≡ isUsual f → f ≡ findingOf mode (getD t at 0) o → o ≡ crunchStep (lexicon w) mode (drop at t) → at < length t
         → Walked w t first mode at → Walked w t first (o .mode) (at + o .used)
     walked-turn n q p e h k = onward e h k p (sym q ∙ not-false x n)

@@ -1,13 +1,16 @@
 // The steps of a body that an editor is told of, one after the other.
-use body_steps::at;
+use body::at;
+use body::at::Stand;
 use body_steps::moves::Mode;
 use body_steps::moves::Move;
 use matching::sets::Sets;
 use tables::spellings;
 ghost use mathlib.Core.Path.{_≡_};
 ghost use Rattle.tables.specs.WordsHelpers.{SpellsWords};
+ghost use Rattle.body_steps.specs.BraceHelpers.{Spans};
 ghost use Rattle.body_steps.specs.Lexicon.{lexicon};
 ghost use Rattle.findings.specs.Sights.{isCode, isControl, isKept, findingOf, isUsual, firstSight};
+ghost use Rattle.findings.specs.ToldHelpers.{Tells};
 
 // What a step is to an editor.
 pub enum Finding {
@@ -37,6 +40,12 @@ pub enum Sighting {
         to: Spot,
     },
     Over,
+}
+
+// What is told, and where the walk stands behind it.
+pub struct Told {
+    pub sighting: Sighting,
+    pub stand: Stand,
 }
 
 fn is_code(mode: Mode) -> bool
@@ -116,6 +125,17 @@ fn is_usual(finding: Finding) -> bool
 pub fn next_sight(text: &[u8], from: Spot, sets: Sets) -> Sighting
     ensures { λ r. ⌜ r ≡ firstSight (lexicon sets) (now (text .entry)) from ⌝ }
 {
+    let mode = from.mode;
+    let told = sight_from(text, at::stand_at(text, from.at, mode), sets);
+    let sighting = told.sighting;
+    sighting
+}
+
+// The same from where a walk stands. Whoever goes on from where it stands behind that looks at no byte for two braces.
+pub fn sight_from(text: &[u8], from: Stand, sets: Sets) -> Told
+    requires { ⌜ Spans (now text) (from .at) (from .span) ⌝ }
+    ensures { λ r. ⌜ Tells (lexicon sets) (now (text .entry)) from r ⌝ }
+{
     sight_with(
         text,
         from,
@@ -126,29 +146,43 @@ pub fn next_sight(text: &[u8], from: Spot, sets: Sets) -> Sighting
 }
 
 // The same, with the tables lent.
-fn sight_with(text: &[u8], from: Spot, bytes: &[u8], index: &[u16], sets: Sets) -> Sighting
-    requires { ⌜ SpellsWords (now bytes) (now index) ⌝ }
-    ensures { λ r. ⌜ r ≡ firstSight (lexicon sets) (now (text .entry)) from ⌝ }
+fn sight_with(text: &[u8], from: Stand, bytes: &[u8], index: &[u16], sets: Sets) -> Told
+    requires { ⌜ Spans (now text) (from .at) (from .span) × SpellsWords (now bytes) (now index) ⌝ }
+    ensures { λ r. ⌜ Tells (lexicon sets) (now (text .entry)) from r ⌝ }
 {
     let mut at = from.at;
     let mut mode = from.mode;
+    let mut span = from.span;
     while at < text.len() {
-        let step = at::step_at(&text[at..], mode, bytes, index, sets);
+        let taken = at::step_at(text, Stand { at, mode, span }, bytes, index, sets);
+        let step = taken.step;
         let finding = finding_of(mode, text[at], step);
         let next = step.mode;
         let behind = at + step.used;
+        let known = taken.span;
         if !is_usual(finding) {
-            return Sighting::Seen {
-                finding,
-                from: at,
-                to: Spot {
-                    mode: next,
+            return Told {
+                sighting: Sighting::Seen {
+                    finding,
+                    from: at,
+                    to: Spot {
+                        mode: next,
+                        at: behind,
+                    },
+                },
+                stand: Stand {
                     at: behind,
+                    mode: next,
+                    span: known,
                 },
             };
         }
         at = behind;
         mode = next;
+        span = known;
     }
-    Sighting::Over
+    Told {
+        sighting: Sighting::Over,
+        stand: Stand { at, mode, span },
+    }
 }

@@ -1,7 +1,9 @@
 // What an editor asks of texts before they are crunched. ./moldthatch gives it a letter, c to check, q to check and say nothing, d to name the
 // dialect, and then the names of files. What is found goes to standard output. No contract can say what is read or written.
 mod checks;
+mod sayings;
 mod sentence;
+mod steps;
 mod strange;
 
 use desk::input;
@@ -38,7 +40,7 @@ fn done_with(letter: u8, name: &[u8], text: &[u8]) -> Run {
 // Takes what was read: a text, or as much of it as the buffer holds, which is refused as too long.
 fn take_input(letter: u8, name: &[u8], input: Input, text: &[u8]) -> Run {
     match input {
-        Input::All(count) => done_with(letter, name, checks::cut(text, 0, count)),
+        Input::All(count) => done_with(letter, name, sayings::cut(text, 0, count)),
         Input::Longer => done_with(letter, name, text),
         Input::Failed => Run {
             faulty: false,

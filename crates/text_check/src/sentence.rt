@@ -1,5 +1,6 @@
 // A line of standard output about a file, in one write, so that the lines of two programs do not mix.
-use crate::checks;
+use crate::sayings;
+use crate::sayings::add;
 use desk::result;
 use libc::STDERR_FILENO;
 use libc::STDOUT_FILENO;
@@ -7,12 +8,12 @@ use refusals::Refusal;
 use sentences::place::Place;
 use sentences::put;
 
-// Adds bytes to a line, as many as fit.
-fn add(line: &mut [u8], at: usize, text: &[u8]) -> usize {
-    if at > line.len() {
-        return at;
-    }
-    put::put_text(line, at, text)
+// What was found so far: whether a release would refuse the text, whether a line could not be written, and whether lines are to be
+// written at all.
+pub struct Tally {
+    pub faulty: bool,
+    pub failed: bool,
+    pub quiet: bool,
 }
 
 fn add_number(line: &mut [u8], at: usize, n: usize) -> usize {
@@ -41,14 +42,48 @@ fn write(fd: i32, line: &mut [u8], at: usize) -> bool {
     result::write_to(fd, b"standard output", &line[0..n])
 }
 
-// Writes a sentence about a place, with a part of the text in it.
-pub fn tell(name: &[u8], place: Place, before: &[u8], part: &[u8], behind: &[u8]) -> bool {
+// Writes a sentence about a place, with a part of the text in it and more behind it.
+fn write_told(name: &[u8], place: Place, saying: usize, part: &[u8], more: &[u8]) -> bool {
     let mut line = [0u8; 9216];
     let a = add_place(&mut line, name, place);
-    let b = add(&mut line, a, before);
-    let c = add(&mut line, b, part);
-    let d = add(&mut line, c, behind);
-    write(STDOUT_FILENO, &mut line, d)
+    let b = sayings::put_sentence(&mut line, a, saying, part);
+    let c = add(&mut line, b, more);
+    write(STDOUT_FILENO, &mut line, c)
+}
+
+// Tells a fault or a remark, unless nothing is to be written.
+pub fn tell(
+    tally: Tally,
+    name: &[u8],
+    place: Place,
+    saying: usize,
+    part: &[u8],
+    more: &[u8],
+) -> Tally {
+    let faulty = tally.faulty || saying < sayings::REMARKS;
+    if tally.quiet {
+        return Tally {
+            faulty,
+            failed: tally.failed,
+            quiet: true,
+        };
+    }
+    let told = write_told(name, place, saying, part, more);
+    Tally {
+        faulty,
+        failed: tally.failed || !told,
+        quiet: false,
+    }
+}
+
+// The same with nothing of the text in it.
+pub fn tell_bare(tally: Tally, name: &[u8], place: Place, saying: usize) -> Tally {
+    tell(tally, name, place, saying, b"", b"")
+}
+
+// Tells a fault of a whole line, or of a text at its first line.
+pub fn tell_line(tally: Tally, name: &[u8], k: usize, saying: usize, part: &[u8]) -> Tally {
+    tell(tally, name, Place { line: k, column: 1 }, saying, part, b"")
 }
 
 // Writes the last line about a file, with a number in it.
@@ -76,6 +111,6 @@ pub fn refuse(name: &[u8], refusal: Refusal) -> bool {
     let mut line = [0u8; 9216];
     let a = add(&mut line, 0, name);
     let b = add(&mut line, a, b": ");
-    let c = add(&mut line, b, checks::first(&text, n));
+    let c = add(&mut line, b, sayings::cut(&text, 0, n));
     write(STDERR_FILENO, &mut line, c)
 }

@@ -8,10 +8,10 @@ use Rattle.text_check.proofs.checks.check_lines.Statement.{statement}
 use Rattle.text_check.proofs.checks.check_lines.Tie as tie
 
 abbrev Inv-loop : tie.InvT-loop
-Inv-loop name text sets t₀ at₀ k₀ t at k = Unit {0}
+Inv-loop name text sets found₀ at₀ k₀ found at k = Unit {0}
 
 abbrev μ-loop : tie.MeasureT-loop
-μ-loop name text sets t₀ at₀ k₀ t at k = length text - at
+μ-loop name text sets found₀ at₀ k₀ found at k = length text - at
 
 loop-less : tie.Need-loop-less Inv-loop μ-loop
 loop-less c = search line-less

@@ -1,16 +1,16 @@
 -- `text_check::strange::characters` is safe and ends.
 -- Assumes nothing.
-use Prim.Native.Nat.{_≤_, _-_}
+use Prim.Native.Nat.{_-_}
 use lib.ListN.{length}
 use borrow.Author.Needs.{needs}
 use Rattle.text_check.proofs.strange.characters.Statement.{statement}
 use Rattle.text_check.proofs.strange.characters.Tie as tie
 
 abbrev Inv-loop : tie.InvT-loop
-Inv-loop line to i₀ n₀ i n = i ≤ length line
+Inv-loop s i₀ n₀ i n = Unit {0}
 
 abbrev μ-loop : tie.MeasureT-loop
-μ-loop line to i₀ n₀ i n = length line - i
+μ-loop s i₀ n₀ i n = length s - i
 
 pub characters-spec : {M : Type 1} → statement M
 characters-spec =
@@ -20,9 +20,8 @@ characters-spec =
     μ-loop
     (λ c. search needs)
     (λ c. search needs)
-    (λ c. search needs)
     (λ c κs. search needs)
-    (λ c. search needs)
+    (λ c κs. search needs)
     (λ c. search needs)
     (λ c. search needs)
     (λ c. search needs)

@@ -5,10 +5,10 @@ use Rattle.text_check.proofs.strange.check_line.Statement.{statement}
 use Rattle.text_check.proofs.strange.check_line.Tie as tie
 
 abbrev Inv-loop : tie.InvT-loop
-Inv-loop name k line t₀ at₀ left₀ t at left = Unit {0}
+Inv-loop name k line t₀ at₀ column₀ left₀ t at column left = Unit {0}
 
 abbrev μ-loop : tie.MeasureT-loop
-μ-loop name k line t₀ at₀ left₀ t at left = left
+μ-loop name k line t₀ at₀ column₀ left₀ t at column left = left
 
 pub check-line-spec : {M : Type 1} → statement M
 check-line-spec =
@@ -20,6 +20,9 @@ check-line-spec =
     (λ c. search needs)
     (λ c κs. search needs)
     (λ c. search needs)
+    (λ c κs. search needs)
+    (λ c κs. search needs)
+    (λ c κs. search needs)
     (λ c κs. search needs)
     (λ c κs. search needs)
     (λ c κs. search needs)
