@@ -1,4 +1,5 @@
 // A line by its number: where it stands, how far it was looked for, and its listing.
+use crate::rows::put_told;
 use desk::names;
 use desk::output;
 use dialect::Dialect;
@@ -8,7 +9,6 @@ use libc::STDOUT_FILENO;
 use list_options::ListOptions;
 use readers::By;
 use readers::Line;
-use sentences::put::put_decimal;
 use sentences::put::put_text;
 ghost use Prim.Native.Nat.{_≤_};
 ghost use lib.ListN.{length};
@@ -33,25 +33,35 @@ fn write_first(fd: i32, buf: &[u8], count: usize) -> bool
     io::write_all(fd, &buf[0..count])
 }
 
+// The end of a row: how many line headers were visited.
+fn put_visited(out: &mut [u8], at: usize, visited: usize) -> usize
+    requires { ⌜ at ≤ length (now out) ⌝ }
+    ensures { λ r. ⌜ r ≤ length (now (out .exit)) ⌝ }
+{
+    let to = put_told(out, at, b", headers visited ", visited);
+    put_text(out, to, b"\n")
+}
+
 fn put_head(out: &mut [u8], line: Line, visited: usize) -> usize
     ensures { λ r. ⌜ r ≤ length (now (out .exit)) ⌝ }
 {
-    let address = put_text(out, 0, b"address ");
-    let comma = put_decimal(out, address, line.address);
-    let link = put_text(out, comma, b", link ");
-    let second = put_decimal(out, link, line.link as usize);
-    let count = put_text(out, second, b", headers visited ");
-    let last = put_decimal(out, count, visited);
-    put_text(out, last, b"\n")
+    let address = put_told(out, 0, b"address ", line.address);
+    let link = put_told(out, address, b", link ", line.link as usize);
+    put_visited(out, link, visited)
+}
+
+fn write_head(line: Line, visited: usize) -> bool {
+    let mut out = [0u8; 128];
+    let end = put_head(&mut out, line, visited);
+    write_first(STDOUT_FILENO, &out, end)
 }
 
 fn write_found(image: &[u8], line: Line, visited: usize) -> bool {
-    let mut out = [0u8; 8192];
-    let end = put_head(&mut out, line, visited);
-    if !write_first(STDOUT_FILENO, &out, end) {
+    if !write_head(line, visited) {
         os::fail(b"standard output");
         return false;
     }
+    let mut out = [0u8; 8192];
     stretches::write_line(
         STDOUT_FILENO,
         b"",
@@ -66,11 +76,8 @@ fn put_missing(out: &mut [u8], name: &[u8], number: u16, visited: usize) -> usiz
     ensures { λ r. ⌜ r ≤ length (now (out .exit)) ⌝ }
 {
     let colon = put_text(out, 0, name);
-    let from = put_text(out, colon, b": no line ");
-    let comma = put_decimal(out, from, number as usize);
-    let count = put_text(out, comma, b", headers visited ");
-    let last = put_decimal(out, count, visited);
-    put_text(out, last, b"\n")
+    let comma = put_told(out, colon, b": no line ", number as usize);
+    put_visited(out, comma, visited)
 }
 
 // Says on standard error that no line has the number.
@@ -80,16 +87,19 @@ fn tell_missing(name: &[u8], number: u16, visited: usize) -> bool {
     write_first(STDERR_FILENO, &out, end)
 }
 
-// Ends the program where no line has the number.
-fn miss(number: u16, visited: usize) {
+// The same of what was read.
+fn tell_given(number: u16, visited: usize) -> bool {
+    if !names::is_file(names::IN) {
+        return tell_missing(b"standard input", number, visited);
+    }
     let mut name = io::buffer();
     let n = names::name(names::IN, &mut name);
-    let is_told = if names::is_file(names::IN) {
-        tell_missing(&name[..n], number, visited)
-    } else {
-        tell_missing(b"standard input", number, visited)
-    };
-    if is_told {
+    tell_missing(&name[..n], number, visited)
+}
+
+// Ends the program where no line has the number.
+fn miss(number: u16, visited: usize) {
+    if tell_given(number, visited) {
         io::write_all(STATUS_FILENO, &[NOT_THERE]);
     } else {
         output::fail();

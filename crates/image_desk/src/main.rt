@@ -3,6 +3,7 @@
 mod finding;
 mod places;
 mod references;
+mod rows;
 
 use desk::input;
 use desk::names;
@@ -30,11 +31,15 @@ pub enum Look {
     Jumps,
 }
 
+fn write_index_in(index: &mut [u8], image: &[u8]) {
+    let outcome = line_index::write_index(image, index);
+    output::answer(outcome, index, b"");
+}
+
 fn write_index(image: &[u8]) {
     // No image of 65,536 bytes has a longer one: a line takes five bytes there and four here, a jump two there and less than four here.
     let mut index = [0u8; 131_072];
-    let outcome = line_index::write_index(image, &mut index);
-    output::answer(outcome, &index, b"");
+    write_index_in(&mut index, image);
 }
 
 fn look_at(image: &[u8], look: Look) {
@@ -72,16 +77,20 @@ fn show_places() {
     }
 }
 
-fn main() {
-    let mut command = io::buffer();
-    let n = names::name(COMMAND, &mut command);
-    if check::same(&command[..n], b"find") {
+fn work(command: &[u8]) {
+    if check::same(command, b"find") {
         find_given();
-    } else if check::same(&command[..n], b"where") {
+    } else if check::same(command, b"where") {
         show_places();
-    } else if check::same(&command[..n], b"index") {
+    } else if check::same(command, b"index") {
         look_at_given(Look::Index);
     } else {
         look_at_given(Look::Jumps);
     }
+}
+
+fn main() {
+    let mut command = io::buffer();
+    let n = names::name(COMMAND, &mut command);
+    work(&command[..n]);
 }

@@ -1,5 +1,6 @@
 // Where the lines of an image stand: a row for each, its number, its address and, for a text, the text line that it comes from, with tabs
 // between.
+use crate::rows::put_told;
 use desk::input;
 use desk::names;
 use desk::output;
@@ -28,21 +29,27 @@ fn put_place(out: &mut [u8], at: usize, line: Line) -> usize
     ensures { λ r. ⌜ r ≤ length (now (out .exit)) ⌝ }
 {
     let tab = put_decimal(out, at, line.number as usize);
-    let address = put_text(out, tab, b"\t");
-    put_decimal(out, address, line.address)
+    put_told(out, tab, b"\t", line.address)
 }
 
-// The rest of a row: the text line of the line behind so many, if there is one.
+// The text line of the line behind so many, if there is one.
 fn put_origin(out: &mut [u8], at: usize, lines: &[usize], before: usize) -> usize
     requires { ⌜ at ≤ length (now out) ⌝ }
     ensures { λ r. ⌜ r ≤ length (now (out .exit)) ⌝ }
 {
     if before < lines.len() {
-        let number = put_text(out, at, b"\t");
-        let end = put_decimal(out, number, lines[before]);
-        return put_text(out, end, b"\n");
+        return put_told(out, at, b"\t", lines[before]);
     }
-    put_text(out, at, b"\n")
+    at
+}
+
+fn put_row(out: &mut [u8], at: usize, line: Line, lines: &[usize], before: usize) -> usize
+    requires { ⌜ at ≤ length (now out) ⌝ }
+    ensures { λ r. ⌜ r ≤ length (now (out .exit)) ⌝ }
+{
+    let place = put_place(out, at, line);
+    let end = put_origin(out, place, lines, before);
+    put_text(out, end, b"\n")
 }
 
 fn put_rows(out: &mut [u8], image: &[u8], by: By, lines: &[usize]) -> usize
@@ -54,8 +61,7 @@ fn put_rows(out: &mut [u8], image: &[u8], by: By, lines: &[usize]) -> usize
     loop {
         match readers::step_by(image, offset, by) {
             Step::Found(line) => {
-                let behind = put_place(out, to, line);
-                to = put_origin(out, behind, lines, before);
+                to = put_row(out, to, line, lines, before);
                 offset = line.next;
                 if before < lines.len() {
                     before += 1;
@@ -72,11 +78,15 @@ fn put_rows(out: &mut [u8], image: &[u8], by: By, lines: &[usize]) -> usize
     }
 }
 
+fn show_rows(rows: &mut [u8], image: &[u8], by: By, lines: &[usize]) {
+    let end = put_rows(rows, image, by, lines);
+    output::answer(Outcome::Done(end), rows, b"");
+}
+
 fn show_lines(image: &[u8], by: By, lines: &[usize]) {
     // An image of 65,536 bytes has at most 13,107 lines, and no row has more than 20 bytes.
     let mut rows = [0u8; 262_144];
-    let end = put_rows(&mut rows, image, by, lines);
-    output::answer(Outcome::Done(end), &rows, b"");
+    show_rows(&mut rows, image, by, lines);
 }
 
 pub fn show_image(image: &[u8], by: By) {

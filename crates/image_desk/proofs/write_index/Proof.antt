@@ -1,20 +1,14 @@
--- `image_desk::write_index` is safe and ends: the index lies within the buffer.
+-- `image_desk::write_index` is safe and ends. The array's length comes by a law: counted out, it is beyond what a search takes.
 -- Assumes nothing.
-use Rattle.desk.proofs.Results.{result-held}
+use Prim.Native.Nat.{ℕ}
+use mathlib.Core.Path.{sym}
+use lib.ListN.{length-replicate}
 use borrow.Author.Needs.{needs}
 use Rattle.image_desk.proofs.write_index.Statement.{statement}
 use Rattle.image_desk.proofs.write_index.Tie as tie
 
-answer-requires : tie.Need-answer-requires
-answer-requires c κs = (search result-held, search needs)
+slice-aggregate-write-index-in : tie.Need-slice-aggregate-write-index-in
+slice-aggregate-write-index-in c = sym (length-replicate {A = ℕ} 131072 0)
 
 pub write-index-spec : {M : Type 1} → statement M
-write-index-spec =
-    tie.close
-    (tie.spec
-    (λ c. search needs)
-    (λ c κs. search needs)
-    (λ c. search needs)
-    (λ c. search needs)
-    answer-requires
-    (λ c. search needs))
+write-index-spec = tie.close (tie.spec slice-aggregate-write-index-in (λ c κs. search needs) (λ c. search needs))

@@ -30,7 +30,6 @@ put-rows-spec =
     (λ c κs. search needs)
     (λ c. search needs)
     (λ c κs. search needs)
-    (λ c κs. search needs)
     (λ c. search needs)
     loop-less
     (λ c. search needs)

@@ -1,17 +1,21 @@
--- `image_desk::references::put_rows` is safe and ends: each number is looked at once.
+-- `image_desk::references::put_rows` is safe and ends: each row brings the next number nearer to the last.
 -- Assumes nothing.
 use Prim.Native.Nat.{_-_, _≤_}
 use mathlib.Core.Path.{_≡_}
 use lib.ListN.{length}
+use Rattle.cross_references.proofs.Rows.{row-nearer}
 use borrow.Author.Needs.{needs}
 use Rattle.image_desk.proofs.references.put_rows.Statement.{statement}
 use Rattle.image_desk.proofs.references.put_rows.Tie as tie
 
 abbrev Inv-loop : tie.InvT-loop
-Inv-loop out₀ index firsts nexts known number₀ to₀ t11 out number to = (to ≤ length out) × (length out ≡ length out₀)
+Inv-loop out₀ index firsts nexts marked from₀ to₀ t13 out from to = (to ≤ length out) × (length out ≡ length out₀)
 
 abbrev μ-loop : tie.MeasureT-loop
-μ-loop out₀ index firsts nexts known number₀ to₀ t11 out number to = length firsts - number
+μ-loop out₀ index firsts nexts marked from₀ to₀ t13 out from to = length firsts - from
+
+loop-less : tie.Need-loop-less Inv-loop μ-loop
+loop-less c = search row-nearer
 
 pub put-rows-spec : {M : Type 1} → statement M
 put-rows-spec =
@@ -20,16 +24,16 @@ put-rows-spec =
     Inv-loop
     μ-loop
     (λ c. search needs)
-    (λ c. search needs)
-    (λ c. search needs)
-    (λ c κs. search needs)
     (λ c κs. search needs)
     (λ c. search needs)
     (λ c κs. search needs)
+    (λ c κs. search needs)
+    (λ c. search needs)
+    (λ c κs. search needs)
     (λ c. search needs)
     (λ c. search needs)
     (λ c. search needs)
-    (λ c. search needs)
+    loop-less
     (λ c. search needs)
     (λ c. search needs)
     (λ c. search needs)

@@ -1,4 +1,4 @@
--- `image_desk::references::put_sources` is safe and ends: no more than 32768 jumps are followed.
+-- `image_desk::references::put_sources` is safe and ends: no more jumps are followed than there are places.
 -- Assumes nothing.
 use Prim.Native.Nat.{_≤_}
 use mathlib.Core.Path.{_≡_}
@@ -8,10 +8,10 @@ use Rattle.image_desk.proofs.references.put_sources.Statement.{statemen
 use Rattle.image_desk.proofs.references.put_sources.Tie as tie
 
 abbrev Inv-loop : tie.InvT-loop
-Inv-loop out₀ at index first nexts to₀ place₀ left₀ t10 out to place left = (to ≤ length out) × (length out ≡ length out₀)
+Inv-loop out₀ at index first nexts to₀ place₀ left₀ t9 out to place left = (to ≤ length out) × (length out ≡ length out₀)
 
 abbrev μ-loop : tie.MeasureT-loop
-μ-loop out₀ at index first nexts to₀ place₀ left₀ t10 out to place left = left
+μ-loop out₀ at index first nexts to₀ place₀ left₀ t9 out to place left = left
 
 pub put-sources-spec : {M : Type 1} → statement M
 put-sources-spec =
@@ -24,10 +24,6 @@ put-sources-spec =
     (λ c κs. search needs)
     (λ c κs. search needs)
     (λ c κs. search needs)
-    (λ c. search needs)
-    (λ c. search needs)
-    (λ c. search needs)
-    (λ c. search needs)
     (λ c. search needs)
     (λ c. search needs)
     (λ c. search needs)

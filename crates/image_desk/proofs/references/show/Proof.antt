@@ -1,26 +1,14 @@
--- `image_desk::references::show` is safe and ends: the index lies within its buffer.
+-- `image_desk::references::show` is safe and ends. The array's length comes by a law: counted out, it is beyond what a search takes.
 -- Assumes nothing.
-use Rattle.image_desk.proofs.Stored.{stored-within}
+use Prim.Native.Nat.{ℕ}
+use mathlib.Core.Path.{sym}
+use lib.ListN.{length-replicate}
 use borrow.Author.Needs.{needs}
 use Rattle.image_desk.proofs.references.show.Statement.{statement}
 use Rattle.image_desk.proofs.references.show.Tie as tie
 
-part-show-index-end : tie.Need-part-show-index-end
-part-show-index-end c = search stored-within
+slice-aggregate-show-in : tie.Need-slice-aggregate-show-in
+slice-aggregate-show-in c = sym (length-replicate {A = ℕ} 131072 0)
 
 pub show-spec : {M : Type 1} → statement M
-show-spec =
-    tie.close
-    (tie.spec
-    (λ c. search needs)
-    (λ c κs. search needs)
-    (λ c. search needs)
-    (λ c. search needs)
-    (λ c. search needs)
-    part-show-index-end
-    (λ c κs. search needs)
-    (λ c. search needs)
-    (λ c. search needs)
-    (λ c κs. search needs)
-    (λ c. search needs)
-    (λ c. search needs))
+show-spec = tie.close (tie.spec slice-aggregate-show-in (λ c κs. search needs) (λ c. search needs))
