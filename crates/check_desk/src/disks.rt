@@ -14,6 +14,18 @@ ghost use Prim.Native.Nat.{_+_, _≤_};
 ghost use lib.ListN.{length};
 ghost use Rattle.entries.specs.EntryHelpers.{Entries};
 
+// Checks the file of an entry, under a name.
+fn check_named(name: &[u8], disk: &[u8], p: usize, is_quiet: bool) -> Run
+    requires { ⌜ (length (now disk) ≡ 174848) × (p + 30 ≤ 174848) ⌝ }
+{
+    // No file is longer: 664 sectors of 254 bytes.
+    let mut file = [0u8; 168_656];
+    match disk::read(disk, name_at(disk, p), &mut file) {
+        Outcome::Done(count) => check_program(name, &file[0..count], is_quiet),
+        Outcome::Refused(refusal) => telling::tell_refusal(name, refusal, is_quiet),
+    }
+}
+
 fn check_entry(name: &[u8], disk: &[u8], p: usize, is_quiet: bool) -> Run
     requires { ⌜ (length (now disk) ≡ 174848) × (p + 30 ≤ 174848) ⌝ }
 {
@@ -21,12 +33,7 @@ fn check_entry(name: &[u8], disk: &[u8], p: usize, is_quiet: bool) -> Run
     let comma = put_text(&mut full, 0, name);
     let from = put_text(&mut full, comma, b", ");
     let n = put_name(&mut full, from, name_at(disk, p));
-    // No file is longer: 664 sectors of 254 bytes.
-    let mut file = [0u8; 168_656];
-    match disk::read(disk, name_at(disk, p), &mut file) {
-        Outcome::Done(count) => check_program(&full[..n], &file[0..count], is_quiet),
-        Outcome::Refused(refusal) => telling::tell_refusal(&full[..n], refusal, is_quiet),
-    }
+    check_named(&full[..n], disk, p, is_quiet)
 }
 
 fn check_entries(name: &[u8], disk: &[u8], files: &[usize], is_quiet: bool) -> Run

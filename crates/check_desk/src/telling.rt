@@ -7,6 +7,8 @@ use libc::STDOUT_FILENO;
 use refusals::Refusal;
 use sentences::put::put_decimal;
 use sentences::put::put_text;
+ghost use Prim.Native.Nat.{_≤_};
+ghost use lib.ListN.{length};
 
 fn write_line(line: &[u8]) -> bool {
     result::write_to(STDOUT_FILENO, b"standard output", line)
@@ -19,12 +21,33 @@ fn write_words(name: &[u8], words: &[u8]) -> bool {
     write_line(&line[..end])
 }
 
+// Words, and a number behind them.
+fn put_told(out: &mut [u8], at: usize, words: &[u8], number: usize) -> usize
+    requires { ⌜ at ≤ length (now out) ⌝ }
+    ensures { λ r. ⌜ r ≤ length (now (out .exit)) ⌝ }
+{
+    let to = put_text(out, at, words);
+    put_decimal(out, to, number)
+}
+
+// So many of what a word names: one, or several.
+fn put_counted(out: &mut [u8], at: usize, count: usize, word: &[u8]) -> usize
+    requires { ⌜ at ≤ length (now out) ⌝ }
+    ensures { λ r. ⌜ r ≤ length (now (out .exit)) ⌝ }
+{
+    let to = put_decimal(out, at, count);
+    let end = put_text(out, to, word);
+    if count == 1 {
+        return end;
+    }
+    put_text(out, end, b"s")
+}
+
 // Words, a number, and words.
 fn write_one(name: &[u8], first: &[u8], number: usize, second: &[u8]) -> bool {
     let mut line = [0u8; 4608];
     let from = put_text(&mut line, 0, name);
-    let n = put_text(&mut line, from, first);
-    let to = put_decimal(&mut line, n, number);
+    let to = put_told(&mut line, from, first, number);
     let end = put_text(&mut line, to, second);
     write_line(&line[..end])
 }
@@ -40,10 +63,8 @@ fn write_two(
 ) -> bool {
     let mut line = [0u8; 4608];
     let from = put_text(&mut line, 0, name);
-    let n = put_text(&mut line, from, first);
-    let to = put_decimal(&mut line, n, number);
-    let v = put_text(&mut line, to, second);
-    let behind = put_decimal(&mut line, v, value);
+    let to = put_told(&mut line, from, first, number);
+    let behind = put_told(&mut line, to, second, value);
     let end = put_text(&mut line, behind, third);
     write_line(&line[..end])
 }
@@ -164,37 +185,64 @@ pub fn tell_refusal(name: &[u8], refusal: Refusal, is_quiet: bool) -> Run {
     after(write_refusal(name, refusal), Run::Unfit)
 }
 
+// What is said of every program: its load address, and how many lines it has.
+fn put_program(out: &mut [u8], at: usize, first: &[u8], load: usize, lines: usize) -> usize
+    requires { ⌜ at ≤ length (now out) ⌝ }
+    ensures { λ r. ⌜ r ≤ length (now (out .exit)) ⌝ }
+{
+    let to = put_told(out, at, first, load);
+    let count = put_text(out, to, b" and has ");
+    put_counted(out, count, lines, b" line")
+}
+
+fn write_program(name: &[u8], first: &[u8], load: usize, lines: usize, last: &[u8]) -> bool {
+    let mut line = [0u8; 4608];
+    let from = put_text(&mut line, 0, name);
+    let to = put_program(&mut line, from, first, load, lines);
+    let end = put_text(&mut line, to, last);
+    write_line(&line[..end])
+}
+
+fn write_fit(name: &[u8], load: usize, lines: usize) -> bool {
+    write_program(
+        name,
+        b": fit for the master: it loads at ",
+        load,
+        lines,
+        b", the same by both readers and for the machine\n",
+    )
+}
+
+fn write_unfit(name: &[u8], load: usize, lines: usize) -> bool {
+    write_program(
+        name,
+        b": not fit for the master; it loads at ",
+        load,
+        lines,
+        b"\n",
+    )
+}
+
 // The last line of a program.
 pub fn tell_program(name: &[u8], load: u16, lines: usize, run: Run, is_quiet: bool) -> Run {
     if is_quiet {
         return run;
     }
     match run {
-        Run::Fit => after(
-            write_two(
-                name,
-                b": fit for the master: it loads at ",
-                load as usize,
-                b" and has ",
-                lines,
-                b" lines, the same by both readers and for the machine\n",
-            ),
-            run,
-        ),
-        Run::Unfit => after(
-            write_two(
-                name,
-                b": not fit for the master; it loads at ",
-                load as usize,
-                b" and has ",
-                lines,
-                b" lines\n",
-            ),
-            run,
-        ),
+        Run::Fit => after(write_fit(name, load as usize, lines), run),
+        Run::Unfit => after(write_unfit(name, load as usize, lines), run),
         Run::Unread => run,
         Run::Closed => run,
     }
+}
+
+fn write_disk(name: &[u8], first: &[u8], files: usize) -> bool {
+    let mut line = [0u8; 4608];
+    let from = put_text(&mut line, 0, name);
+    let count = put_text(&mut line, from, first);
+    let to = put_counted(&mut line, count, files, b" file");
+    let end = put_text(&mut line, to, b"\n");
+    write_line(&line[..end])
 }
 
 // The last line of a disk.
@@ -203,14 +251,8 @@ pub fn tell_disk(name: &[u8], files: usize, run: Run, is_quiet: bool) -> Run {
         return run;
     }
     match run {
-        Run::Fit => after(
-            write_one(name, b": fit for the master: ", files, b" files\n"),
-            run,
-        ),
-        Run::Unfit => after(
-            write_one(name, b": not fit for the master; ", files, b" files\n"),
-            run,
-        ),
+        Run::Fit => after(write_disk(name, b": fit for the master: ", files), run),
+        Run::Unfit => after(write_disk(name, b": not fit for the master; ", files), run),
         Run::Unread => run,
         Run::Closed => run,
     }

@@ -19,8 +19,6 @@ write-one-spec =
     (λ c. search needs)
     (λ c κs. search needs)
     (λ c. search needs)
-    (λ c κs. search needs)
-    (λ c. search needs)
     slice-aggregate-write-line
     (λ c κs. search needs)
     (λ c. search needs))

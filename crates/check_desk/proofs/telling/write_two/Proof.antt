@@ -21,10 +21,6 @@ write-two-spec =
     (λ c. search needs)
     (λ c κs. search needs)
     (λ c. search needs)
-    (λ c κs. search needs)
-    (λ c. search needs)
-    (λ c κs. search needs)
-    (λ c. search needs)
     slice-aggregate-write-line
     (λ c κs. search needs)
     (λ c. search needs))
