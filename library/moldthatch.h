@@ -223,6 +223,49 @@ uint64_t moldthatch_count_share(const uint64_t *totals, size_t totals_length, ui
 bool moldthatch_count_are_totals(const uint64_t *totals, size_t totals_length);
 uint8_t moldthatch_count_token_at(size_t place);
 
+/* What makes a program unfit for the master, with what each kind carries: a number is
+ * that of the line. */
+enum {
+    MOLDTHATCH_NO_FAULT = 0,
+    MOLDTHATCH_FAULT_MEMORY = 1,        /* load address, length: not within 0801 to 9FFF */
+    MOLDTHATCH_FAULT_NUMBER = 2,        /* number: above 63999 */
+    MOLDTHATCH_FAULT_ORDER = 3,         /* number: not above the one before */
+    MOLDTHATCH_FAULT_ZERO = 4,          /* number, address of the body's first zero */
+    MOLDTHATCH_FAULT_LENGTH = 5,        /* number, length of the body: not 1 to 250 */
+    MOLDTHATCH_FAULT_TARGET = 6,        /* number, target of a jump that no line has */
+    MOLDTHATCH_FAULT_LINK = 7,          /* number, the link that the machine makes of it */
+    MOLDTHATCH_FAULT_LINKS_LEAVE = 8,   /* the machine leaves the program when it links it */
+    MOLDTHATCH_FAULT_LINKS_ENDLESS = 9  /* the machine never ends linking it */
+};
+
+/* A place among the faults of an image, for the next call alone. */
+typedef struct moldthatch_walk {
+    uint8_t stage;
+    uint8_t mode;
+    uint8_t listed;
+    uint8_t begun;
+    size_t at;
+    size_t value;
+    size_t offset;
+    size_t least;
+} moldthatch_walk;
+typedef struct moldthatch_fault {
+    uint8_t kind;
+    size_t first;
+    size_t second;
+    moldthatch_walk place;
+} moldthatch_fault;
+
+/* Marks the numbers that an image's lines have, as far as its links lead, in 65,536
+ * bytes that are all 0 at first. */
+void moldthatch_mark_numbers(const uint8_t *image, size_t image_length, uint8_t *marked, size_t marked_length);
+
+/* The place before all faults, and the next fault from a place on with the place behind
+ * it. Where moldthatch_check refuses the image, faults of lines behind are not found. */
+moldthatch_walk moldthatch_fault_start(void);
+moldthatch_fault moldthatch_next_fault(const uint8_t *image, size_t image_length, const uint8_t *marked,
+                                       size_t marked_length, moldthatch_walk place);
+
 /* Disk images (D64). Each call but format checks the disk first. A refusal changes
  * no byte of it. A name has 1 to 16 bytes, none of them A0. */
 

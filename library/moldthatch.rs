@@ -690,6 +690,121 @@ impl Totals {
     }
 }
 
+/// What makes a program unfit for the master. A number is that of the line.
+#[derive(Debug, Clone, Copy, PartialEq, Eq)]
+pub enum Fault {
+    /// It does not lie within 0x0801 to 0x9FFF.
+    OutsideMemory {
+        load: u16,
+        length: usize,
+    },
+    /// A number above 63999.
+    NumberTooHigh {
+        number: u16,
+    },
+    NotAscending {
+        number: u16,
+    },
+    /// The address of the body's first zero.
+    ZeroInBody {
+        number: u16,
+        address: usize,
+    },
+    /// A body that has not 1 to 250 bytes.
+    BodyLength {
+        number: u16,
+        length: usize,
+    },
+    /// No line has the target of a jump.
+    NoTarget {
+        number: u16,
+        target: usize,
+    },
+    /// The machine gives the line another link.
+    LinkChanges {
+        number: u16,
+        link: u16,
+    },
+    /// The machine leaves the program when it links it.
+    LinksLeave,
+    /// The machine never ends linking it.
+    LinksEndless,
+}
+
+/// The faults of an image, one after the other.
+#[derive(Debug, Clone)]
+pub struct Faults<'a> {
+    image: &'a [u8],
+    marked: Vec<u8>,
+    place: ffi::Walk,
+}
+
+/// What makes a program unfit for the master. Where [`check`] refuses the image, faults of lines behind are not found.
+pub fn faults(image: &[u8]) -> Faults<'_> {
+    let mut marked = vec![0; 65_536];
+    // SAFETY: as above.
+    unsafe {
+        ffi::moldthatch_mark_numbers(
+            image.as_ptr(),
+            image.len(),
+            marked.as_mut_ptr(),
+            marked.len(),
+        )
+    };
+    Faults {
+        image,
+        marked,
+        place: ffi::moldthatch_fault_start(),
+    }
+}
+
+impl Iterator for Faults<'_> {
+    type Item = Fault;
+
+    fn next(&mut self) -> Option<Fault> {
+        // SAFETY: as above.
+        let told = unsafe {
+            ffi::moldthatch_next_fault(
+                self.image.as_ptr(),
+                self.image.len(),
+                self.marked.as_ptr(),
+                self.marked.len(),
+                self.place,
+            )
+        };
+        self.place = told.place;
+        let number = told.first as u16;
+        let second = told.second;
+        Some(match told.kind {
+            1 => Fault::OutsideMemory {
+                load: number,
+                length: second,
+            },
+            2 => Fault::NumberTooHigh { number },
+            3 => Fault::NotAscending { number },
+            4 => Fault::ZeroInBody {
+                number,
+                address: second,
+            },
+            5 => Fault::BodyLength {
+                number,
+                length: second,
+            },
+            6 => Fault::NoTarget {
+                number,
+                target: second,
+            },
+            7 => Fault::LinkChanges {
+                number,
+                link: second as u16,
+            },
+            8 => Fault::LinksLeave,
+            9 => Fault::LinksEndless,
+            _ => return None,
+        })
+    }
+}
+
 /// A disk image (D64). Each call but [`Disk::format`] checks it first, and a refusal changes no byte of it. A name has 1 to 16
 /// bytes, none of them A0.
 pub struct Disk<B> {
@@ -928,6 +1043,27 @@ mod ffi {
         pub place: Place,
     }
 
+    #[repr(C)]
+    #[derive(Debug, Clone, Copy)]
+    pub struct Walk {
+        pub stage: u8,
+        pub mode: u8,
+        pub listed: u8,
+        pub begun: u8,
+        pub at: usize,
+        pub value: usize,
+        pub offset: usize,
+        pub least: usize,
+    }
+
+    #[repr(C)]
+    pub struct Fault {
+        pub kind: u8,
+        pub first: usize,
+        pub second: usize,
+        pub place: Walk,
+    }
+
     #[link(name = "moldthatch", kind = "static")]
     unsafe extern "C" {
         pub fn moldthatch_crunch(
@@ -1066,6 +1202,20 @@ mod ffi {
         pub fn moldthatch_count_share(totals: *const u64, totals_length: usize, token: u8) -> u64;
         pub fn moldthatch_count_are_totals(totals: *const u64, totals_length: usize) -> bool;
         pub safe fn moldthatch_count_token_at(place: usize) -> u8;
+        pub fn moldthatch_mark_numbers(
+            image: *const u8,
+            image_length: usize,
+            marked: *mut u8,
+            marked_length: usize,
+        );
+        pub safe fn moldthatch_fault_start() -> Walk;
+        pub fn moldthatch_next_fault(
+            image: *const u8,
+            image_length: usize,
+            marked: *const u8,
+            marked_length: usize,
+            place: Walk,
+        ) -> Fault;
         pub fn moldthatch_disk_format(disk: *mut u8, disk_length: usize) -> Code;
         pub fn moldthatch_disk_save(
             disk: *mut u8,

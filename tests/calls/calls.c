@@ -119,6 +119,16 @@ static void images(void)
     line("find_line", moldthatch_find_line(image, length, 30, 2));
     line("find_line", moldthatch_find_line(image, length, 20, 1));
     pair("relink", moldthatch_relink(image, length));
+    static uint8_t marked[65536];
+    moldthatch_mark_numbers(image, length, marked, sizeof marked);
+    moldthatch_walk place = moldthatch_fault_start();
+    for (;;) {
+        moldthatch_fault fault = moldthatch_next_fault(image, length, marked, sizeof marked, place);
+        printf("fault: %d %zu %zu\n", fault.kind, fault.first, fault.second);
+        if (fault.kind == MOLDTHATCH_NO_FAULT)
+            break;
+        place = fault.place;
+    }
     size_t index_length = moldthatch_index(image, length, out, sizeof out).first;
     pair("index_line", moldthatch_index_line(2, out, index_length));
     pair("index_jump", moldthatch_index_jump(1, out, index_length));

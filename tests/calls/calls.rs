@@ -142,6 +142,21 @@ fn images() -> Result<(), Refusal> {
             _ => None,
         }),
     );
+    for fault in faults(&image) {
+        let (kind, first, second) = match fault {
+            Fault::OutsideMemory { load, length } => (1, load, length),
+            Fault::NumberTooHigh { number } => (2, number, 0),
+            Fault::NotAscending { number } => (3, number, 0),
+            Fault::ZeroInBody { number, address } => (4, number, address),
+            Fault::BodyLength { number, length } => (5, number, length),
+            Fault::NoTarget { number, target } => (6, number, target),
+            Fault::LinkChanges { number, link } => (7, number, link.into()),
+            Fault::LinksLeave => (8, 0, 0),
+            Fault::LinksEndless => (9, 0, 0),
+        };
+        println!("fault: {kind} {first} {second}");
+    }
+    println!("fault: 0 0 0");
     let mut out = [0; 256];
     let length = index(&image, &mut out)?;
     let lines = &out[..length];

@@ -14,7 +14,8 @@ use Rattle.dialect.specs.declared.Dialect.{Dialect}
 use Rattle.dialect.specs.declared.Named.{Named}
 use Rattle.dialect.specs.declared.Named.the-variants.{Known, Refused}
 use Rattle.units.specs.declared.Mode.{Mode}
-use Rattle.units.specs.declared.Mode.the-variants.{Plain, Quoted, Remark, Data, QuotedData}
+use Rattle.fault_numbers.specs.Numbers.{modeNumber, modeOf}
+use Rattle.fault_numbers.proofs.Walking.{mode-back}
 use Rattle.list_options.specs.declared.ListOptions.{ListOptions}
 use Rattle.list_options.specs.Modes.{rulesUnder}
 use Rattle.line_stretches.specs.Stretch.{Stretched, stretchOf, stretchAnswer}
@@ -25,18 +26,10 @@ use Rattle.moldthatch.specs.declared.ListNumbers.{ListNumbers}
 use Rattle.moldthatch.specs.declared.stretch.PlaceNumbers.{PlaceNumbers}
 use Rattle.moldthatch.specs.declared.stretch.StretchCode.{StretchCode}
 use Rattle.moldthatch.specs.Given.{listOptions}
-use Rattle.moldthatch.specs.ToldStretch.{modeNumber, modeOf, placeNumbers, placeOfKind, placeOf, stretchCode, StretchTold, stretchTold, stretchedWith}
+use Rattle.moldthatch.specs.ToldStretch.{placeNumbers, placeOfKind, placeOf, stretchCode, StretchTold, stretchTold, stretchedWith}
 use Rattle.moldthatch.proofs.TellingOptions.{of-known, of-unknown}
 
--- ---- numbers name what they were made from
-
-pub mode-back : (m : Mode) → modeOf (modeNumber m) ≡ m
-unfolding modeOf
-mode-back Plain = refl
-mode-back Quoted = refl
-mode-back Remark = refl
-mode-back Data = refl
-mode-back QuotedData = refl
+-- ---- numbers name the place that they were made from
 
 pub place-back : (p : Place) → placeOf (placeNumbers p) ≡ p
 unfolding placeOfKind
@@ -44,16 +37,7 @@ place-back (Number n) = refl
 place-back (Body at mode) = ap (Body at) (mode-back mode)
 place-back Over = refl
 
--- ---- modes and places
-
-pub mode-other : (n : ℕ) → (n ≡ 1 → ⊥) → (n ≡ 2 → ⊥) → (n ≡ 3 → ⊥) → (n ≡ 4 → ⊥) → Plain ≡ modeOf n
-unfolding modeOf
-mode-other zero a b c d = refl
-mode-other (suc zero) a b c d = absurd (a refl)
-mode-other (suc (suc zero)) a b c d = absurd (b refl)
-mode-other (suc (suc (suc zero))) a b c d = absurd (c refl)
-mode-other (suc (suc (suc (suc zero)))) a b c d = absurd (d refl)
-mode-other (suc (suc (suc (suc (suc n))))) a b c d = refl
+-- ---- places
 
 module _ (x : PlaceNumbers) where
   pub place-number : x .kind ≡ 0 → Number (x .number) ≡ placeOf x
@@ -69,9 +53,6 @@ module _ (x : PlaceNumbers) where
   place-over zero a b = absurd (a refl)
   place-over (suc zero) a b = absurd (b refl)
   place-over (suc (suc n)) a b = refl
-
-pub tells-mode : (m : Mode) {k : Mode} → m ≡ k → {n : ℕ} → n ≡ modeNumber k → n ≡ modeNumber m
-tells-mode m e is = is ∙ ap modeNumber (sym e)
 
 pub tells-place : (p : Place) {q : Place} → p ≡ q → {n : PlaceNumbers} → n ≡ placeNumbers q → n ≡ placeNumbers p
 tells-place p e is = is ∙ ap placeNumbers (sym e)

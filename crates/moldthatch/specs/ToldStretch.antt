@@ -7,8 +7,7 @@ use lib.Seq.{sets}
 use Rattle.refusals.specs.Answer.{Answer, done, refused, andThen}
 use Rattle.refusals.specs.Code.{codeOf, answerCode}
 use Rattle.dialect.specs.Dialects.{byNumber}
-use Rattle.units.specs.declared.Mode.{Mode}
-use Rattle.units.specs.declared.Mode.the-variants.{Plain, Quoted, Remark, Data, QuotedData}
+use Rattle.fault_numbers.specs.Numbers.{modeNumber, modeOf}
 use Rattle.list_options.specs.Modes.{rulesUnder}
 use Rattle.line_stretches.specs.Stretch.{Stretched, stretchOf, stretchAnswer}
 use Rattle.line_stretches.specs.declared.Place.{Place}
@@ -19,23 +18,7 @@ use Rattle.moldthatch.specs.declared.stretch.PlaceNumbers.{PlaceNumbers}
 use Rattle.moldthatch.specs.declared.stretch.StretchCode.{StretchCode}
 use Rattle.moldthatch.specs.Given.{listOptions}
 
--- a mode as a number, and back (`mode-back`, proofs/TellingStretch.antt)
-abbrev pub modeNumber : Mode → ℕ
-modeNumber Plain = 0
-modeNumber Quoted = 1
-modeNumber Remark = 2
-modeNumber Data = 3
-modeNumber QuotedData = 4
-
-unfoldable pub modeOf : ℕ → Mode
-modeOf zero = Plain
-modeOf (suc zero) = Quoted
-modeOf (suc (suc zero)) = Remark
-modeOf (suc (suc (suc zero))) = Data
-modeOf (suc (suc (suc (suc zero)))) = QuotedData
-modeOf (suc (suc (suc (suc (suc n))))) = Plain
-
--- what is left of a line in numbers, and back (`place-back`)
+-- what is left of a line in numbers, and back (`place-back`, proofs/TellingStretch.antt)
 abbrev pub placeNumbers : Place → PlaceNumbers
 placeNumbers (Number n) = record { kind = 0; mode = 0; number = n; at = 0 }
 placeNumbers (Body at mode) = record { kind = 1; mode = modeNumber mode; number = 0; at = at }

@@ -25,6 +25,7 @@ ghost use Rattle.moldthatch.specs.Told.{toldCode, overviewCode};
 pub mod counts;
 pub mod dialects;
 pub mod disks;
+pub mod fault_calls;
 pub mod indexes;
 pub mod lines;
 pub mod stretch;

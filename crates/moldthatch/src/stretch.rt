@@ -6,11 +6,10 @@ use line_stretches::Place;
 use line_stretches::Stretch;
 use refusals::Code;
 use refusals::Refusal;
-use units::Mode;
 ghost use mathlib.Core.Path.{_≡_};
 ghost use Rattle.refusals.specs.Answer.{numbered};
 ghost use Rattle.refusals.specs.Code.{codeOf};
-ghost use Rattle.moldthatch.specs.ToldStretch.{modeOf, modeNumber, placeOf, placeNumbers, stretchCode, stretchedWith};
+ghost use Rattle.moldthatch.specs.ToldStretch.{placeOf, placeNumbers, stretchCode, stretchedWith};
 
 // What is left of a line: of kind 0 all of it, with its number; of kind 1 its body from a place on, in a mode, and the line's end; of any
 // other kind nothing. A mode is 1 in quotes, 2 in a remark, 3 in DATA, 4 in quotes there, and any other number in none of them.
@@ -77,7 +76,7 @@ fn place_of(given: PlaceNumbers) -> Place
         0 => Place::Number(given.number),
         1 => Place::Body {
             at: given.at,
-            mode: mode_of(given.mode),
+            mode: fault_numbers::mode_of(given.mode),
         },
         _ => Place::Over,
     }
@@ -95,7 +94,7 @@ fn place_numbers(place: Place) -> PlaceNumbers
         },
         Place::Body { at, mode } => PlaceNumbers {
             kind: 1,
-            mode: mode_number(mode),
+            mode: fault_numbers::mode_number(mode),
             number: 0,
             at,
         },
@@ -105,29 +104,5 @@ fn place_numbers(place: Place) -> PlaceNumbers
             number: 0,
             at: 0,
         },
-    }
-}
-
-fn mode_of(number: u8) -> Mode
-    ensures { λ r. ⌜ r ≡ modeOf number ⌝ }
-{
-    match number {
-        1 => Mode::Quoted,
-        2 => Mode::Remark,
-        3 => Mode::Data,
-        4 => Mode::QuotedData,
-        _ => Mode::Plain,
-    }
-}
-
-fn mode_number(mode: Mode) -> u8
-    ensures { λ r. ⌜ r ≡ modeNumber mode ⌝ }
-{
-    match mode {
-        Mode::Plain => 0,
-        Mode::Quoted => 1,
-        Mode::Remark => 2,
-        Mode::Data => 3,
-        Mode::QuotedData => 4,
     }
 }

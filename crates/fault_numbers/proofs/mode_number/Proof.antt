@@ -1,9 +1,9 @@
--- `moldthatch::stretch::mode_number` meets its contract.
+-- `fault_numbers::mode_number` meets its contract.
 -- Assumes nothing.
-use Rattle.moldthatch.proofs.TellingStretch.{tells-mode}
+use Rattle.fault_numbers.proofs.Walking.{tells-mode}
 use borrow.Author.Needs.{needs}
-use Rattle.moldthatch.proofs.stretch.mode_number.Statement.{statement}
-use Rattle.moldthatch.proofs.stretch.mode_number.Tie as tie
+use Rattle.fault_numbers.proofs.mode_number.Statement.{statement}
+use Rattle.fault_numbers.proofs.mode_number.Tie as tie
 
 returns : tie.Need-returns
 returns c = search tells-mode

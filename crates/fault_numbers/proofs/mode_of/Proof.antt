@@ -1,10 +1,10 @@
--- `moldthatch::stretch::mode_of` meets its contract.
+-- `fault_numbers::mode_of` meets its contract.
 -- Assumes nothing.
-use Rattle.moldthatch.specs.ToldStretch.{modeOf}
-use Rattle.moldthatch.proofs.TellingStretch.{mode-other}
+use Rattle.fault_numbers.specs.Numbers.{modeOf}
+use Rattle.fault_numbers.proofs.Walking.{mode-other}
 use borrow.Author.Needs.{needs}
-use Rattle.moldthatch.proofs.stretch.mode_of.Statement.{statement}
-use Rattle.moldthatch.proofs.stretch.mode_of.Tie as tie
+use Rattle.fault_numbers.proofs.mode_of.Statement.{statement}
+use Rattle.fault_numbers.proofs.mode_of.Tie as tie
 
 returns : tie.Need-returns
 unfolding modeOf

@@ -1,0 +1,12 @@
+-- `fault_numbers::start` meets its contract.
+-- Assumes nothing.
+use Rattle.fault_numbers.proofs.Walking.{starts}
+use borrow.Author.Needs.{needs}
+use Rattle.fault_numbers.proofs.start.Statement.{statement}
+use Rattle.fault_numbers.proofs.start.Tie as tie
+
+returns : tie.Need-returns
+returns c = search starts
+
+pub start-spec : {M : Type 1} → statement M
+start-spec = tie.close (tie.spec (λ c κs. search needs) returns)
