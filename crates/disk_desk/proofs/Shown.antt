@@ -1,7 +1,10 @@
--- A directory's text lies within the buffer that was lent for it.
+-- A directory's text lies within the buffer that was lent for it, and so does a name.
 -- Assumes nothing.
-use Prim.Native.Nat.{ℕ}
+use Prim.Native.Nat.{ℕ, _≤_}
+use mathlib.Core.Path.{_≡_}
 use mathlib.Core.List.{List}
+use lib.ListN.{length, take}
+use Rattle.io.proofs.Counting.{counts}
 use Rattle.lent.specs.declared.Outcome.{Outcome}
 use Rattle.lent.specs.declared.Outcome.the-variants.{Done, Refused}
 use Rattle.sentences.proofs.Clipping.{clip-within}
@@ -11,3 +14,6 @@ use Rattle.desk.specs.CountedHelpers.{Holds}
 pub shown-held : (disk out : List ℕ) (r : Outcome) (after : List ℕ) → Shows disk out r after → Holds r after
 shown-held disk out (Done n) after k = clip-within (k .1)
 shown-held disk out (Refused r) after k = tt
+
+pub name-count : (after : List ℕ) {n : ℕ} → n ≤ length after → n ≡ length (take n after)
+name-count after {n} h = counts n after h .1

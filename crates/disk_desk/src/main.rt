@@ -12,6 +12,8 @@ use lent::Outcome;
 use refusals::Refusal;
 use sentences::put::put_decimal;
 use sentences::put::put_text;
+ghost use Prim.Native.Nat.{_≤_};
+ghost use lib.ListN.{length};
 
 const COMMAND: usize = names::WORDS;
 
@@ -44,25 +46,38 @@ fn save(disk: &mut [u8]) {
     }
 }
 
-fn scratch(disk: &mut [u8]) {
+// The name that a word stands for, at the start of a buffer.
+fn given_name(name: &mut [u8]) -> usize
+    ensures { λ r. ⌜ r ≤ length (now (name .exit)) ⌝ }
+{
     let mut text = io::buffer();
     let n = names::name(NAME, &mut text);
+    disk_names::given(&text[..n], name)
+}
+
+fn scratch(disk: &mut [u8]) {
     // One byte more than a name may have: what is cut off does not make it one.
     let mut name = [0u8; 17];
-    let length = disk_names::given(&text[..n], &mut name);
+    let length = given_name(&mut name);
     let changed = disk::scratch(disk, &name[..length]);
     answer_changed(changed, disk);
 }
 
-fn read(disk: &[u8]) {
-    let mut text = io::buffer();
-    let n = names::name(NAME, &mut text);
-    let mut name = [0u8; 17];
-    let length = disk_names::given(&text[..n], &mut name);
+fn read_into(file: &mut [u8], disk: &[u8], name: &[u8]) {
+    let outcome = disk::read(disk, name, file);
+    output::answer(outcome, file, b"");
+}
+
+fn read_named(disk: &[u8], name: &[u8]) {
     // No file is longer: 664 sectors of 254 bytes.
     let mut file = [0u8; 168_656];
-    let outcome = disk::read(disk, &name[..length], &mut file);
-    output::answer(outcome, &file, b"");
+    read_into(&mut file, disk, name);
+}
+
+fn read(disk: &[u8]) {
+    let mut name = [0u8; 17];
+    let length = given_name(&mut name);
+    read_named(disk, &name[..length]);
 }
 
 fn show(disk: &[u8]) {
@@ -72,12 +87,28 @@ fn show(disk: &[u8]) {
     output::answer(outcome, &text, b"");
 }
 
+// So many files: one, or several.
+fn put_files(out: &mut [u8], files: usize) -> usize
+    ensures { λ r. ⌜ r ≤ length (now (out .exit)) ⌝ }
+{
+    let to = put_decimal(out, 0, files);
+    if files == 1 {
+        return put_text(out, to, b" file, ");
+    }
+    put_text(out, to, b" files, ")
+}
+
+fn put_check(out: &mut [u8], files: usize, free: usize) -> usize
+    ensures { λ r. ⌜ r ≤ length (now (out .exit)) ⌝ }
+{
+    let from = put_files(out, files);
+    let to = put_decimal(out, from, free);
+    put_text(out, to, b" sectors free\n")
+}
+
 fn answer_check(files: usize, free: usize) {
     let mut text = [0u8; 64];
-    let first = put_decimal(&mut text, 0, files);
-    let comma = put_text(&mut text, first, b" files, ");
-    let second = put_decimal(&mut text, comma, free);
-    let end = put_text(&mut text, second, b" sectors free\n");
+    let end = put_check(&mut text, files, free);
     output::answer(Outcome::Done(end), &text, b"");
 }
 
@@ -88,17 +119,24 @@ fn check(disk: &[u8]) {
     }
 }
 
-fn work(command: &[u8], disk: &mut [u8]) {
-    if check::same(command, b"save") {
-        save(disk);
-    } else if check::same(command, b"scratch") {
-        scratch(disk);
-    } else if check::same(command, b"read") {
+// What changes no byte of the disk.
+fn look_at(command: &[u8], disk: &[u8]) {
+    if check::same(command, b"read") {
         read(disk);
     } else if check::same(command, b"dir") {
         show(disk);
     } else {
         check(disk);
+    }
+}
+
+fn work(command: &[u8], disk: &mut [u8]) {
+    if check::same(command, b"save") {
+        save(disk);
+    } else if check::same(command, b"scratch") {
+        scratch(disk);
+    } else {
+        look_at(command, disk);
     }
 }
 

@@ -1,22 +1,17 @@
 -- `disk_desk::scratch` is safe and ends: the name lies within its buffer.
 -- Assumes nothing.
-use Rattle.desk.proofs.Within.{stored-count}
+use Rattle.disk_desk.proofs.Shown.{name-count}
 use borrow.Author.Needs.{needs}
 use Rattle.disk_desk.proofs.scratch.Statement.{statement}
 use Rattle.disk_desk.proofs.scratch.Tie as tie
 
 slice-aggregate-scratch : tie.Need-slice-aggregate-scratch
-slice-aggregate-scratch c = search stored-count
+slice-aggregate-scratch c = search name-count
 
 pub scratch-spec : {M : Type 1} → statement M
 scratch-spec =
     tie.close
     (tie.spec
-    (λ c κs. search needs)
-    (λ c. search needs)
-    (λ c κs. search needs)
-    (λ c. search needs)
-    (λ c. search needs)
     (λ c. search needs)
     (λ c κs. search needs)
     (λ c. search needs)
