@@ -3,7 +3,7 @@
 use Prim.Native.Nat.{ℕ}
 use mathlib.Core.Path.{_≡_, refl, sym, ap, _∙_}
 use mathlib.Core.List.{List}
-use Rattle.refusals.specs.Answer.{Answer, done, refused, numbered}
+use Rattle.refusals.specs.Answer.{Answer, done, numbered}
 use Rattle.refusals.specs.Code.{codeOf}
 use Rattle.refusals.specs.declared.Code.{Code}
 use Rattle.refusals.specs.declared.Refusal.{Refusal}

@@ -3,8 +3,7 @@
 use Prim.Native.Nat.{ℕ}
 use mathlib.Core.Path.{_≡_, sym, ap, _∙_}
 use mathlib.Core.List.{List}
-use mathlib.Core.Option.{Option}
-use Rattle.refusals.specs.Answer.{Answer, refused, numbered}
+use Rattle.refusals.specs.Answer.{Answer, numbered}
 use Rattle.refusals.specs.Code.{codeOf}
 use Rattle.refusals.specs.declared.Code.{Code}
 use Rattle.refusals.specs.declared.Refusal.{Refusal}
@@ -18,7 +17,6 @@ use Rattle.readers.specs.declared.Step.{Step}
 use Rattle.find_line.specs.Sought.{Visit, soughtAnswer}
 use Rattle.find_line.specs.declared.Sought.{Sought}
 use Rattle.text_image.specs.declared.Options.{Options}
-use Rattle.text_image.specs.declared.MeasuredLine.{MeasuredLine}
 use Rattle.text_image.specs.declared.LineMeasured.{LineMeasured}
 use Rattle.text_image.specs.Measured.{lineMeasured, lineAnswer}
 use Rattle.moldthatch.specs.declared.CrunchNumbers.{CrunchNumbers}

@@ -5,7 +5,7 @@ use mathlib.Core.Path.{_≡_, refl, sym, ap, _∙_}
 use mathlib.Core.List.{List}
 use lib.ListN.{length}
 use lib.Seq.{sets}
-use Rattle.refusals.specs.Answer.{Answer, done, refused, numbered}
+use Rattle.refusals.specs.Answer.{done, numbered}
 use Rattle.refusals.specs.Code.{codeOf}
 use Rattle.refusals.specs.declared.Code.{Code}
 use Rattle.refusals.specs.declared.Refusal.{Refusal}

@@ -2,7 +2,6 @@
 -- Assumes nothing.
 use Rattle.fault_numbers.specs.Numbers.{modeOf}
 use Rattle.fault_numbers.proofs.Walking.{mode-other}
-use borrow.Author.Needs.{needs}
 use Rattle.fault_numbers.proofs.mode_of.Statement.{statement}
 use Rattle.fault_numbers.proofs.mode_of.Tie as tie
 

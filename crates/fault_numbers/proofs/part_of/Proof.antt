@@ -1,6 +1,5 @@
 -- `fault_numbers::part_of` meets its contract.
 -- Assumes nothing.
-use borrow.Author.Needs.{needs}
 use Rattle.fault_numbers.proofs.part_of.Statement.{statement}
 use Rattle.fault_numbers.proofs.part_of.Tie as tie
 

@@ -1,6 +1,5 @@
 -- `fault_numbers::yes_or_no` meets its contract.
 -- Assumes nothing.
-use borrow.Author.Needs.{needs}
 use Rattle.fault_numbers.proofs.yes_or_no.Statement.{statement}
 use Rattle.fault_numbers.proofs.yes_or_no.Tie as tie
 

@@ -1,6 +1,5 @@
 -- `moldthatch::reader` meets its contract.
 -- Assumes nothing.
-use borrow.Author.Needs.{needs}
 use Rattle.moldthatch.proofs.reader.Statement.{statement}
 use Rattle.moldthatch.proofs.reader.Tie as tie
 
