@@ -1,10 +1,5 @@
 // The checks of a text: its bytes, then each line by its number, its length and its steps, then the whole.
 use crate::Run;
-use crate::sayings;
-use crate::sentence;
-use crate::sentence::Tally;
-use crate::steps;
-use crate::strange;
 use desk::result;
 use dialect::Dialect;
 use domain::TextCheck;
@@ -21,6 +16,11 @@ use refusals::Refusal;
 use sentences::place::Place;
 use text_image::Options;
 use text_lines::LineRule;
+use text_told::sayings;
+use text_told::sentence;
+use text_told::sentence::Tally;
+use text_told::steps;
+use text_told::strange;
 
 // The number of a line, if there is one before it.
 pub enum Last {
@@ -174,6 +174,13 @@ fn check_room(tally: Tally, name: &[u8], text: &[u8]) -> Tally {
     tally
 }
 
+// Says that a line decides for TSB.
+fn close_by(name: &[u8], k: usize) -> bool {
+    let mut digits = [0u8; 20];
+    let n = io::decimal(k as u64, &mut digits);
+    sentence::close(name, sayings::BY_LINE, &digits[..n])
+}
+
 // The dialect, and what decides it.
 fn summary(tally: Tally, name: &[u8], text: &[u8]) -> Run {
     if tally.quiet {
@@ -183,11 +190,8 @@ fn summary(tally: Tally, name: &[u8], text: &[u8]) -> Run {
         };
     }
     let told = match deciding::deciding_line(text, LineRule::AsGiven) {
-        Decided::ByLine(k) => sentence::close(name, b": dialect tsb: line ", k, b" decides"),
-        Decided::ByNone => sentence::close_bare(
-            name,
-            b": dialect basicv2: no line decides for tsb",
-        ),
+        Decided::ByLine(k) => close_by(name, k),
+        Decided::ByNone => sentence::close(name, sayings::BY_NONE, b""),
     };
     Run {
         faulty: tally.faulty,

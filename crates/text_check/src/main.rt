@@ -1,14 +1,11 @@
 // What an editor asks of texts before they are crunched. ./moldthatch gives it a letter, c to check, q to check and say nothing, d to name the
 // dialect, and then the names of files. What is found goes to standard output. No contract can say what is read or written.
 mod checks;
-mod sayings;
-mod sentence;
-mod steps;
-mod strange;
 
 use desk::input;
 use input::Input;
 use libc::STDIN_FILENO;
+use text_told::sayings;
 
 // Where the status goes that a program cannot end with.
 const STATUS_FILENO: i32 = 3;
@@ -49,16 +46,21 @@ fn take_input(letter: u8, name: &[u8], input: Input, text: &[u8]) -> Run {
     }
 }
 
-// Takes the text in the file that an argument names, or on standard input for -.
-fn take_file(letter: u8, argument: usize, text: &mut [u8]) -> Run {
-    let mut name = io::buffer();
-    let n = os::arg(argument, &mut name);
-    if n == 1 && name[0] == b'-' {
+// Takes the text in a file, or on standard input for -.
+fn take_named(letter: u8, name: &[u8], text: &mut [u8]) -> Run {
+    if name.len() == 1 && name[0] == b'-' {
         let input = input::read_input(STDIN_FILENO, text);
         return take_input(letter, b"standard input", input, text);
     }
-    let input = input::read_file(&name[..n], text);
-    take_input(letter, &name[..n], input, text)
+    let input = input::read_file(name, text);
+    take_input(letter, name, input, text)
+}
+
+// Takes the text in the file that an argument names.
+fn take_file(letter: u8, argument: usize, text: &mut [u8]) -> Run {
+    let mut name = io::buffer();
+    let n = os::arg(argument, &mut name);
+    take_named(letter, &name[..n], text)
 }
 
 // Takes the files that the arguments from the second on name. What cannot be read is told, and the others are taken all the same.

@@ -1,8 +1,8 @@
--- `text_check::sayings::line_start` is safe and ends.
+-- `text_told::sayings::line_start` is safe and ends.
 -- Assumes nothing.
 use borrow.Author.Needs.{needs}
-use Rattle.text_check.proofs.sayings.line_start.Statement.{statement}
-use Rattle.text_check.proofs.sayings.line_start.Tie as tie
+use Rattle.text_told.proofs.sayings.line_start.Statement.{statement}
+use Rattle.text_told.proofs.sayings.line_start.Tie as tie
 
 abbrev Inv-loop : tie.InvT-loop
 Inv-loop lines number k₀ from₀ k from = Unit {0}

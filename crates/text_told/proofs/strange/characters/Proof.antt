@@ -1,10 +1,10 @@
--- `text_check::strange::characters` is safe and ends.
+-- `text_told::strange::characters` is safe and ends.
 -- Assumes nothing.
 use Prim.Native.Nat.{_-_}
 use lib.ListN.{length}
 use borrow.Author.Needs.{needs}
-use Rattle.text_check.proofs.strange.characters.Statement.{statement}
-use Rattle.text_check.proofs.strange.characters.Tie as tie
+use Rattle.text_told.proofs.strange.characters.Statement.{statement}
+use Rattle.text_told.proofs.strange.characters.Tie as tie
 
 abbrev Inv-loop : tie.InvT-loop
 Inv-loop s i₀ n₀ i n = Unit {0}

@@ -1,8 +1,8 @@
--- `text_check::strange::check_line` is safe and ends.
+-- `text_told::strange::check_line` is safe and ends.
 -- Assumes nothing.
 use borrow.Author.Needs.{needs}
-use Rattle.text_check.proofs.strange.check_line.Statement.{statement}
-use Rattle.text_check.proofs.strange.check_line.Tie as tie
+use Rattle.text_told.proofs.strange.check_line.Statement.{statement}
+use Rattle.text_told.proofs.strange.check_line.Tie as tie
 
 abbrev Inv-loop : tie.InvT-loop
 Inv-loop name k line t₀ at₀ column₀ left₀ t at column left = Unit {0}

@@ -27,29 +27,30 @@ fn columns(s: &[u8]) -> usize {
     behind - 1
 }
 
-// The escape that is nearest to what stands between braces, in words; none where no name is near.
-fn put_near(inside: &[u8], words: &mut [u8], name: &[u8]) -> usize {
-    let a = sayings::add(words, 0, b"; the nearest name is {");
-    let b = sayings::add(words, a, name);
+// Adds the count that stands between braces to a name.
+fn add_count(near: &mut [u8], n: usize, inside: &[u8]) -> usize {
     let count = parts::count_part(inside);
     if count.len() == 0 {
-        return sayings::add(words, b, b"}");
+        return n;
     }
-    let c = sayings::add(words, b, b"*");
-    let d = sayings::add(words, c, count);
-    sayings::add(words, d, b"}")
+    let a = sayings::add(near, n, b"*");
+    sayings::add(near, a, count)
+}
+
+// Puts the escape that is nearest to what stands between braces into a buffer; nothing where no name is near.
+fn put_near(near: &mut [u8], inside: &[u8]) -> usize {
+    let n = names::put_nearest(inside, near);
+    if n == 0 {
+        return 0;
+    }
+    add_count(near, n, inside)
 }
 
 // What an author has put behind a {, and the name that is nearest to it.
 fn tell_stray(tally: Tally, name: &[u8], at: Place, saying: usize, inside: &[u8]) -> Tally {
-    let mut near = [0u8; 16];
-    let n = names::put_nearest(inside, &mut near);
-    if n == 0 {
-        return sentence::tell(tally, name, at, saying, inside, b"");
-    }
-    let mut words = [0u8; 64];
-    let m = put_near(inside, &mut words, sayings::cut(&near, 0, n));
-    sentence::tell(tally, name, at, saying, inside, sayings::cut(&words, 0, m))
+    let mut near = [0u8; 40];
+    let n = put_near(&mut near, inside);
+    sentence::tell(tally, name, at, saying, inside, sayings::cut(&near, 0, n))
 }
 
 // A { that begins no escape.

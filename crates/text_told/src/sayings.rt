@@ -47,10 +47,16 @@ pub const OPEN: usize = 20;
 
 pub const LONG: usize = 21;
 
+pub const NEAREST: usize = 22;
+
+pub const BY_LINE: usize = 23;
+
+pub const BY_NONE: usize = 24;
+
 // The sentences from this one on are remarks: no release refuses a text for them.
 pub const REMARKS: usize = TSB_WORD;
 
-const SENTENCES: [u8; 1025] = *b"\
+const SENTENCES: [u8; 1124] = *b"\
     fault: line number % is above 63999\n\
     fault: line number % is not above the one before\n\
     fault: no line number\n\
@@ -72,7 +78,10 @@ const SENTENCES: [u8; 1025] = *b"\
     remark: a tab or another control in the code\n\
     remark: {%} is no escape and stays as it is\n\
     remark: {% has no } and stays as it is\n\
-    remark: {%.. is no escape and stays as it is\n";
+    remark: {%.. is no escape and stays as it is\n\
+    ; the nearest name is {%}\n\
+    : dialect tsb: line % decides\n\
+    : dialect basicv2: no line decides for tsb\n";
 
 // A sum of places in a text, which are never as large as this.
 pub fn sum(a: usize, b: usize) -> usize {

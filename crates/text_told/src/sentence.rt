@@ -42,13 +42,21 @@ fn write(fd: i32, line: &mut [u8], at: usize) -> bool {
     result::write_to(fd, b"standard output", &line[0..n])
 }
 
-// Writes a sentence about a place, with a part of the text in it and more behind it.
-fn write_told(name: &[u8], place: Place, saying: usize, part: &[u8], more: &[u8]) -> bool {
+// Puts a sentence with a part of the text into a line, and the nearest name behind it where there is one.
+fn add_told(line: &mut [u8], at: usize, saying: usize, part: &[u8], near: &[u8]) -> usize {
+    let a = sayings::put_sentence(line, at, saying, part);
+    if near.len() == 0 {
+        return a;
+    }
+    sayings::put_sentence(line, a, sayings::NEAREST, near)
+}
+
+// Writes a sentence about a place.
+fn write_told(name: &[u8], place: Place, saying: usize, part: &[u8], near: &[u8]) -> bool {
     let mut line = [0u8; 9216];
     let a = add_place(&mut line, name, place);
-    let b = sayings::put_sentence(&mut line, a, saying, part);
-    let c = add(&mut line, b, more);
-    write(STDOUT_FILENO, &mut line, c)
+    let b = add_told(&mut line, a, saying, part, near);
+    write(STDOUT_FILENO, &mut line, b)
 }
 
 // Tells a fault or a remark, unless nothing is to be written.
@@ -58,7 +66,7 @@ pub fn tell(
     place: Place,
     saying: usize,
     part: &[u8],
-    more: &[u8],
+    near: &[u8],
 ) -> Tally {
     let faulty = tally.faulty || saying < sayings::REMARKS;
     if tally.quiet {
@@ -68,7 +76,7 @@ pub fn tell(
             quiet: true,
         };
     }
-    let told = write_told(name, place, saying, part, more);
+    let told = write_told(name, place, saying, part, near);
     Tally {
         faulty,
         failed: tally.failed || !told,
@@ -86,21 +94,11 @@ pub fn tell_line(tally: Tally, name: &[u8], k: usize, saying: usize, part: &[u8]
     tell(tally, name, Place { line: k, column: 1 }, saying, part, b"")
 }
 
-// Writes the last line about a file, with a number in it.
-pub fn close(name: &[u8], before: &[u8], n: usize, behind: &[u8]) -> bool {
+// Writes the last line about a file.
+pub fn close(name: &[u8], saying: usize, part: &[u8]) -> bool {
     let mut line = [0u8; 9216];
     let a = add(&mut line, 0, name);
-    let b = add(&mut line, a, before);
-    let c = add_number(&mut line, b, n);
-    let d = add(&mut line, c, behind);
-    write(STDOUT_FILENO, &mut line, d)
-}
-
-// The same without a number.
-pub fn close_bare(name: &[u8], text: &[u8]) -> bool {
-    let mut line = [0u8; 9216];
-    let a = add(&mut line, 0, name);
-    let b = add(&mut line, a, text);
+    let b = sayings::put_sentence(&mut line, a, saying, part);
     write(STDOUT_FILENO, &mut line, b)
 }
 
