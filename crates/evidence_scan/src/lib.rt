@@ -19,7 +19,7 @@ ghost use Rattle.tables.specs.WordsHelpers.{SpellsWords};
 ghost use Rattle.evidence_scan.specs.Evidence.{wordProves, statementStep, evidenceStep, numberLength, lineEvidence, listPlace, decidingPlace, decidingWord};
 ghost use Rattle.word_uses.specs.MarkHelpers.{MarksOf};
 
-// The word that proves it.
+// The first word of a line that proves that a text is TSB.
 pub enum DecidingWord {
     // So many bytes into the line; and its place in the TSB list.
     Decides { offset: usize, word: usize },

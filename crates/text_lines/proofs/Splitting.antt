@@ -260,7 +260,7 @@ all-lines rule t = lines-from rule t (length t) 0 (omega arith)
 -- ---- the loop that looks for the end of the line that begins at a place
 
 -- it may start behind the blanks
-seeking-start : (rule : LineRule) (t : List ℕ) (from : ℕ) {begin : ℕ} → begin ≡ from + front isBlank (drop from t) → Onward (lineLength rule) t from begin
+pub seeking-start : (rule : LineRule) (t : List ℕ) (from : ℕ) {begin : ℕ} → begin ≡ from + front isBlank (drop from t) → Onward (lineLength rule) t from begin
 seeking-start rule t from {begin} q =
     let g = front isBlank (drop from t) in
     let d : drop g (drop from t) ≡ drop begin t = drop-drop g from t ∙ ap (λ (n : ℕ). drop n t) (sym q) in
@@ -312,10 +312,13 @@ seeking-by rule {t} {from} {i} o (suc n) f =
     let e : i + n + 1 ≡ i + suc n = omega arith in
     subst (Onward (lineLength rule) t from) e (seeking-above rule (a .1) (a .0) (seeking-by rule o n (λ k h l. f k h (omega arith))))
 
-pub seeking-passed : (rule : LineRule) {t : List ℕ} {from begin i : ℕ} → AboveCr t begin i → begin ≡ from + front isBlank (drop from t) → Onward (lineLength rule) t from i
-seeking-passed rule {t} {from} {begin} {i} a q =
-    let e : begin + (i - begin) ≡ i = omega (arith, a .up) in
-    subst (Onward (lineLength rule) t from) e (seeking-by rule (seeking-start rule t from q) (i - begin) (λ k h l. a .above k h (omega (arith, a .up))))
+pub seeking-passed : (rule : LineRule) {t : List ℕ} {from i j : ℕ} → AboveCr t (i + 1) j → 0x0D < getD t i 0 → i < length t → Onward (lineLength rule) t from i → Onward (lineLength rule) t from j
+seeking-passed rule {t} {from} {i} {j} a b h o =
+    let e : i + 1 + (j - (i + 1)) ≡ j = omega (arith, a .up) in
+    subst (Onward (lineLength rule) t from) e (seeking-by rule (seeking-above rule b h o) (j - (i + 1)) (λ k g l. a .above k g (omega (arith, a .up))))
+
+pub passed-less : {t : List ℕ} {i j : ℕ} → AboveCr t (i + 1) j → i < length t → length t - j < length t - i
+passed-less a h = omega (arith, a .up)
 
 -- ---- bytes above CR, four at a time
 
@@ -330,9 +333,15 @@ module _ {t : List ℕ} {from : ℕ} where
       go k l m (yes y) = o .above k l y
       go k l m (no n) = let q : i ≡ k = omega arith in subst (λ (x : ℕ). (x < length t) × (0x0D < getD t x 0)) q (h, b)
 
-  pub above-four : {i : ℕ} → 0x0D < getD t (i + 3) 0 → 0x0D < getD t (i + 2) 0 → 0x0D < getD t (i + 1) 0 → 0x0D < getD t i 0 → 4 ≤ length t - i → AboveCr t from i → AboveCr t from (i + 4)
-  above-four {i} d c b a h o =
-      above-one {i = i + 3} (omega arith) d (omega arith)
-      (above-one {i = i + 2} (omega arith) c (omega arith)
-      (above-one {i = i + 1} (omega arith) b (omega arith)
-      (above-one {i = i} (omega arith) a (omega arith) o)))
+  module _ {i : ℕ} (h : 4 ≤ length t - i) (o : AboveCr t from i) where
+    pub first-above : 0x0D < getD t i 0 → AboveCr t from (i + 1)
+    first-above a = above-one (omega arith) a (omega arith) o
+
+    pub two-above : 0x0D < getD t (i + 1) 0 → 0x0D < getD t i 0 → AboveCr t from (i + 2)
+    two-above b a = above-one {i = i + 1} (omega arith) b (omega arith) (first-above a)
+
+    pub three-above : 0x0D < getD t (i + 2) 0 → 0x0D < getD t (i + 1) 0 → 0x0D < getD t i 0 → AboveCr t from (i + 3)
+    three-above c b a = above-one {i = i + 2} (omega arith) c (omega arith) (two-above b a)
+
+    pub four-above : 0x0D < getD t (i + 3) 0 → 0x0D < getD t (i + 2) 0 → 0x0D < getD t (i + 1) 0 → 0x0D < getD t i 0 → AboveCr t from (i + 4)
+    four-above d c b a = above-one {i = i + 3} (omega arith) d (omega arith) (three-above c b a)

@@ -77,7 +77,7 @@ fn behind_blanks(text: &[u8], from: usize) -> usize
     i
 }
 
-// A place behind bytes above CR, which end no line: four at a time, as long as all four are.
+// A place behind bytes above CR, which end no line. They are passed four at a time, and fewer than four before the end of the text are left.
 fn behind_fours(text: &[u8], from: usize) -> usize
     ensures { λ r. ⌜ AboveCr (now (text .entry)) from r ⌝ }
 {
@@ -90,13 +90,13 @@ fn behind_fours(text: &[u8], from: usize) -> usize
             return i;
         }
         if text[i + 1] <= 0x0D {
-            return i;
+            return i + 1;
         }
         if text[i + 2] <= 0x0D {
-            return i;
+            return i + 2;
         }
         if text[i + 3] <= 0x0D {
-            return i;
+            return i + 3;
         }
         i += 4;
     }
@@ -108,11 +108,11 @@ pub fn next_line(text: &[u8], from: usize, rule: LineRule) -> TextLine
     ensures { λ r. ⌜ r ≡ lineFrom rule (now (text .entry)) from ⌝ }
 {
     let begin = behind_blanks(text, from);
-    let mut i = behind_fours(text, begin);
+    let mut i = begin;
     while i < text.len() {
-        // No byte above CR ends a line: one test for nearly each byte.
+        // No byte above CR ends a line.
         if text[i] > 0x0D {
-            i += 1;
+            i = behind_fours(text, i + 1);
         } else {
             let mark = end_mark(&text[i..], rule);
             if mark > 0 {

@@ -3,7 +3,7 @@
 use Prim.Native.Nat.{_-_, _≤_}
 use lib.ListN.{length}
 use Rattle.text_lines.specs.SplitHelpers.{AboveCr}
-use Rattle.text_lines.proofs.Splitting.{above-none, above-four}
+use Rattle.text_lines.proofs.Splitting.{above-none, first-above, two-above, three-above, four-above}
 use borrow.Author.Needs.{needs}
 use Rattle.text_lines.proofs.behind_fours.Statement.{statement}
 use Rattle.text_lines.proofs.behind_fours.Tie as tie
@@ -20,8 +20,17 @@ returns c = search above-none
 loop-holds : tie.Need-loop-holds Inv-loop μ-loop
 loop-holds c = search (needs, above-none)
 
+returns-3 : tie.Need-returns-3 Inv-loop μ-loop
+returns-3 c = search first-above
+
+returns-4 : tie.Need-returns-4 Inv-loop μ-loop
+returns-4 c = search two-above
+
+returns-5 : tie.Need-returns-5 Inv-loop μ-loop
+returns-5 c = search three-above
+
 loop-again : tie.Need-loop-again Inv-loop μ-loop
-loop-again c = search (needs, above-four)
+loop-again c = search (needs, four-above)
 
 pub behind-fours-spec : {M : Type 1} → statement M
 behind-fours-spec =
@@ -37,12 +46,15 @@ behind-fours-spec =
     (λ c. search needs)
     (λ c. search needs)
     (λ c. search needs)
+    returns-3
     (λ c. search needs)
     (λ c. search needs)
     (λ c. search needs)
+    returns-4
     (λ c. search needs)
     (λ c. search needs)
     (λ c. search needs)
+    returns-5
     (λ c. search needs)
     (λ c. search needs)
     loop-again

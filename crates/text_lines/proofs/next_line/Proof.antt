@@ -5,7 +5,7 @@ use native.Mathlib.Omega.{arith}
 use lib.ListN.{length}
 use Rattle.ascii.proofs.Searching.{Onward}
 use Rattle.text_lines.specs.SplitHelpers.{lineLength}
-use Rattle.text_lines.proofs.Splitting.{seeking-passed, seeking-above, seeking-turn, seeking-found, seeking-end, mark-small}
+use Rattle.text_lines.proofs.Splitting.{seeking-start, seeking-passed, passed-less, seeking-turn, seeking-found, seeking-end, mark-small}
 use borrow.Author.Needs.{needs}
 use Rattle.text_lines.proofs.next_line.Statement.{statement}
 use Rattle.text_lines.proofs.next_line.Tie as tie
@@ -17,10 +17,13 @@ abbrev μ-loop : tie.MeasureT-loop
 μ-loop text from rule begin i₀ i = length text - i
 
 loop-holds : tie.Need-loop-holds Inv-loop μ-loop
-loop-holds c = search seeking-passed
+loop-holds c = search seeking-start
+
+loop-less : tie.Need-loop-less Inv-loop μ-loop
+loop-less c = search passed-less
 
 loop-again : tie.Need-loop-again Inv-loop μ-loop
-loop-again c = search seeking-above
+loop-again c = search seeking-passed
 
 returns : tie.Need-returns Inv-loop μ-loop
 returns c = search seeking-found
@@ -38,11 +41,11 @@ next-line-spec =
     Inv-loop
     μ-loop
     (λ c κs. search needs)
-    (λ c κs. search needs)
     loop-holds
     (λ c. search needs)
     (λ c. search needs)
-    (λ c. search needs)
+    (λ c κs. search needs)
+    loop-less
     loop-again
     (λ c. search needs)
     (λ c. search needs)
