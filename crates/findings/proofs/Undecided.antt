@@ -16,7 +16,11 @@ use Rattle.text_lines.proofs.Splitting.{line-step, lines-end}
 use Rattle.ascii.proofs.Choice.{taken, left}
 use Rattle.evidence_scan.specs.Evidence.{lineEvidence}
 use Rattle.guess.specs.Guess.{anyEvidence, evidence}
-use Rattle.findings.specs.Deciding.{decidedBehind, decidingLine}
+use Rattle.words.specs.Find.{wordIn}
+use Rattle.words.specs.declared.Match.{Match}
+use Rattle.words.specs.declared.Match.the-variants.{Word, Nothing}
+use Rattle.tables.specs.Tsb.{tsbWords}
+use Rattle.findings.specs.Deciding.{decidedBehind, decidingLine, tsbLength}
 use Rattle.findings.specs.declared.deciding.Decided.{Decided}
 use Rattle.findings.specs.declared.deciding.Decided.the-variants.{ByLine, ByNone}
 
@@ -69,3 +73,14 @@ any-decided k (l ∷ ls) = go (any-decided (k + 1) ls) (lineEvidence l)
 pub decided-by-evidence : (rule : LineRule) (t : List ℕ) → isDecided (decidingLine rule t) ≡ evidence rule t
 unfolding decidingLine evidence
 decided-by-evidence rule t = any-decided 0 (textLines rule t)
+
+-- ---- the length of a TSB word
+
+module _ (t : List ℕ) {m : Match} where
+  pub length-found : {index used token : ℕ} → m ≡ Word index used token → m ≡ wordIn tsbWords t → used ≡ tsbLength t
+  unfolding tsbLength
+  length-found e q = rw (sym q ∙ e)
+
+  pub length-none : m ≡ Nothing → m ≡ wordIn tsbWords t → 0 ≡ tsbLength t
+  unfolding tsbLength
+  length-none e q = rw (sym q ∙ e)

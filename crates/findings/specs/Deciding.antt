@@ -3,6 +3,9 @@
 use Prim.Native.Nat.{ℕ, suc, _+_}
 use mathlib.Core.Bool.{true, false}
 use mathlib.Core.List.{List, [], _∷_}
+use Rattle.words.specs.Find.{wordIn}
+use Rattle.words.specs.declared.Match.the-variants.{Word, Nothing}
+use Rattle.tables.specs.Tsb.{tsbWords}
 use Rattle.text_lines.specs.TextLines.{textLines}
 use Rattle.text_lines.specs.declared.LineRule.{LineRule}
 use Rattle.evidence_scan.specs.Evidence.{lineEvidence}
@@ -18,3 +21,8 @@ decidedBehind k (l ∷ ls) = elim (lineEvidence l) [ true ↦ ByLine (k + 1) | f
 unfoldable pub decidingLine : LineRule → List ℕ → Decided
 unfolding decidedBehind textLines
 decidingLine rule t = decidedBehind 0 (textLines rule t)
+
+-- how many bytes the TSB word takes that a text begins with; 0 where there is none
+unfoldable pub tsbLength : List ℕ → ℕ
+unfolding wordIn tsbWords
+tsbLength t = elim (wordIn tsbWords t) [ Word index used token ↦ used | Nothing ↦ 0 ]

@@ -4,6 +4,7 @@ use guess::resolve;
 use matching::sets::Sets;
 use tables::spellings;
 use text_lines::LineRule;
+use words::Match;
 ghost use mathlib.Core.Path.{_≡_};
 ghost use Prim.Native.Nat.{min};
 ghost use lib.ListN.{length};
@@ -12,7 +13,7 @@ ghost use Rattle.dialect.specs.declared.Dialect.the-variants.{Auto};
 ghost use Rattle.guess.specs.Guess.{wordSets};
 ghost use Rattle.body_steps.specs.Lexicon.{lexicon};
 ghost use Rattle.body.specs.Body.{crunchedBody};
-ghost use Rattle.findings.specs.Deciding.{decidingLine};
+ghost use Rattle.findings.specs.Deciding.{decidingLine, tsbLength};
 
 // The first text line, from 1, that proves a text to be TSB; or none does.
 pub enum Decided {
@@ -43,6 +44,28 @@ fn deciding_with(text: &[u8], rule: LineRule, bytes: &[u8], index: &[u16]) -> De
         at = line.next;
     }
     Decided::ByNone
+}
+
+// How many bytes the TSB word takes that a text begins with; 0 where there is none.
+pub fn tsb_length(text: &[u8]) -> usize
+    ensures { λ r. ⌜ r ≡ tsbLength (now (text .entry)) ⌝ }
+{
+    length_with(text, &spellings::WORD_BYTES, &spellings::WORD_INDEX)
+}
+
+// The same, with the tables lent.
+fn length_with(text: &[u8], bytes: &[u8], index: &[u16]) -> usize
+    requires { ⌜ SpellsWords (now bytes) (now index) ⌝ }
+    ensures { λ r. ⌜ r ≡ tsbLength (now (text .entry)) ⌝ }
+{
+    match matching::match_tsb(text, bytes, index) {
+        Match::Word {
+            index: _,
+            used,
+            token: _,
+        } => used,
+        Match::Nothing => 0,
+    }
 }
 
 // The words that are looked for when a text is crunched under Auto.

@@ -3,6 +3,7 @@ use crate::Run;
 use desk::result;
 use dialect::Dialect;
 use domain::TextCheck;
+use evidence_scan::DecidingWord;
 use findings::deciding;
 use findings::deciding::Decided;
 use findings::line_faults;
@@ -174,11 +175,47 @@ fn check_room(tally: Tally, name: &[u8], text: &[u8]) -> Tally {
     tally
 }
 
-// Says that a line decides for TSB.
-fn close_by(name: &[u8], k: usize) -> bool {
-    let mut digits = [0u8; 20];
-    let n = io::decimal(k as u64, &mut digits);
-    sentence::close(name, sayings::BY_LINE, &digits[..n])
+// Where a text line begins, counted from 1.
+fn line_start(text: &[u8], number: usize) -> usize {
+    let mut at: usize = 0;
+    let mut k: usize = 1;
+    while at < text.len() {
+        if k >= number {
+            return at;
+        }
+        let line = text_lines::next_line(text, at, LineRule::AsGiven);
+        k = sayings::sum(k, 1);
+        at = line.next;
+    }
+    at
+}
+
+// Says that a line decides for TSB, and by which word.
+fn close_by(name: &[u8], k: usize, line: &[u8]) -> bool {
+    let from = match evidence_scan::deciding_word(line) {
+        DecidingWord::Decides { offset, word: _ } => offset,
+        DecidingWord::NoneDecides => 0,
+    };
+    let rest = sayings::cut(line, from, line.len());
+    let place = Place {
+        line: k,
+        column: sayings::sum(from, 1),
+    };
+    sentence::close_by(
+        name,
+        place,
+        sayings::cut(rest, 0, deciding::tsb_length(rest)),
+    )
+}
+
+// The same of the line with this number.
+fn close_line(name: &[u8], k: usize, text: &[u8]) -> bool {
+    let at = line_start(text, k);
+    if at >= text.len() {
+        return close_by(name, k, b"");
+    }
+    let line = text_lines::next_line(text, at, LineRule::AsGiven);
+    close_by(name, k, sayings::cut(text, at, line.end))
 }
 
 // The dialect, and what decides it.
@@ -190,7 +227,7 @@ fn summary(tally: Tally, name: &[u8], text: &[u8]) -> Run {
         };
     }
     let told = match deciding::deciding_line(text, LineRule::AsGiven) {
-        Decided::ByLine(k) => close_by(name, k),
+        Decided::ByLine(k) => close_line(name, k, text),
         Decided::ByNone => sentence::close(name, sayings::BY_NONE, b""),
     };
     Run {

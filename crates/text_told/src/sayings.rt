@@ -51,12 +51,16 @@ pub const NEAREST: usize = 22;
 
 pub const BY_LINE: usize = 23;
 
-pub const BY_NONE: usize = 24;
+pub const BY_WORD: usize = 24;
+
+pub const BY_COLUMN: usize = 25;
+
+pub const BY_NONE: usize = 26;
 
 // The sentences from this one on are remarks: no release refuses a text for them.
 pub const REMARKS: usize = TSB_WORD;
 
-const SENTENCES: [u8; 1124] = *b"\
+const SENTENCES: [u8; 1142] = *b"\
     fault: line number % is above 63999\n\
     fault: line number % is not above the one before\n\
     fault: no line number\n\
@@ -81,6 +85,8 @@ const SENTENCES: [u8; 1124] = *b"\
     remark: {%.. is no escape and stays as it is\n\
     ; the nearest name is {%}\n\
     : dialect tsb: line % decides\n\
+    , by %\n\
+    , column %\n\
     : dialect basicv2: no line decides for tsb\n";
 
 // A sum of places in a text, which are never as large as this.

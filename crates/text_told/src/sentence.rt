@@ -102,6 +102,23 @@ pub fn close(name: &[u8], saying: usize, part: &[u8]) -> bool {
     write(STDOUT_FILENO, &mut line, b)
 }
 
+// Writes the last line about a file that a word decides, which stands at a place.
+pub fn close_by(name: &[u8], place: Place, word: &[u8]) -> bool {
+    let mut line = [0u8; 9216];
+    let a = add(&mut line, 0, name);
+    let b = add_counted(&mut line, a, sayings::BY_LINE, place.line);
+    let c = sayings::put_sentence(&mut line, b, sayings::BY_WORD, word);
+    let d = add_counted(&mut line, c, sayings::BY_COLUMN, place.column);
+    write(STDOUT_FILENO, &mut line, d)
+}
+
+// Puts a sentence with a number into a line.
+fn add_counted(line: &mut [u8], at: usize, saying: usize, n: usize) -> usize {
+    let mut digits = [0u8; 20];
+    let m = io::decimal(n as u64, &mut digits);
+    sayings::put_sentence(line, at, saying, &digits[..m])
+}
+
 // Says on standard error why there is no result.
 pub fn refuse(name: &[u8], refusal: Refusal) -> bool {
     let mut text = [0u8; 128];
