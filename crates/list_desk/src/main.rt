@@ -49,7 +49,7 @@ fn end_listing(fd: i32, name: &[u8], written: bool) -> u8 {
 
 fn write_listing(file: &[u8], image: &[u8], options: ListOptions) -> u8 {
     let mut name = io::buffer();
-    let n = naming::put_name(file, &mut name);
+    let n = naming::listing_name(file, &mut name);
     let fd = result::begin(&name[..n]);
     if fd < 0 {
         return FAILED;

@@ -8,6 +8,7 @@ ghost use Prim.Native.Nat.{_<_};
 ghost use lib.ListN.{length};
 ghost use Rattle.io.specs.Counts.{Counts};
 
+// What stands behind a place.
 fn behind(word: &[u8], n: usize) -> &[u8]
     requires { ⌜ n < length (now word) ⌝ }
 {
@@ -15,6 +16,7 @@ fn behind(word: &[u8], n: usize) -> &[u8]
     &word[from..]
 }
 
+// What stands behind a word's last mark, or the word where it has none.
 fn behind_last(word: &[u8], mark: u8) -> &[u8] {
     match search::last(word, Kind::Is(mark)) {
         Found::At(n) => behind(word, n),
@@ -22,6 +24,7 @@ fn behind_last(word: &[u8], mark: u8) -> &[u8] {
     }
 }
 
+// The same of what stands before it.
 fn before_last(word: &[u8], mark: u8) -> &[u8] {
     match search::last(word, Kind::Is(mark)) {
         Found::At(n) => &word[..n],
@@ -31,7 +34,7 @@ fn before_last(word: &[u8], mark: u8) -> &[u8] {
 
 // Stores the listing's name in the folder that ./moldthatch gives in the place of OUT. Where a buffer of 4,096 bytes has no room for all of it, it is
 // full: no file has a name so long, and the system says so.
-pub fn put_name(file: &[u8], out: &mut [u8]) -> usize
+pub fn listing_name(file: &[u8], out: &mut [u8]) -> usize
     ensures { λ r. ⌜ Counts r (now (out .exit)) ⌝ }
 {
     let mut folder = io::buffer();

@@ -1,15 +1,15 @@
--- `list_desk::naming::put_name` is safe and ends.
+-- `list_desk::naming::listing_name` meets its contract.
 -- Assumes nothing.
 use Rattle.list_desk.proofs.Marks.{stored-counts}
 use borrow.Author.Needs.{needs}
-use Rattle.list_desk.proofs.naming.put_name.Statement.{statement}
-use Rattle.list_desk.proofs.naming.put_name.Tie as tie
+use Rattle.list_desk.proofs.naming.listing_name.Statement.{statement}
+use Rattle.list_desk.proofs.naming.listing_name.Tie as tie
 
 returns : tie.Need-returns
 returns c = search stored-counts
 
-pub put-name-spec : {M : Type 1} → statement M
-put-name-spec =
+pub listing-name-spec : {M : Type 1} → statement M
+listing-name-spec =
     tie.close
     (tie.spec
     (λ c κs. search needs)
