@@ -3,7 +3,7 @@ use counting::Carried;
 use refusals::Code;
 ghost use mathlib.Core.Path.{_≡_};
 ghost use lib.ListN.{getD};
-ghost use Rattle.counting.specs.Tokens.{countedTokens};
+ghost use Rattle.counted_tokens.specs.Tokens.{countedTokens};
 ghost use Rattle.counting.specs.Totals.{isTotals, tokensCounted, shareOf};
 ghost use Rattle.counting.specs.Carried.{withImage, joined, carriedAnswer};
 ghost use Rattle.moldthatch.specs.Told.{toldTotals, fateCode};
