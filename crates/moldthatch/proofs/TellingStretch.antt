@@ -26,12 +26,12 @@ use Rattle.moldthatch.specs.declared.ListNumbers.{ListNumbers}
 use Rattle.moldthatch.specs.declared.stretch.PlaceNumbers.{PlaceNumbers}
 use Rattle.moldthatch.specs.declared.stretch.StretchCode.{StretchCode}
 use Rattle.moldthatch.specs.Given.{listOptions}
-use Rattle.moldthatch.specs.ToldStretch.{placeNumbers, placeOfKind, placeOf, stretchCode, StretchTold, stretchTold, stretchedWith}
+use Rattle.moldthatch.specs.ToldStretch.{placeNumbers, placeOfKind, stretchPlace, stretchCode, StretchTold, stretchTold, stretchedWith}
 use Rattle.moldthatch.proofs.TellingOptions.{of-known, of-unknown}
 
 -- ---- numbers name the place that they were made from
 
-pub place-back : (p : Place) → placeOf (placeNumbers p) ≡ p
+pub place-back : (p : Place) → stretchPlace (placeNumbers p) ≡ p
 unfolding placeOfKind
 place-back (Number n) = refl
 place-back (Body at mode) = ap (Body at) (mode-back mode)
@@ -40,11 +40,11 @@ place-back Over = refl
 -- ---- places
 
 module _ (x : PlaceNumbers) where
-  pub place-number : x .kind ≡ 0 → Number (x .number) ≡ placeOf x
+  pub place-number : x .kind ≡ 0 → Number (x .number) ≡ stretchPlace x
   unfolding placeOfKind
   place-number e = ap (λ (k : ℕ). placeOfKind k x) (sym e)
 
-  pub place-body : x .kind ≡ 1 → {m : Mode} → m ≡ modeOf (x .mode) → Body (x .at) m ≡ placeOf x
+  pub place-body : x .kind ≡ 1 → {m : Mode} → m ≡ modeOf (x .mode) → Body (x .at) m ≡ stretchPlace x
   unfolding placeOfKind
   place-body e is = ap (Body (x .at)) is ∙ ap (λ (k : ℕ). placeOfKind k x) (sym e)
 
@@ -73,7 +73,7 @@ abbrev heldBy : List ℕ → List ℕ → ListOptions → Place → Stretched
 heldBy body buffer p q = stretchOf (rulesUnder p) body (length buffer) q
 
 module _ (g : ListNumbers) (body : List ℕ) (x : PlaceNumbers) (buffer : List ℕ) {n : Named} (answer : namedAnswer n ≡ byNumber (g .dialect)) {c : StretchCode} where
-  pub tells-stretch : {d : Dialect} → n ≡ Known d → {p : ListOptions} → p ≡ listOptions g d → {q : Place} → q ≡ placeOf x → (r : Stretch) → c ≡ stretchCode r → {b : List ℕ}
+  pub tells-stretch : {d : Dialect} → n ≡ Known d → {p : ListOptions} → p ≡ listOptions g d → {q : Place} → q ≡ stretchPlace x → (r : Stretch) → c ≡ stretchCode r → {b : List ℕ}
       → (r ≡ stretchAnswer (stretchOf (rulesUnder p) body (length buffer) q)) × (b ≡ sets buffer 0 (stretchOf (rulesUnder p) body (length buffer) q .text))
       → _≡_ {A = StretchTold} (record { told = c; buffer = b }) (stretchedWith g body x buffer)
   tells-stretch {d} e {p} is {q} at r code {b} meets =
@@ -81,9 +81,9 @@ module _ (g : ListNumbers) (body : List ℕ) (x : PlaceNumbers) (buffer : List �
       ∙ ap (λ (y : List ℕ). record { told = stretchCode (stretchAnswer (heldBy body buffer p q)); buffer = y }) (meets .1)
       ∙ ap (λ (y : ListOptions). stretchTold x buffer (done (heldBy body buffer y q))) is
       ∙ ap (λ (y : Place). stretchTold x buffer (done (heldBy body buffer (listOptions g d) y))) at
-      ∙ ap (stretchTold x buffer) (of-known (λ k. done (heldBy body buffer (listOptions g k) (placeOf x))) (g .dialect) answer e)
+      ∙ ap (stretchTold x buffer) (of-known (λ k. done (heldBy body buffer (listOptions g k) (stretchPlace x))) (g .dialect) answer e)
 
   pub tells-unstretched : {r : Refusal} → n ≡ Refused r → c ≡ record { code = codeOf (numbered r); place = x } → _≡_ {A = StretchTold} (record { told = c; buffer = buffer }) (stretchedWith g body x buffer)
   tells-unstretched e code =
       ap (λ (y : StretchCode). record { told = y; buffer = buffer }) code
-      ∙ ap (stretchTold x buffer) (of-unknown (λ k. done (heldBy body buffer (listOptions g k) (placeOf x))) (g .dialect) answer e)
+      ∙ ap (stretchTold x buffer) (of-unknown (λ k. done (heldBy body buffer (listOptions g k) (stretchPlace x))) (g .dialect) answer e)

@@ -30,8 +30,8 @@ placeOfKind zero x = Number (x .number)
 placeOfKind (suc zero) x = Body (x .at) (modeOf (x .mode))
 placeOfKind (suc (suc n)) x = Over
 
-abbrev pub placeOf : PlaceNumbers → Place
-placeOf x = placeOfKind (x .kind) x
+abbrev pub stretchPlace : PlaceNumbers → Place
+stretchPlace x = placeOfKind (x .kind) x
 
 abbrev pub stretchCode : Stretch → StretchCode
 stretchCode s = record { code = answerCode (done (s .length ∷ [])); place = placeNumbers (s .place) }
@@ -48,4 +48,4 @@ stretchTold x buffer (refused n) = record { told = record { code = codeOf n; pla
 
 abbrev pub stretchedWith : ListNumbers → List ℕ → PlaceNumbers → List ℕ → StretchTold
 stretchedWith o body x buffer =
-    stretchTold x buffer (andThen (byNumber (o .dialect)) (λ d. done (stretchOf (rulesUnder (listOptions o d)) body (length buffer) (placeOf x))))
+    stretchTold x buffer (andThen (byNumber (o .dialect)) (λ d. done (stretchOf (rulesUnder (listOptions o d)) body (length buffer) (stretchPlace x))))

@@ -9,7 +9,7 @@ use refusals::Refusal;
 ghost use mathlib.Core.Path.{_≡_};
 ghost use Rattle.refusals.specs.Answer.{numbered};
 ghost use Rattle.refusals.specs.Code.{codeOf};
-ghost use Rattle.moldthatch.specs.ToldStretch.{placeOf, placeNumbers, stretchCode, stretchedWith};
+ghost use Rattle.moldthatch.specs.ToldStretch.{stretchPlace, placeNumbers, stretchCode, stretchedWith};
 
 // What is left of a line: of kind 0 all of it, with its number; of kind 1 its body from a place on, in a mode, and the line's end; of any
 // other kind nothing. A mode is 1 in quotes, 2 in a remark, 3 in DATA, 4 in quotes there, and any other number in none of them.
@@ -69,7 +69,7 @@ fn refused_stretch(refusal: Refusal, place: PlaceNumbers) -> StretchCode
 }
 
 fn place_of(given: PlaceNumbers) -> Place
-    ensures { λ r. ⌜ r ≡ placeOf given ⌝ }
+    ensures { λ r. ⌜ r ≡ stretchPlace given ⌝ }
 {
     let kind = given.kind;
     match kind {
