@@ -252,6 +252,9 @@ scanned-start l {i} e = record { within = omega (arith, number-le l); gives = ap
 pub scanned-end : {line : List ℕ} {w : Found} {place : Place} {i : ℕ} → length line ≤ i → Scanned line w place i → Nowhere ≡ w
 scanned-end {line} {w} {place} {i} h k = sym (none-left i place) ∙ (rw (drop-of-length-le line h) at (k .gives))
 
+pub empty-nowhere : (line : List ℕ) → length line ≡ 0 → Nowhere ≡ decidingPlace line
+empty-nowhere line h = scanned-end {i = numberLength line} (omega arith) (scanned-start line refl)
+
 module _ (line : List ℕ) (place : Place) (i : ℕ) {s : EvidenceStep} where
   there : {x : EvidenceStep} → s ≡ x → s ≡ evidenceStep place (rest line i) → i < length line → decidingFrom i place (drop i line) ≡ behindStep from i (drop i line) x
   there e q h = stepped i place (drop i line) e (q ∙ ap (evidenceStep place) (tail line i)) (omega (arith, length-drop i line))

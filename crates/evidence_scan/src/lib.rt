@@ -201,6 +201,10 @@ fn deciding_place(line: &[u8], bytes: &[u8], index: &[u16]) -> Found
     ensures { λ r. ⌜ r ≡ decidingPlace (now (line .entry)) ⌝ }
 {
     let n = line.len();
+    // Of a line of blanks nothing is left.
+    if n == 0 {
+        return Found::Nowhere;
+    }
     if n > 256 {
         if n <= 16384 {
             return long_place(line, bytes, index);

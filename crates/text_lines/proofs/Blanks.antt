@@ -8,10 +8,10 @@ use native.Mathlib.Omega.{arith}
 use lib.Dec.{eqb}
 use lib.ListN.{length, getD, take, drop}
 use lib.Seq.{drop-drop}
-use borrow.Author.Tests.{eqb-true, not-false}
+use borrow.Author.Tests.{eqb-true, eq-eqb, not-false}
 use Rattle.ascii.specs.Bytes.{between, isSpace}
 use Rattle.ascii.specs.Search.{equals, isWhite, isBlank, front}
-use Rattle.ascii.proofs.Searching.{Onward, onward-start, from-end, from-found, front-nil, front-more, front-none, front-drop, front-wider}
+use Rattle.ascii.proofs.Searching.{Onward, onward-start, here, from-end, from-found, front-nil, front-more, front-none, front-drop, front-wider}
 
 -- ---- one byte
 
@@ -49,12 +49,16 @@ module _ (t : List ℕ) (from : ℕ) where
   blanks-none e q h = from-found isBlank e q h (onward-start (front isBlank) t from)
 
   -- a run of one blank is passed first
-  pub blanks-run : (b : ℕ) {n : ℕ} {r : Bool} → n ≡ from + front (equals b) (drop from t) → not r ≡ false → r ≡ isBlank b → Onward (front isBlank) t from n
-  blanks-run b {n} {r} run e q =
+  pub blanks-run : {n : ℕ} {r : Bool} → n ≡ from + 1 + front (equals (getD t from 0)) (drop (from + 1) t) → not r ≡ false → r ≡ isBlank (getD t from 0) → from < length t
+      → Onward (front isBlank) t from n
+  blanks-run {n} {r} run e q h =
+      let b = getD t from 0 in
       let k = front (equals b) (drop from t) in
+      let one : k ≡ suc (front (equals b) (drop (from + 1) t)) = rw (here t from h) (front-more (equals b) b (drop (from + 1) t) (eq-eqb b b refl)) in
       let blank : isBlank b ≡ true = sym q ∙ not-false r e in
       let wider = front-wider isBlank (equals b) (λ x p. ap isBlank (eqb-true x b p) ∙ blank) (drop from t) in
-      let rest : drop n t ≡ drop k (drop from t) = ap (λ (m : ℕ). drop m t) run ∙ sym (drop-drop k from t) in
+      let far : n ≡ from + k = omega arith in
+      let rest : drop n t ≡ drop k (drop from t) = ap (λ (m : ℕ). drop m t) far ∙ sym (drop-drop k from t) in
       record { gives = omega (arith, ap (front isBlank) rest, front-drop isBlank k (drop from t) wider) }
 
 -- ---- what one blank in front does not change, all of them in front of a line do not

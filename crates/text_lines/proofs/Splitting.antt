@@ -12,7 +12,7 @@ use lib.ListN.{length, getD, take, drop, drop-of-length-le, length-drop}
 use lib.Seq.{drop-drop}
 use borrow.Author.Tests.{eqb-true, ne-eqb, lt-ltb, le-ltb, not-true, not-false}
 use Rattle.ascii.specs.Search.{startsWith, isBlank, front}
-use Rattle.ascii.proofs.Searching.{Onward, onward-by, onward-end, tail, here, starts-long, front-nil, front-more, front-none}
+use Rattle.ascii.proofs.Searching.{Onward, onward-start, onward-by, onward-end, tail, here, starts-long, front-nil, front-more, front-none}
 use Rattle.text_lines.specs.TextLines.{crLf, loneCr, onto, atLf, textLines}
 use Rattle.text_lines.specs.SplitHelpers.{endMark, lineLength, lineUsed, lineFrom, AboveCr}
 use Rattle.text_lines.specs.declared.LineRule.{LineRule}
@@ -303,6 +303,16 @@ module _ (rule : LineRule) {t : List ℕ} {from i : ℕ} where
       let up : endMark rule (getD t i 0 ∷ drop (i + 1) t) ≡ suc (m - 1) = omega (arith, ap (endMark rule) (here t i h)) in
       seeking-is (rw (here t i h) (length-end rule _ _ up)) at b o
 
+-- an LF in front ends a line without bytes
+pub seeking-none : (rule : LineRule) (t : List ℕ) (from : ℕ) → getD t from 0 ≡ 0x0A → from < length t → record { begin = from; end = from; next = from + 1 } ≡ lineFrom rule t from
+unfolding startsWith
+seeking-none rule t from b h =
+    let s = drop (from + 1) t in
+    let d : drop from t ≡ 0x0A ∷ s = here t from h ∙ ap (λ (x : ℕ). x ∷ s) b in
+    let m : endMark rule (0x0A ∷ s) ≡ 1 = sym (mark-lf rule (0x0A ∷ s) refl refl) in
+    let g : front isBlank (drop from t) ≡ 0 = rw d (front-none isBlank 0x0A s refl) in
+    seeking-is rule (rw d (length-end rule _ _ m)) (rw d (sym m)) (omega (arith, g)) (onward-start (lineLength rule) t from)
+
 -- it may pass bytes above CR at once
 seeking-by : (rule : LineRule) {t : List ℕ} {from i : ℕ} → Onward (lineLength rule) t from i → (n : ℕ) → ((k : ℕ) → i ≤ k → k < i + n → (k < length t) × (0x0D < getD t k 0))
     → Onward (lineLength rule) t from (i + n)
@@ -332,6 +342,9 @@ module _ {t : List ℕ} {from : ℕ} where
       go : (k : ℕ) → from ≤ k → k < j → Dec (k < i) → (k < length t) × (0x0D < getD t k 0)
       go k l m (yes y) = o .above k l y
       go k l m (no n) = let q : i ≡ k = omega arith in subst (λ (x : ℕ). (x < length t) × (0x0D < getD t x 0)) q (h, b)
+
+  pub above-first : 0x0D < getD t from 0 → from < length t → AboveCr t from (from + 1)
+  above-first b h = above-one refl b h (above-none t from)
 
   module _ {i : ℕ} (h : 4 ≤ length t - i) (o : AboveCr t from i) where
     pub first-above : 0x0D < getD t i 0 → AboveCr t from (i + 1)

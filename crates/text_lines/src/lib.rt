@@ -67,7 +67,7 @@ fn behind_blanks(text: &[u8], from: usize) -> usize
     if !search::is_kind(first, Kind::Blank) {
         return from;
     }
-    let mut i = behind_run(text, from, first);
+    let mut i = behind_run(text, from + 1, first);
     while i < text.len() {
         if !search::is_kind(text[i], Kind::Blank) {
             return i;
@@ -77,14 +77,18 @@ fn behind_blanks(text: &[u8], from: usize) -> usize
     i
 }
 
-// A place behind bytes above CR, which end no line. They are passed four at a time, and fewer than four before the end of the text are left.
+// A place behind bytes above CR, which end no line. Behind the first they are passed four at a time, and fewer than four before the end of the
+// text are left.
 fn behind_fours(text: &[u8], from: usize) -> usize
     ensures { λ r. ⌜ AboveCr (now (text .entry)) from r ⌝ }
 {
-    if text.len() < from {
+    if text.len() <= from {
         return from;
     }
-    let mut i: usize = from;
+    if text[from] <= 0x0D {
+        return from;
+    }
+    let mut i: usize = from + 1;
     while text.len() - i >= 4 {
         if text[i] <= 0x0D {
             return i;
@@ -107,6 +111,16 @@ fn behind_fours(text: &[u8], from: usize) -> usize
 pub fn next_line(text: &[u8], from: usize, rule: LineRule) -> TextLine
     ensures { λ r. ⌜ r ≡ lineFrom rule (now (text .entry)) from ⌝ }
 {
+    // In a run of line ends each line ends where it begins.
+    if from < text.len() {
+        if text[from] == 0x0A {
+            return TextLine {
+                begin: from,
+                end: from,
+                next: from + 1,
+            };
+        }
+    }
     let begin = behind_blanks(text, from);
     let mut i = begin;
     while i < text.len() {

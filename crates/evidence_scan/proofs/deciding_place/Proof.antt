@@ -1,9 +1,13 @@
 -- `evidence_scan::deciding_place` meets its contract.
 -- Assumes nothing.
 use Rattle.word_uses.proofs.Marks.{no-marks}
+use Rattle.evidence_scan.proofs.Steps.{empty-nowhere}
 use borrow.Author.Needs.{needs}
 use Rattle.evidence_scan.proofs.deciding_place.Statement.{statement}
 use Rattle.evidence_scan.proofs.deciding_place.Tie as tie
+
+returns : tie.Need-returns
+returns c = search empty-nowhere
 
 marked-place-requires : tie.Need-marked-place-requires
 marked-place-requires c κs = search no-marks
@@ -12,6 +16,7 @@ pub deciding-place-spec : {M : Type 1} → statement M
 deciding-place-spec =
     tie.close
     (tie.spec
+    returns
     (λ c κs. search needs)
     (λ c. search needs)
     (λ c κs. search needs)

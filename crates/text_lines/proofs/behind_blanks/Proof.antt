@@ -43,6 +43,7 @@ behind-blanks-spec =
     (λ c. search needs)
     (λ c κs. search needs)
     returns-2
+    (λ c. search needs)
     (λ c κs. search needs)
     loop-holds
     (λ c. search needs)
