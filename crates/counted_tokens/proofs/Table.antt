@@ -1,7 +1,7 @@
 -- The table of bodies and what is counted in them, by computation.
 -- Assumes nothing.
 use mathlib.Core.Path.{refl}
-use Rattle.readers.specs.Terminators.{beforeZero}
+use Rattle.image_bytes.specs.ImageBytes.{beforeZero}
 use Rattle.counted_tokens.specs.Tokens.{tokensOf, tokensFrom}
 use Rattle.counted_tokens.specs.CountedTable.{CountedTable}
 

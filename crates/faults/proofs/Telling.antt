@@ -16,10 +16,12 @@ use Rattle.refusals.specs.declared.Refusal.{Refusal}
 use Rattle.refusals.specs.Answer.{Answer, done}
 use Rattle.readers.specs.declared.Line.{Line}
 use Rattle.readers.specs.Bodies.{bodyOf, bodyFound, bodyAt}
-use Rattle.readers.specs.Image.{lowFirstAt, Found, line}
-use Rattle.readers.specs.Terminators.{beforeZero, bodyEnd, terminatedLine, terminatorStep}
+use Rattle.image_bytes.specs.ImageBytes.{lowFirstAt, beforeZero, bodyEnd}
+use Rattle.image_bytes.proofs.Zeros.{body-end-within}
+use Rattle.readers.specs.Image.{Found, line}
+use Rattle.readers.specs.Terminators.{terminatedLine, terminatorStep}
 use Rattle.readers.proofs.ByLinks.{link-found, link-sound}
-use Rattle.readers.proofs.ByTerminators.{terminator-line, body-end-within}
+use Rattle.readers.proofs.ByTerminators.{terminator-line}
 use Rattle.readers.proofs.Equations.{LiesAt}
 use Rattle.readers.proofs.Reading.{body-length}
 use Rattle.relink.specs.declared.Relinked.{Relinked}

@@ -11,10 +11,9 @@ use Rattle.ascii.specs.Bytes.{between}
 use Rattle.refusals.specs.Answer.{Answer, done, refused, mapDone}
 use Rattle.readers.specs.declared.Line.{Line}
 use Rattle.readers.specs.Bodies.{bodyOf}
-use Rattle.readers.specs.Image.{lowFirstAt, addressAt}
+use Rattle.image_bytes.specs.ImageBytes.{lowFirstAt, addressAt, beforeZero}
 use Rattle.readers.specs.Lines.{linesFrom, linesOf}
 use Rattle.readers.specs.Links.{linkStep}
-use Rattle.readers.specs.Terminators.{beforeZero}
 use Rattle.jumps.specs.Jumps.{jumpsFrom, jumpsOf}
 use Rattle.line_index.specs.Index.{indexLine, hasLine}
 use Rattle.relink.specs.Relinking.{Relinking, same, changed, leaves, endless, relinking}

@@ -2,7 +2,7 @@
 ghost use mathlib.Core.Path.{_≡_};
 ghost use Prim.Native.Nat.{_+_, _*_, _≤_, min};
 ghost use lib.ListN.{getD};
-ghost use Rattle.readers.specs.Image.{lowFirstAt};
+ghost use Rattle.image_bytes.specs.ImageBytes.{lowFirstAt};
 ghost use Rattle.faults.specs.Faults.{inBasicMemory, memoryFaults, numberFaults, orderFaults, zeroFaults, lengthFaults, relinkFaults};
 ghost use Rattle.faults.specs.ToldHelpers.{hasMark, toldFault, UnmetIs, LineIs};
 use jumps::Cursor;

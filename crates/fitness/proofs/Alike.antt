@@ -12,10 +12,11 @@ use borrow.Author.Tests.{ltb-false, eqb-true, eqb-false}
 use Rattle.refusals.specs.Answer.{Answer, done, refused, mapDone}
 use Rattle.readers.specs.declared.Line.{Line}
 use Rattle.readers.specs.Chain.{Chain, here, on, Leads}
-use Rattle.readers.specs.Image.{addressAt, Found, line, end}
+use Rattle.image_bytes.specs.ImageBytes.{addressAt, targetAt, beforeZero, bodyEnd}
+use Rattle.readers.specs.Image.{Found, line, end}
 use Rattle.readers.specs.Lines.{linesFrom, linesOf}
-use Rattle.readers.specs.Links.{targetAt, linkStep}
-use Rattle.readers.specs.Terminators.{beforeZero, bodyEnd, terminatedLine, terminatorStep}
+use Rattle.readers.specs.Links.{linkStep}
+use Rattle.readers.specs.Terminators.{terminatedLine, terminatorStep}
 use Rattle.readers.proofs.ByLinks.{link-found, link-sound}
 use Rattle.readers.proofs.ByTerminators.{terminator-line, terminator-end, terminator-sound}
 use Rattle.readers.proofs.Equations.{lines-line, lines-end}

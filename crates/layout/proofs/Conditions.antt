@@ -10,7 +10,8 @@ use Rattle.refusals.specs.Answer.{done}
 use Rattle.readers.specs.NumberedBody.{NumberedBody}
 use Rattle.readers.specs.Bodies.{bodiesFrom, bodiesOf}
 use Rattle.readers.specs.Links.{linkStep}
-use Rattle.readers.specs.Terminators.{beforeZero, terminatorStep}
+use Rattle.image_bytes.specs.ImageBytes.{beforeZero}
+use Rattle.readers.specs.Terminators.{terminatorStep}
 use Rattle.layout.specs.Changed.{numberOrBody, inSome}
 use Rattle.layout.specs.Layout.{imageOf}
 use Rattle.layout.specs.Reads.{linesAt}

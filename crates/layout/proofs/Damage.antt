@@ -12,7 +12,7 @@ use lib.ListN.{length, getD, drop, length-append, length-drop}
 use lib.Seq.{drop-cons, length-take-le}
 use borrow.Author.Tests.{lt-leb, le-ltb}
 use Rattle.refusals.specs.Answer.{Answer, done, refused, mapDone}
-use Rattle.readers.specs.Image.{lowFirstAt, addressAt}
+use Rattle.image_bytes.specs.ImageBytes.{lowFirstAt, addressAt}
 use Rattle.readers.specs.declared.Line.{Line}
 use Rattle.readers.specs.NumberedBody.{NumberedBody}
 use Rattle.readers.specs.Lines.{linesFrom}

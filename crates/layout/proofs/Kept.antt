@@ -11,7 +11,7 @@ use lib.Dec.{lit<, leb}
 use lib.ListN.{length, getD, take, drop, length-drop, take-append-drop}
 use lib.Seq.{drop-cons, drop-drop, length-take-le, ext-getD, getD-take, getD-drop, take-append-seam}
 use borrow.Author.Tests.{lt-leb, le-ltb}
-use Rattle.readers.specs.Image.{lowFirstAt}
+use Rattle.image_bytes.specs.ImageBytes.{lowFirstAt}
 use Rattle.readers.specs.declared.Line.{Line}
 use Rattle.readers.specs.NumberedBody.{NumberedBody}
 use Rattle.layout.specs.Changed.{numberOrBody, linkByte, inSome}

@@ -12,7 +12,8 @@ use lib.ListN.{length}
 use borrow.Author.Tests.{leb-true, leb-false, le-leb}
 use Rattle.refusals.specs.Answer.{Answer, done, mapDone}
 use Rattle.readers.specs.NumberedBody.{NumberedBody}
-use Rattle.readers.specs.Image.{lowFirstAt, addressAt, line, end}
+use Rattle.image_bytes.specs.ImageBytes.{lowFirstAt, addressAt}
+use Rattle.readers.specs.Image.{line, end}
 use Rattle.readers.specs.declared.Line.{Line}
 use Rattle.readers.specs.Lines.{Reader, linesFrom, overview, overviewOf}
 use Rattle.readers.specs.Bodies.{numberedBody, bodiesFrom}

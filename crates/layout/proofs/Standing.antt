@@ -9,10 +9,11 @@ use borrow.Author.Tests.{ne-eqb}
 use lib.Seq.{getD-drop, drop-drop, getD-append-seam, take-append-seam, drop-append-seam}
 use Rattle.refusals.specs.Answer.{done}
 use Rattle.readers.specs.NumberedBody.{NumberedBody}
-use Rattle.readers.specs.Image.{lowFirstAt, addressAt, lineAt, line, end}
+use Rattle.image_bytes.specs.ImageBytes.{lowFirstAt, addressAt, beforeZero, bodyEnd}
+use Rattle.readers.specs.Image.{lineAt, line, end}
 use Rattle.readers.specs.Bodies.{numberedBody}
 use Rattle.readers.specs.Links.{linkStep}
-use Rattle.readers.specs.Terminators.{beforeZero, bodyEnd, terminatorStep}
+use Rattle.readers.specs.Terminators.{terminatorStep}
 use Rattle.readers.proofs.ByLinks.{link-end, link-line}
 use Rattle.readers.proofs.ByTerminators.{terminator-end, terminator-line}
 use Rattle.layout.specs.Layout.{linkedBytes}

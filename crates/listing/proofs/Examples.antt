@@ -19,7 +19,8 @@ use Rattle.readers.specs.declared.By.the-variants.{Terminators, Links}
 use Rattle.readers.specs.Bodies.{bodiesFrom}
 use Rattle.readers.specs.Readers.{stepBy}
 use Rattle.readers.specs.Links.{linkStep}
-use Rattle.readers.specs.Terminators.{terminatorStep, beforeZero}
+use Rattle.image_bytes.specs.ImageBytes.{beforeZero}
+use Rattle.readers.specs.Terminators.{terminatorStep}
 use Rattle.units.specs.Units.{unitsFrom}
 use Rattle.pieces.specs.Pieces.{unknownPair, pairText, unitText, spelt}
 use Rattle.decimals.specs.Decimal.{decimal}

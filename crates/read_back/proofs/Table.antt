@@ -15,7 +15,8 @@ use Rattle.escapes.specs.Escape.{nameEscape, repeated, starred, countedName}
 use Rattle.readers.specs.Bodies.{bodiesFrom}
 use Rattle.readers.specs.Lines.{overview}
 use Rattle.readers.specs.Links.{linkStep}
-use Rattle.readers.specs.Terminators.{beforeZero, terminatorStep}
+use Rattle.image_bytes.specs.ImageBytes.{beforeZero}
+use Rattle.readers.specs.Terminators.{terminatorStep}
 use Rattle.text_image.specs.Crunched.{crunched}
 use Rattle.text_image.specs.Measured.{measuredLines, lineMeasured}
 use Rattle.read_back.specs.MeasuredBack.{MeasuredTable}

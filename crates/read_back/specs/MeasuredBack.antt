@@ -9,7 +9,8 @@ use lib.ListN.{length}
 use Rattle.refusals.specs.Answer.{done}
 use Rattle.words.specs.Spelling.{bytesOf}
 use Rattle.dialect.specs.declared.Dialect.the-variants.{Auto}
-use Rattle.readers.specs.Image.{addressAt, end}
+use Rattle.image_bytes.specs.ImageBytes.{addressAt}
+use Rattle.readers.specs.Image.{end}
 use Rattle.readers.specs.Lines.{linesOf}
 use Rattle.readers.specs.Links.{linkStep}
 use Rattle.readers.specs.declared.Line.{Line}

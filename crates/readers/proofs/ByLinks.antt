@@ -7,12 +7,13 @@ use native.Mathlib.Omega.{arith}
 use lib.ListN.{length, getD}
 use lib.Dec.{ltb, eqb}
 use borrow.Author.Tests.{le-ltb, lt-ltb, eq-eqb, ne-eqb, ltb-false, eqb-true, eqb-false}
+use Rattle.image_bytes.specs.ImageBytes.{targetAt}
 use Rattle.refusals.specs.Answer.{done, refused}
 use Rattle.refusals.specs.Numbers.{imageTooLong, tooShort, missingEnd, linkBackward, linkOutside, linkNoEnd}
 use Rattle.readers.specs.declared.Line.{Line}
 use Rattle.readers.specs.Image.{line, end}
 use Rattle.readers.proofs.Equations.{LiesAt, Sound}
-use Rattle.readers.specs.Links.{targetAt, linkedLine, follow, linkStep}
+use Rattle.readers.specs.Links.{linkedLine, follow, linkStep}
 use Rattle.readers.proofs.Finding.{sized-long, sized-short, RightLength, Knows, cond-by, sized-knows, knows-length, knows-line}
 
 module _ (s : List ℕ) (p : ℕ) where

@@ -1,47 +1,21 @@
--- The step by terminators: the search for the 00, a law for each answer, and what is known of a line that was found.
+-- The step by terminators: a law for each answer, and what is known of a line that was found.
 -- Assumes nothing.
-use Prim.Native.Nat.{ℕ, suc, _+_, _-_, _≤_, _<_, min}
-use mathlib.Core.Path.{_≡_, refl, ap, _∙_}
-use mathlib.Core.Bool.{Bool, true, false}
-use mathlib.Core.List.{List, [], _∷_}
-use native.Mathlib.Numerals.{add-one}
+use Prim.Native.Nat.{ℕ, _+_, _-_, _≤_, _<_, min}
+use mathlib.Core.Path.{_≡_, refl, _∙_}
+use mathlib.Core.List.{List}
 use native.Mathlib.Omega.{arith}
-use lib.ListN.{length, getD, take, drop, drop-of-length-le, length-drop}
-use lib.Seq.{drop-cons, take-all}
+use lib.ListN.{length, getD}
 use lib.Dec.{leb, ltb, eqb}
 use borrow.Author.Tests.{le-leb, lt-leb, le-ltb, lt-ltb, eq-eqb, ne-eqb, ltb-false, eqb-false}
+use Rattle.image_bytes.specs.ImageBytes.{bodyEnd}
+use Rattle.image_bytes.proofs.Zeros.{body-end-within}
 use Rattle.refusals.specs.Answer.{done, refused}
 use Rattle.refusals.specs.Numbers.{imageTooLong, tooShort, unexpectedEof}
 use Rattle.readers.specs.declared.Line.{Line}
 use Rattle.readers.specs.Image.{lineAt, line, end}
 use Rattle.readers.proofs.Equations.{LiesAt, Sound}
-use Rattle.readers.specs.Terminators.{beforeZero, bodyEnd, terminatedLine, terminatorStep}
+use Rattle.readers.specs.Terminators.{terminatedLine, terminatorStep}
 use Rattle.readers.proofs.Finding.{sized-long, sized-short, RightLength, Knows, cond-by, sized-knows, knows-length, knows-line}
-
--- ---- the search for the 00
-
--- i bytes passed, none of them 00
-pub record NoZeroYet (s : List ℕ) (i : ℕ) : Type 0 where
-  pub within : i ≤ length s
-  pub gives : i + beforeZero (drop i s) ≡ beforeZero s
-
-pub passed-none : (s : List ℕ) → NoZeroYet s 0
-passed-none s = record { within = omega arith; gives = omega arith }
-
-module _ {s : List ℕ} {i : ℕ} (k : NoZeroYet s i) where
-  pub passed-end : length s ≤ i → i ≡ beforeZero s
-  unfolding beforeZero
-  passed-end h = let e : beforeZero (drop i s) ≡ 0 = rw (drop-of-length-le s h) in omega arith
-
-  pub passed-zero : i < length s → getD s i 0 ≡ 0 → i ≡ beforeZero s
-  unfolding beforeZero
-  passed-zero h z = let e : beforeZero (drop i s) ≡ 0 = rw (drop-cons s i 0 h, eq-eqb _ _ z, beforeZero) in omega arith
-
-  pub passed-turn : i < length s → (getD s i 0 ≡ 0 → ⊥) → NoZeroYet s (i + 1)
-  unfolding beforeZero
-  passed-turn h z =
-      let e : beforeZero (drop i s) ≡ suc (beforeZero (drop (i + 1) s)) = rw (add-one, drop-cons s i 0 h, ne-eqb _ _ z, beforeZero) in
-      record { within = omega arith; gives = omega arith }
 
 -- ---- the answers
 
@@ -89,37 +63,16 @@ module _ (s : List ℕ) (p : ℕ) where
 
 -- ---- what was found
 
-before-within : (s : List ℕ) → beforeZero s ≤ length s
-unfolding beforeZero
-before-within [] = omega arith
-before-within (b ∷ s) = go (eqb b 0) (before-within s)
-  where
-    go : (r : Bool) → beforeZero s ≤ length s → elim r [ true ↦ 0 | false ↦ suc (beforeZero s) ] ≤ suc (length s)
-    go true k = omega arith
-    go false k = omega arith
+-- a line whose body ends at the first 00, or at the image's end where there is none
+module _ (s : List ℕ) (p : ℕ) (h : p + 4 ≤ length s) {b : ℕ} (q : b ≡ bodyEnd s p) {l : Line} where
+  next-at : {next : ℕ} → l ≡ lineAt s p b next → next ≡ min (b + 1) (length s) → l ≡ terminatedLine s p
+  next-at is x = is ∙ rw (x, q)
 
--- a body that starts within the image ends within it
-pub body-end-within : (s : List ℕ) (p : ℕ) → p + 4 ≤ length s → bodyEnd s p ≤ length s
-body-end-within s p h = omega (arith, before-within (drop (p + 4) s), length-drop (p + 4) s)
+  pub line-terminated : b < length s → l ≡ lineAt s p b (b + 1) → l ≡ terminatedLine s p
+  line-terminated z is = next-at is (omega arith)
 
--- b bytes stand before the 00 in the part from p + 4 on
-module _ (s : List ℕ) (p : ℕ) (h : p + 4 ≤ length s) {b : ℕ} (q : b ≡ beforeZero (take (length s - (p + 4)) (drop (p + 4) s))) where
-  body-end : p + 4 + b ≡ bodyEnd s p
-  body-end = ap (λ (x : ℕ). p + 4 + x) (q ∙ ap beforeZero (take-all (length s - (p + 4)) (drop (p + 4) s) (omega (arith, length-drop (p + 4) s))))
-
-  pub body-within : p + 4 + b ≤ length s
-  body-within = omega (arith, body-end, body-end-within s p h)
-
-  next-at : {l : Line} {next : ℕ} → l ≡ lineAt s p (p + 4 + b) next → next ≡ min (p + 4 + b + 1) (length s) → l ≡ terminatedLine s p
-  next-at is x = is ∙ rw (x, body-end)
-
-  -- the 00 was found, or there is none
-  module _ {l : Line} where
-    pub line-terminated : p + 4 + b < length s → l ≡ lineAt s p (p + 4 + b) (p + 4 + b + 1) → l ≡ terminatedLine s p
-    line-terminated z is = next-at is (omega arith)
-
-    pub line-open : length s ≤ p + 4 + b → l ≡ lineAt s p (p + 4 + b) (p + 4 + b) → l ≡ terminatedLine s p
-    line-open z is = next-at is (omega (arith, body-within))
+  pub line-open : length s ≤ b → l ≡ lineAt s p b b → l ≡ terminatedLine s p
+  line-open z is = next-at is (omega (arith, body-end-within s p h))
 
 -- what is known of a line that was found at p
 pub record TerminatedAt (s : List ℕ) (p : ℕ) (l : Line) : Type 0 where

@@ -14,7 +14,7 @@ use Rattle.readers.specs.declared.Line.{Line}
 use Rattle.readers.specs.declared.Step.{Step}
 use Rattle.readers.specs.declared.Step.the-variants.{Found as FoundLine, End, Refused}
 use Rattle.readers.specs.Answers.{stepAnswer}
-use Rattle.readers.specs.Image.{lowFirstAt}
+use Rattle.image_bytes.specs.ImageBytes.{lowFirstAt}
 use Rattle.readers.specs.Lines.{linesFrom, Overview, overviewOf, overview}
 use Rattle.readers.specs.Readers.{stepBy}
 use Rattle.readers.proofs.Equations.{LiesAt, Sound, lines-line, lines-end, lines-refused}

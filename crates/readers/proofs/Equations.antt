@@ -9,7 +9,8 @@ use Rattle.steps.proofs.Nearer.{Nearer, again-once, by-nearer}
 use Rattle.refusals.specs.Numbers.{Numbered}
 use Rattle.refusals.specs.Answer.{Answer, done, refused, mapDone}
 use Rattle.readers.specs.declared.Line.{Line}
-use Rattle.readers.specs.Image.{lowFirstAt, addressAt, Found, line, end}
+use Rattle.image_bytes.specs.ImageBytes.{lowFirstAt, addressAt}
+use Rattle.readers.specs.Image.{Found, line, end}
 use Rattle.readers.specs.Lines.{Reader, onward, readOn, linesFrom}
 
 -- a line found at p lies behind p and within the image

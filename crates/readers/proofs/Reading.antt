@@ -10,7 +10,8 @@ use lib.Seq.{length-take-le}
 use Rattle.refusals.specs.Numbers.{Numbered}
 use Rattle.refusals.specs.Answer.{Answer, done, refused, mapDone}
 use Rattle.readers.specs.declared.Line.{Line}
-use Rattle.readers.specs.Image.{lowFirstAt, Found, line, end}
+use Rattle.image_bytes.specs.ImageBytes.{lowFirstAt}
+use Rattle.readers.specs.Image.{Found, line, end}
 use Rattle.readers.specs.Lines.{Reader, onward, linesFrom, linesOf, overviewOf, overview}
 use Rattle.readers.proofs.Equations.{LiesAt, Sound, lines-from, lines-line, lines-end, lines-refused, by-lines}
 use Rattle.readers.specs.Chain.{Chain, here, on, Leads}

@@ -11,7 +11,8 @@ use lib.ListN.{length}
 use Rattle.steps.specs.Again.{again}
 use Rattle.refusals.specs.Answer.{Answer, done, refused, mapDone}
 use Rattle.readers.specs.declared.Line.{Line}
-use Rattle.readers.specs.Image.{lowFirstAt, Found, line, end}
+use Rattle.image_bytes.specs.ImageBytes.{lowFirstAt}
+use Rattle.readers.specs.Image.{Found, line, end}
 
 -- what a step answers, for an image and an offset
 abbrev pub Reader : Type 0

@@ -5,14 +5,11 @@ use mathlib.Core.Bool.{cond}
 use mathlib.Core.List.{List}
 use lib.ListN.{length, getD}
 use lib.Dec.{ltb, eqb}
+use Rattle.image_bytes.specs.ImageBytes.{targetAt}
 use Rattle.refusals.specs.Answer.{Answer, done, refused}
 use Rattle.refusals.specs.Numbers.{missingEnd, linkBackward, linkOutside, linkNoEnd}
 use Rattle.readers.specs.declared.Line.{Line}
-use Rattle.readers.specs.Image.{lowFirstAt, lineAt, Found, line, end, sized}
-
--- "target t is 2 plus link minus load address"; 0 where that is below 0, which is below p + 5 too
-abbrev pub targetAt : List ℕ → ℕ → ℕ
-targetAt s p = 2 + lowFirstAt s p - lowFirstAt s 0
+use Rattle.readers.specs.Image.{lineAt, Found, line, end, sized}
 
 -- "The body is the bytes from p + 4 up to t - 1, and t is the next offset"
 abbrev pub linkedLine : List ℕ → ℕ → ℕ → Line

@@ -1,23 +1,15 @@
 -- The reader by terminators (document 01, "Reading and listing": "By terminators").
 -- Assumes nothing.
-use Prim.Native.Nat.{ℕ, suc, _+_, min}
-use mathlib.Core.Bool.{true, false, cond}
-use mathlib.Core.List.{List, [], _∷_}
-use lib.ListN.{length, getD, drop}
+use Prim.Native.Nat.{ℕ, _+_, min}
+use mathlib.Core.Bool.{cond}
+use mathlib.Core.List.{List}
+use lib.ListN.{length, getD}
 use lib.Dec.{leb, ltb, eqb}
+use Rattle.image_bytes.specs.ImageBytes.{bodyEnd}
 use Rattle.refusals.specs.Answer.{Answer, done, refused}
 use Rattle.refusals.specs.Numbers.{unexpectedEof}
 use Rattle.readers.specs.declared.Line.{Line}
 use Rattle.readers.specs.Image.{lineAt, Found, line, end, sized}
-
--- how many bytes stand before the first 00, or all of them where there is none
-unfoldable pub beforeZero : List ℕ → ℕ
-beforeZero [] = 0
-beforeZero (b ∷ s) = elim (eqb b 0) [ true ↦ 0 | false ↦ suc (beforeZero s) ]
-
--- "A body runs to the first 00, .. or to the image's end"
-abbrev pub bodyEnd : List ℕ → ℕ → ℕ
-bodyEnd s p = p + 4 + beforeZero (drop (p + 4) s)
 
 -- "the next offset being behind it", or the image's end
 abbrev pub terminatedLine : List ℕ → ℕ → Line

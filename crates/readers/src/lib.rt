@@ -2,13 +2,15 @@
 // Each has three calls: `check` reads the whole image, `step` the line at an offset, `body` hands out that line's bytes. What both do alike
 // stands here, with the reader as an argument.
 ghost use mathlib.Core.Path.{_≡_};
-ghost use Prim.Native.Nat.{_+_, _*_, _≤_, _<_};
+ghost use Prim.Native.Nat.{_+_, _≤_};
 ghost use lib.ListN.{length};
 ghost use Rattle.readers.specs.Answers.{stepAnswer, checkedAnswer};
 ghost use Rattle.readers.specs.Bodies.{bodyAt};
-ghost use Rattle.readers.specs.Image.{lowFirstAt, addressAt, lineAt};
+ghost use Rattle.readers.specs.Image.{lineAt};
 ghost use Rattle.readers.specs.Lines.{overview};
 ghost use Rattle.readers.specs.Readers.{stepBy};
+use image_bytes::address_at;
+use image_bytes::low_first_at;
 use refusals::Refusal;
 
 pub mod links;
@@ -111,27 +113,4 @@ fn line_at(image: &[u8], offset: usize, to: usize, next: usize) -> Line
         to,
         next,
     }
-}
-
-// The address in memory of what stands at an offset: the load address plus the offset less 2, never below 0.
-fn address_at(image: &[u8], offset: usize) -> usize
-    requires { ⌜ (offset + 4 ≤ length (now image)) × (length (now image) ≤ 1048576) ⌝ }
-    ensures { λ r. ⌜ r ≡ addressAt (now (image .entry)) offset ⌝ }
-{
-    let sum = low_first_at(image, 0) as usize + offset;
-    if sum < 2 { 0 } else { sum - 2 }
-}
-
-// The number in two bytes at an offset, low byte first.
-fn low_first_at(image: &[u8], offset: usize) -> u16
-    requires { ⌜ offset + 1 < length (now image) ⌝ }
-    ensures { λ r. ⌜ r ≡ lowFirstAt (now (image .entry)) offset ⌝ }
-{
-    low_first(image[offset], image[offset + 1])
-}
-
-fn low_first(low: u8, high: u8) -> u16
-    ensures { λ r. ⌜ r ≡ low + 256 * high ⌝ }
-{
-    (low as u16) + 256 * (high as u16)
 }

@@ -1,17 +1,15 @@
 // By links: a line ends where its link leads, and the byte before that place is its 00.
 ghost use mathlib.Core.Path.{_≡_};
-ghost use Prim.Native.Nat.{_+_, _≤_};
-ghost use lib.ListN.{length};
 ghost use Rattle.readers.specs.Answers.{stepAnswer, checkedAnswer};
 ghost use Rattle.readers.specs.Bodies.{bodyAt};
 ghost use Rattle.readers.specs.Lines.{overview};
-ghost use Rattle.readers.specs.Links.{targetAt, linkStep};
+ghost use Rattle.readers.specs.Links.{linkStep};
 use crate::By;
 use crate::Checked;
 use crate::LONGEST;
 use crate::Step;
 use crate::line_at;
-use crate::low_first_at;
+use image_bytes::target_at;
 use refusals::Refusal;
 
 // Follows the links from the first line to the end.
@@ -57,14 +55,4 @@ pub fn body(image: &[u8], offset: usize) -> &[u8]
     ensures { λ r. ⌜ now r ≡ bodyAt linkStep (now (image .entry)) offset ⌝ }
 {
     crate::body_by(image, offset, By::Links)
-}
-
-// The offset that the link at an offset leads to; a link below the load address leads to no line's end, and 0 is none.
-fn target_at(image: &[u8], offset: usize) -> usize
-    requires { ⌜ offset + 2 ≤ length (now image) ⌝ }
-    ensures { λ r. ⌜ r ≡ targetAt (now (image .entry)) offset ⌝ }
-{
-    let behind = 2 + low_first_at(image, offset) as usize;
-    let load = low_first_at(image, 0) as usize;
-    if behind < load { 0 } else { behind - load }
 }

@@ -5,14 +5,14 @@ ghost use lib.ListN.{length};
 ghost use Rattle.readers.specs.Answers.{stepAnswer, checkedAnswer};
 ghost use Rattle.readers.specs.Bodies.{bodyAt};
 ghost use Rattle.readers.specs.Lines.{overview};
-ghost use Rattle.readers.specs.Terminators.{beforeZero, terminatedLine, terminatorStep};
+ghost use Rattle.readers.specs.Terminators.{terminatedLine, terminatorStep};
 use crate::By;
 use crate::Checked;
 use crate::LONGEST;
 use crate::Line;
 use crate::Step;
 use crate::line_at;
-use crate::low_first_at;
+use image_bytes::body_end;
 use refusals::Refusal;
 
 // Reads the lines from the first to the end, each byte once.
@@ -60,24 +60,9 @@ fn terminated_line(image: &[u8], offset: usize) -> Line
     requires { ⌜ (offset + 4 ≤ length (now image)) × (length (now image) ≤ 1048576) ⌝ }
     ensures { λ r. ⌜ r ≡ terminatedLine (now (image .entry)) offset ⌝ }
 {
-    let from = offset + 4;
-    let to = from + before_zero(&image[from..]);
+    let to = body_end(image, offset);
     if to < image.len() {
         return line_at(image, offset, to, to + 1);
     }
     line_at(image, offset, to, to)
-}
-
-// How many bytes stand before the first 00; all of them where there is none.
-fn before_zero(bytes: &[u8]) -> usize
-    ensures { λ r. ⌜ r ≡ beforeZero (now (bytes .entry)) ⌝ }
-{
-    let mut i: usize = 0;
-    while i < bytes.len() {
-        if bytes[i] == 0 {
-            return i;
-        }
-        i += 1;
-    }
-    i
 }

@@ -13,7 +13,7 @@ use borrow.Author.Tests.{le-ltb, lt-ltb, ltb-true, eq-eqb, ne-eqb, eqb-false, no
 use Rattle.steps.proofs.Nearer.{Nearer, again-once}
 use Rattle.refusals.specs.Answer.{done, refused}
 use Rattle.refusals.specs.Numbers.{imageTooLong, tooShort}
-use Rattle.readers.specs.Image.{lowFirstAt}
+use Rattle.image_bytes.specs.ImageBytes.{lowFirstAt}
 use Rattle.readers.proofs.Finding.{sized-long, sized-short, sized-right}
 use Rattle.relink.specs.declared.Zero.{Zero}
 use Rattle.relink.specs.declared.Zero.the-variants.{At, Outside as ZeroOutside, Nowhere}

@@ -12,7 +12,7 @@ use lib.ListN.{length, getD, length-append, List·getD-append}
 use lib.Seq.{getD-append-seam}
 use borrow.Author.Tests.{lt-ltb, eq-eqb, ne-eqb}
 use Rattle.refusals.specs.Answer.{done}
-use Rattle.readers.specs.Image.{lowFirstAt, addressAt}
+use Rattle.image_bytes.specs.ImageBytes.{lowFirstAt, addressAt}
 use Rattle.readers.specs.NumberedBody.{NumberedBody}
 use Rattle.readers.proofs.Finding.{sized-right}
 use Rattle.layout.specs.Each.{Each}

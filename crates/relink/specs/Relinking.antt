@@ -13,7 +13,8 @@ use lib.Dec.{eqb, ltb}
 use lib.ListN.{length, getD}
 use Rattle.steps.specs.Again.{again}
 use Rattle.refusals.specs.Answer.{Answer, done, refused, numbered}
-use Rattle.readers.specs.Image.{lowFirstAt, addressAt, sized}
+use Rattle.image_bytes.specs.ImageBytes.{lowFirstAt, addressAt}
+use Rattle.readers.specs.Image.{sized}
 use Rattle.relink.specs.declared.Zero.{Zero}
 use Rattle.relink.specs.declared.Zero.the-variants.{At, Outside as ZeroOutside, Nowhere}
 use Rattle.relink.specs.declared.Passed.{Passed}

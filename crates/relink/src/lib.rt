@@ -2,7 +2,7 @@
 ghost use mathlib.Core.Path.{_≡_};
 ghost use Prim.Native.Nat.{_+_, _*_, _≤_, _<_};
 ghost use lib.ListN.{length};
-ghost use Rattle.readers.specs.Image.{lowFirstAt};
+ghost use Rattle.image_bytes.specs.ImageBytes.{lowFirstAt};
 ghost use Rattle.relink.specs.Relinking.{inMemory, zeroSought, stored, relinkStep, relinkedAnswer, relinking};
 use refusals::Refusal;
 

@@ -1,8 +1,8 @@
--- `readers::address_at` meets its contract: below 2 the sum less 2 is 0.
+-- `image_bytes::address_at` meets its contract: below 2 the sum less 2 is 0.
 -- Assumes nothing.
 use borrow.Author.Needs.{needs}
-use Rattle.readers.proofs.address_at.Statement.{statement}
-use Rattle.readers.proofs.address_at.Tie as tie
+use Rattle.image_bytes.proofs.address_at.Statement.{statement}
+use Rattle.image_bytes.proofs.address_at.Tie as tie
 
 returns : tie.Need-returns
 returns c = search needs

@@ -1,11 +1,11 @@
--- `readers::terminators::before_zero` meets its contract.
+-- `image_bytes::before_zero` meets its contract.
 -- Assumes nothing.
 use Prim.Native.Nat.{_-_}
 use lib.ListN.{length}
-use Rattle.readers.proofs.ByTerminators.{NoZeroYet, passed-none, passed-zero, passed-turn, passed-end}
+use Rattle.image_bytes.proofs.Zeros.{NoZeroYet, passed-none, passed-zero, passed-turn, passed-end}
 use borrow.Author.Needs.{needs}
-use Rattle.readers.proofs.terminators.before_zero.Statement.{statement}
-use Rattle.readers.proofs.terminators.before_zero.Tie as tie
+use Rattle.image_bytes.proofs.before_zero.Statement.{statement}
+use Rattle.image_bytes.proofs.before_zero.Tie as tie
 
 abbrev Inv-loop : tie.InvT-loop
 Inv-loop bytes i₀ i = NoZeroYet bytes i
