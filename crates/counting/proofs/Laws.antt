@@ -1,5 +1,4 @@
--- What totals promise (document 02, No. 12): the totals of two parts are the sum of theirs, the order of images does not matter, the
--- totals of up to 1,000 images are totals, and shares sum to at most 1,000.
+-- What totals promise (document 02, No. 12): the totals of two parts are the sum of theirs, and the order of images does not matter.
 -- Assumes nothing.
 use Prim.Native.Nat.{ℕ, _+_, _-_}
 use mathlib.Core.Path.{_≡_, refl, sym, ap, _∙_}
@@ -7,8 +6,9 @@ use mathlib.Core.List.{List, [], _∷_, _++_, flatMap, append-assoc, List·Perm�
 use native.Mathlib.Omega.{arith}
 use Rattle.refusals.specs.Answer.{refused}
 use Rattle.counted_tokens.specs.Tokens.{tokensIn}
-use Rattle.counting.specs.Totals.{occurrences, tally, imageMarks, totalsOf, added}
-use Rattle.counting.proofs.Tallying.{occurrences-append, tally-append, tally-alike}
+use Rattle.tallies.specs.Tallies.{occurrences, tally, added}
+use Rattle.counting.specs.Totals.{imageMarks, totalsOf}
+use Rattle.tallies.proofs.Tallying.{occurrences-append, tally-append, tally-alike}
 
 -- the marks that images make
 abbrev pub marksOf : List (List ℕ) → List ℕ

@@ -1,9 +1,6 @@
-pub mod Bodies
-pub mod Bounds
+pub mod Adding
+pub mod Joining
 pub mod Laws
-pub mod Raising
-pub mod Shares
 pub mod Taking
-pub mod Tallying
 pub mod Thousand
 pub mod Tight

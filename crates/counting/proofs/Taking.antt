@@ -18,11 +18,11 @@ use Rattle.readers.specs.Readers.{stepBy}
 use Rattle.readers.proofs.Finding.{told-checked}
 use Rattle.readers.proofs.Reading.{overview-bodies}
 use Rattle.counted_tokens.specs.Tokens.{tokensOf, tokensFrom, tokensIn}
-use Rattle.counting.specs.Totals.{tally, added}
+use Rattle.tallies.specs.Tallies.{tally, added}
 use Rattle.counting.specs.Carried.{Kept, counted, countedApart, withMarks}
-use Rattle.counting.specs.TallyHelpers.{Raisable, Tallied}
-use Rattle.counting.proofs.Tallying.{tally-on}
-use Rattle.counting.proofs.Raising.{raisable-less, raised}
+use Rattle.tallies.specs.TallyHelpers.{Raisable, Tallied}
+use Rattle.tallies.proofs.Tallying.{tally-on}
+use Rattle.tallies.proofs.Raising.{raisable-less, raised}
 
 pub once : {t : List ℕ} → Raisable 1048577 t → Raisable 1 t
 once r = raisable-less r (omega arith)

@@ -26,12 +26,14 @@ use Rattle.units.specs.declared.Unit.{Unit}
 use Rattle.units.specs.declared.Unit.the-variants.{Char, Token, Token35, Pair, Lone, Remarked}
 use Rattle.units.specs.Units.{unitsOf}
 use Rattle.counted_tokens.specs.Tokens.{countRules, ifWord, countedAs, tokensOf, tokensFrom, tokensIn}
-use Rattle.counting.specs.Totals.{occurrences, tally, imageMarks, totalsOf, added, sumBelow, tokensSum, imagesTaken, imagesRefused}
+use Rattle.token_totals.specs.TokenTotals.{sumBelow, tokensSum, imagesTaken, imagesRefused}
+use Rattle.tallies.specs.Tallies.{occurrences, tally, added}
+use Rattle.counting.specs.Totals.{imageMarks, totalsOf}
 use Rattle.counting.specs.Carried.{counted, fate, withImage, joined}
-use Rattle.counting.proofs.Tallying.{occurrences-append, tally-length, tally-at, getD-added}
+use Rattle.tallies.proofs.Tallying.{occurrences-append, tally-length, tally-at, getD-added}
 use Rattle.counted_tokens.proofs.UnitTokens.{below-or-not}
-use Rattle.counting.proofs.Bodies.{left-end, left-line, left-refused, few-tokens}
-use Rattle.counting.proofs.Bounds.{AreTotals, totals-true}
+use Rattle.tallies.proofs.Bodies.{left-end, left-line, left-refused, few-tokens}
+use Rattle.token_totals.proofs.Bounds.{AreTotals, totals-true}
 use Rattle.counting.proofs.Laws.{marksOf, totals-join}
 
 -- ---- every token stands below CC

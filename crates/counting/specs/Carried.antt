@@ -10,7 +10,9 @@ use Rattle.refusals.specs.Answer.{Answer, done, refused, numbered}
 use Rattle.counting.specs.declared.Carried.{Carried}
 use Rattle.counting.specs.declared.Carried.the-variants.{Taken, Apart, Refused, NoTotals}
 use Rattle.counted_tokens.specs.Tokens.{tokensFrom, tokensIn}
-use Rattle.counting.specs.Totals.{tally, imageMarks, added, imagesTaken, isTotals}
+use Rattle.token_totals.specs.TokenTotals.{imagesTaken, isTotals}
+use Rattle.tallies.specs.Tallies.{tally, added}
+use Rattle.counting.specs.Totals.{imageMarks}
 
 -- what became of an image, or of totals to be joined; "is counted apart" with its refusal, which is none of the call
 pub data Fate : Type 0 where

@@ -1,36 +1,23 @@
-// Which words are used: how often each token stands in images, and its share (document 02, No. 12).
+// Which words are used: how often each token stands in images (document 02, No. 12).
 //
-// Totals are 206 numbers that the caller lends and carries from image to image; empty ones are all 0. A token's count stands at the token's
-// own number: those of V2 at 80 to CB, those of TSB at the byte behind 64. Behind them stand the images taken and, among these, the
-// refused ones.
+// Totals are 206 numbers that the caller lends and carries from image to image; empty ones are all 0. What stands where in them, and each
+// token's share, is `token_totals`.
 ghost use mathlib.Core.Path.{_≡_};
-ghost use Prim.Native.Nat.{_+_, _≤_, _<_, min};
-ghost use mathlib.Core.List.{[], _∷_};
-ghost use lib.ListN.{length, getD};
-ghost use Rattle.texts.specs.TextsHelpers.{SpellsTexts};
-ghost use Rattle.counted_tokens.specs.Tokens.{countedAs, tokensOf, tokensIn, countedTokens};
-ghost use Rattle.counting.specs.Totals.{tally, added, isTotals, tokensSum, tokensCounted, shareOf};
+ghost use lib.ListN.{getD};
+ghost use Rattle.counted_tokens.specs.Tokens.{tokensIn, countedTokens};
+ghost use Rattle.token_totals.specs.TotalsHelpers.{Small};
+ghost use Rattle.tallies.specs.Tallies.{added};
+ghost use Rattle.tallies.specs.TallyHelpers.{Raisable};
 ghost use Rattle.counting.specs.Carried.{carried, withMarks, withImage, joined};
-ghost use Rattle.counting.specs.TallyHelpers.{Raisable, Small, Tallied};
 use readers::By;
 use readers::Checked;
-use readers::Step;
 use refusals::Refusal;
-use units::Mode;
-use units::Unit;
-
-// How many numbers totals have.
-pub const LENGTH: usize = 206;
-
-// Where the images taken stand, and among these the refused ones. Tokens stand below.
-pub const TAKEN: usize = 0xCC;
-
-pub const REFUSED: usize = 0xCD;
-
-// An image has at most this many bytes, so fewer tokens than that.
-const LONGEST: u64 = 1048576;
-
-const MOST_IMAGES: u64 = 1000;
+use tallies::count_image;
+use tallies::raise;
+use token_totals::MOST_IMAGES;
+use token_totals::REFUSED;
+use token_totals::TAKEN;
+use token_totals::are_totals;
 
 // The tokens that are counted: those of V2, then those of TSB, each ascending.
 pub const TOKENS: [u8; 197] =
@@ -78,49 +65,6 @@ pub fn join(totals: &mut [u64], other: &[u64]) -> Carried
     Carried::Taken
 }
 
-// Whether numbers are totals that images can give.
-pub fn are_totals(totals: &[u64]) -> bool
-    ensures { λ r. ⌜ r ≡ isTotals (now (totals .entry)) ⌝ }
-{
-    if totals.len() != LENGTH {
-        return false;
-    }
-    let taken = totals[TAKEN];
-    if taken > MOST_IMAGES {
-        return false;
-    }
-    if totals[REFUSED] > taken {
-        return false;
-    }
-    let most = LONGEST * taken;
-    sum_up_to(totals, most) <= most
-}
-
-// How many tokens are counted in all; none where the numbers are no totals.
-pub fn tokens(totals: &[u64]) -> u64
-    ensures { λ r. ⌜ r ≡ tokensCounted (now (totals .entry)) ⌝ }
-{
-    if are_totals(totals) {
-        return sum_up_to(totals, LONGEST * MOST_IMAGES);
-    }
-    0
-}
-
-// The share of a token in all tokens counted, in thousandths, rounded down; 0 where none is counted, and of what is no token.
-pub fn share(totals: &[u64], token: u8) -> u64
-    ensures { λ r. ⌜ r ≡ shareOf (now (totals .entry)) token ⌝ }
-{
-    let sum = tokens(totals);
-    if sum == 0 {
-        return 0;
-    }
-    let k = token as usize;
-    if k >= TAKEN {
-        return 0;
-    }
-    1000 * totals[k] / sum
-}
-
 // The tokens that are counted, by their place from 0: those of V2, then those of TSB; 0, which is no token, behind the last.
 pub fn token_at(place: usize) -> u8
     ensures { λ r. ⌜ r ≡ getD countedTokens place 0 ⌝ }
@@ -129,24 +73,6 @@ pub fn token_at(place: usize) -> u8
         return TOKENS[place];
     }
     0
-}
-
-// The tokens' counts together, or one more than most where they are more.
-fn sum_up_to(totals: &[u64], most: u64) -> u64
-    requires { ⌜ (length (now totals) ≡ 206) × (most ≤ 1048576000) ⌝ }
-    ensures { λ r. ⌜ r ≡ min (tokensSum (now (totals .entry))) (most + 1) ⌝ }
-{
-    let mut k: usize = 0;
-    let mut sum: u64 = 0;
-    while k < TAKEN {
-        let count = totals[k];
-        if count > most - sum {
-            return most + 1;
-        }
-        sum += count;
-        k += 1;
-    }
-    sum
 }
 
 // Adds other totals, place by place.
@@ -176,73 +102,4 @@ fn take_image(totals: &mut [u64], image: &[u8]) -> Carried
             Carried::Apart(refusal)
         }
     }
-}
-
-// Counts the tokens of an image that reading accepts.
-fn count_image(totals: &mut [u64], image: &[u8])
-    requires { ⌜ Raisable 1048576 (now totals) ⌝ }
-    ensures { λ r. ⌜ Tallied (tokensIn (now (image .entry))) (now (totals .entry)) (now (totals .exit)) ⌝ }
-{
-    count_lines(totals, &texts::TEXT_BYTES, &texts::TEXT_STARTS, image);
-}
-
-// The same with the texts lent, line by line.
-fn count_lines(totals: &mut [u64], bytes: &[u8], starts: &[u16], image: &[u8])
-    requires { ⌜ SpellsTexts (now bytes) (now starts) × Raisable 1048576 (now totals) ⌝ }
-    ensures { λ r. ⌜ Tallied (tokensIn (now (image .entry))) (now (totals .entry)) (now (totals .exit)) ⌝ }
-{
-    let mut offset: usize = 2;
-    loop {
-        match readers::step_by(image, offset, By::Terminators) {
-            Step::Found(line) => {
-                let from = line.from;
-                let to = line.to;
-                count_body(totals, bytes, starts, &image[from..to]);
-                offset = line.next;
-            }
-            Step::End => {
-                return;
-            }
-            // An image that is accepted is refused nowhere.
-            Step::Refused(_) => {
-                return;
-            }
-        }
-    }
-}
-
-// Counts the tokens of a body.
-fn count_body(totals: &mut [u64], bytes: &[u8], starts: &[u16], body: &[u8])
-    requires { ⌜ SpellsTexts (now bytes) (now starts) × Raisable (length (now body)) (now totals) ⌝ }
-    ensures { λ r. ⌜ now (totals .exit) ≡ added (now (totals .entry)) (tally (tokensOf (now (body .entry)))) ⌝ }
-{
-    let rules = counted_tokens::count_rules();
-    let mut i: usize = 0;
-    let mut mode = Mode::Plain;
-    while i < body.len() {
-        let taken = units::unit_at(body, i, mode, rules);
-        let unit = taken.unit;
-        count_unit(totals, bytes, starts, unit);
-        i += taken.used;
-        mode = taken.mode;
-    }
-}
-
-// Counts a unit as its token, if it has one.
-fn count_unit(totals: &mut [u64], bytes: &[u8], starts: &[u16], unit: Unit)
-    requires { ⌜ SpellsTexts (now bytes) (now starts) × Raisable 1 (now totals) ⌝ }
-    ensures { λ r. ⌜ now (totals .exit) ≡ added (now (totals .entry)) (tally (countedAs unit)) ⌝ }
-{
-    let k = counted_tokens::token_of(bytes, starts, unit) as usize;
-    if k < TAKEN {
-        raise(totals, k);
-    }
-}
-
-// Makes a mark: raises one of the totals by 1.
-fn raise(totals: &mut [u64], k: usize)
-    requires { ⌜ (k < 206) × Raisable 1 (now totals) ⌝ }
-    ensures { λ r. ⌜ now (totals .exit) ≡ added (now (totals .entry)) (tally (k ∷ [])) ⌝ }
-{
-    totals[k] += 1;
 }

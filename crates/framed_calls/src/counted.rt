@@ -88,9 +88,9 @@ fn is_kept(totals: &mut [u64], image: &[u8]) -> bool {
 fn put_totals(totals: &[u64], out: &mut [u8])
     requires { ⌜ length (now out) ≡ 3176 ⌝ }
 {
-    put_number(out, 0, count_at(totals, counting::TAKEN));
-    put_number(out, 1, count_at(totals, counting::REFUSED));
-    put_number(out, 2, counting::tokens(totals));
+    put_number(out, 0, count_at(totals, token_totals::TAKEN));
+    put_number(out, 1, count_at(totals, token_totals::REFUSED));
+    put_number(out, 2, token_totals::tokens(totals));
     put_tokens(totals, out);
 }
 
@@ -101,7 +101,7 @@ fn put_tokens(totals: &[u64], out: &mut [u8])
     while place < 197 {
         let token = counting::token_at(place);
         put_number(out, 3 + place, count_at(totals, token as usize));
-        put_number(out, 200 + place, counting::share(totals, token));
+        put_number(out, 200 + place, token_totals::share(totals, token));
         place += 1;
     }
 }

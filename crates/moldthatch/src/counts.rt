@@ -4,7 +4,7 @@ use refusals::Code;
 ghost use mathlib.Core.Path.{_≡_};
 ghost use lib.ListN.{getD};
 ghost use Rattle.counted_tokens.specs.Tokens.{countedTokens};
-ghost use Rattle.counting.specs.Totals.{isTotals, tokensCounted, shareOf};
+ghost use Rattle.token_totals.specs.TokenTotals.{isTotals, tokensCounted, shareOf};
 ghost use Rattle.counting.specs.Carried.{withImage, joined, carriedAnswer};
 ghost use Rattle.moldthatch.specs.Told.{toldTotals, fateCode};
 
@@ -29,7 +29,7 @@ pub extern "C" fn moldthatch_count_join(totals: &mut [u64], other: &[u64]) -> Co
 pub extern "C" fn moldthatch_count_tokens(totals: &[u64]) -> u64
     ensures { λ r. ⌜ r ≡ tokensCounted (now (totals .entry)) ⌝ }
 {
-    counting::tokens(totals)
+    token_totals::tokens(totals)
 }
 
 // A token's share of them, in thousandths.
@@ -37,7 +37,7 @@ pub extern "C" fn moldthatch_count_tokens(totals: &[u64]) -> u64
 pub extern "C" fn moldthatch_count_share(totals: &[u64], token: u8) -> u64
     ensures { λ r. ⌜ r ≡ shareOf (now (totals .entry)) token ⌝ }
 {
-    counting::share(totals, token)
+    token_totals::share(totals, token)
 }
 
 // Whether numbers are totals that images can give.
@@ -45,7 +45,7 @@ pub extern "C" fn moldthatch_count_share(totals: &[u64], token: u8) -> u64
 pub extern "C" fn moldthatch_count_are_totals(totals: &[u64]) -> bool
     ensures { λ r. ⌜ r ≡ isTotals (now (totals .entry)) ⌝ }
 {
-    counting::are_totals(totals)
+    token_totals::are_totals(totals)
 }
 
 // The tokens that are counted, by their place from 0; 0, which is no token, behind the last.

@@ -3,7 +3,7 @@
 use Prim.Native.Nat.{_-_}
 use native.Mathlib.Omega.{arith}
 use lib.ListN.{length, length-set}
-use Rattle.counting.proofs.Raising.{AddedUpTo, adding-start, adding-fits, adding-turn, adding-end}
+use Rattle.counting.proofs.Adding.{AddedUpTo, adding-start, adding-fits, adding-turn, adding-end}
 use borrow.Author.Needs.{needs}
 use Rattle.counting.proofs.add_all.Statement.{statement}
 use Rattle.counting.proofs.add_all.Tie as tie

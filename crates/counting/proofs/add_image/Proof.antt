@@ -1,6 +1,6 @@
 -- `counting::add_image` meets its contract.
 -- Assumes nothing.
-use Rattle.counting.proofs.Bounds.{taken-there, image-room, image-no-totals, image-too-many, image-taken}
+use Rattle.counting.proofs.Joining.{taken-there, image-room, image-no-totals, image-too-many, image-taken}
 use borrow.Author.Needs.{needs}
 use Rattle.counting.proofs.add_image.Statement.{statement}
 use Rattle.counting.proofs.add_image.Tie as tie

@@ -1,7 +1,7 @@
 -- `counting::join` meets its contract.
 -- Assumes nothing.
 use Rattle.steps.proofs.The.{the}
-use Rattle.counting.proofs.Bounds.{taken-there, images-fit, passed-small, join-no-totals, join-no-other, join-too-many, join-both}
+use Rattle.counting.proofs.Joining.{taken-there, images-fit, passed-small, join-no-totals, join-no-other, join-too-many, join-both}
 use borrow.Author.Needs.{needs}
 use Rattle.counting.proofs.join.Statement.{statement}
 use Rattle.counting.proofs.join.Tie as tie

@@ -1,0 +1,2 @@
+pub mod TokenTotals
+pub mod TotalsHelpers
