@@ -2,7 +2,6 @@
 // a frame, calls one function and writes what came back.
 mod disks;
 
-use desk::input;
 use framed_calls::counted;
 use framed_calls::dialects;
 use framed_calls::found;
@@ -13,7 +12,7 @@ use framed_calls::relinked;
 use framed_calls::rooms;
 use framed_calls::texts;
 use framed_calls::words;
-use input::Part;
+use inputs::Part;
 use libc::STDIN_FILENO;
 use readers::By;
 ghost use Prim.Native.Nat.{_≤_};
@@ -66,7 +65,7 @@ fn serve_op(op: u8, size: usize, payload: &mut [u8], room: &mut [u8], disk: &mut
         frames::reject();
         return false;
     }
-    let Part::Whole = input::read_part(STDIN_FILENO, &mut payload[0..size]) else {
+    let Part::Whole = inputs::read_part(STDIN_FILENO, &mut payload[0..size]) else {
         return false;
     };
     answer_request(op, &payload[0..size], room, disk)
@@ -77,7 +76,7 @@ fn serve(payload: &mut [u8], room: &mut [u8], disk: &mut [u8]) -> bool
     requires { ⌜ length (now payload) ≤ length (now disk) ⌝ }
 {
     let mut head = [0u8; 5];
-    let Part::Whole = input::read_part(STDIN_FILENO, &mut head) else {
+    let Part::Whole = inputs::read_part(STDIN_FILENO, &mut head) else {
         return false;
     };
     let size = frames::u32_at(&head, 1) as usize;

@@ -5,7 +5,7 @@ mod telling;
 
 use desk::input;
 use fitness::Found;
-use input::Input;
+use inputs::Input;
 use readers::Checked;
 use readers::links;
 

@@ -6,7 +6,7 @@ mod totals;
 use counting::Carried;
 use desk::input;
 use desk::output;
-use input::Input;
+use inputs::Input;
 
 // Where the status goes that a program cannot end with.
 const STATUS_FILENO: i32 = 3;

@@ -1,9 +1,8 @@
 // Totals in files: 206 numbers of eight bytes, the low byte first. Several may stand one behind the other, as a pipe brings them.
 use crate::Run;
 use counting::Carried;
-use desk::input;
 use desk::output;
-use input::Part;
+use inputs::Part;
 use libc::STDERR_FILENO;
 use libc::STDIN_FILENO;
 use libc::STDOUT_FILENO;
@@ -69,7 +68,7 @@ fn join_all(fd: i32, name: &[u8], totals: &mut [u64]) -> Run {
     let mut left: u64 = MOST_TOTALS;
     while left > 0 {
         let mut bytes = [0u8; 1648];
-        match input::read_part(fd, &mut bytes) {
+        match inputs::read_part(fd, &mut bytes) {
             Part::Whole => match join(name, &bytes, totals) {
                 Run::Fine => {}
                 Run::TooMany => {

@@ -4,7 +4,7 @@ use desk::input;
 use desk::names;
 use desk::output;
 use dialect::Dialect;
-use input::Input;
+use inputs::Input;
 use options::AskedDialect;
 use options::AskedNumber;
 use refusals::Refusal;

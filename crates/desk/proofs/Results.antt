@@ -14,7 +14,7 @@ use Rattle.refusals.specs.Numbers.{noRoom}
 use Rattle.lent.specs.Lent.{Lent, intoBuffer, left}
 use Rattle.lent.specs.declared.Outcome.{Outcome}
 use Rattle.lent.specs.declared.Outcome.the-variants.{Done, Refused}
-use Rattle.desk.specs.CountedHelpers.{Holds}
+use Rattle.desk.specs.ResultHelpers.{Holds}
 
 -- a length that was answered, and none that was refused
 held : Lent → Type 0

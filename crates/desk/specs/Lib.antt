@@ -1,1 +1,1 @@
-pub mod CountedHelpers
+pub mod ResultHelpers

@@ -8,7 +8,7 @@ use refusals::Code;
 use refusals::Refusal;
 ghost use Prim.Native.Nat.{_≤_};
 ghost use lib.ListN.{length};
-ghost use Rattle.desk.specs.CountedHelpers.{Holds};
+ghost use Rattle.desk.specs.ResultHelpers.{Holds};
 
 // Where the status goes that a program cannot end with.
 const STATUS_FILENO: i32 = 3;

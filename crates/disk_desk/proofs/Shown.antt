@@ -9,7 +9,7 @@ use Rattle.lent.specs.declared.Outcome.{Outcome}
 use Rattle.lent.specs.declared.Outcome.the-variants.{Done, Refused}
 use Rattle.sentences.proofs.Clipping.{clip-within}
 use Rattle.directory.specs.Listing.{Shows}
-use Rattle.desk.specs.CountedHelpers.{Holds}
+use Rattle.desk.specs.ResultHelpers.{Holds}
 
 pub shown-held : (disk out : List ℕ) (r : Outcome) (after : List ℕ) → Shows disk out r after → Holds r after
 shown-held disk out (Done n) after k = clip-within (k .1)

@@ -7,7 +7,7 @@ use d64::DiskCheck;
 use desk::input;
 use desk::names;
 use desk::output;
-use input::Input;
+use inputs::Input;
 use lent::Outcome;
 use refusals::Refusal;
 use sentences::put::put_decimal;

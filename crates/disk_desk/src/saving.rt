@@ -3,7 +3,7 @@ use d64::Changed;
 use desk::input;
 use desk::names;
 use desk::output;
-use input::Input;
+use inputs::Input;
 use lent::Outcome;
 use refusals::Refusal;
 

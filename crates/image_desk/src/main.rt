@@ -8,7 +8,7 @@ mod rows;
 use desk::input;
 use desk::names;
 use desk::output;
-use input::Input;
+use inputs::Input;
 use options::AskedNumber;
 use readers::By;
 use refusals::Refusal;

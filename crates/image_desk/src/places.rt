@@ -5,7 +5,7 @@ use desk::input;
 use desk::names;
 use desk::output;
 use dialect::Dialect;
-use input::Input;
+use inputs::Input;
 use lent::Outcome;
 use options::AskedDialect;
 use options::AskedNumber;

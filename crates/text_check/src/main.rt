@@ -3,7 +3,7 @@
 mod checks;
 
 use desk::input;
-use input::Input;
+use inputs::Input;
 use libc::STDIN_FILENO;
 use text_told::sayings;
 
@@ -49,7 +49,7 @@ fn take_input(letter: u8, name: &[u8], input: Input, text: &[u8]) -> Run {
 // Takes the text in a file, or on standard input for -.
 fn take_named(letter: u8, name: &[u8], text: &mut [u8]) -> Run {
     if name.len() == 1 && name[0] == b'-' {
-        let input = input::read_input(STDIN_FILENO, text);
+        let input = inputs::read_input(STDIN_FILENO, text);
         return take_input(letter, b"standard input", input, text);
     }
     let input = input::read_file(name, text);

@@ -1,6 +1,6 @@
 -- `check_desk::check_file` is safe and ends.
 -- Assumes nothing.
-use Rattle.desk.proofs.Within.{input-within}
+use Rattle.inputs.proofs.Within.{input-within}
 use borrow.Author.Needs.{needs}
 use Rattle.check_desk.proofs.check_file.Statement.{statement}
 use Rattle.check_desk.proofs.check_file.Tie as tie

@@ -1,6 +1,6 @@
 -- `counts::take_file` is safe and ends.
 -- Assumes nothing.
-use Rattle.desk.proofs.Within.{input-within}
+use Rattle.inputs.proofs.Within.{input-within}
 use borrow.Author.Needs.{needs}
 use Rattle.counts.proofs.take_file.Statement.{statement}
 use Rattle.counts.proofs.take_file.Tie as tie

@@ -1,6 +1,6 @@
 -- `image_desk::look_at_given` is safe and ends: the count that was read lies within the buffer.
 -- Assumes nothing.
-use Rattle.desk.proofs.Within.{input-within}
+use Rattle.inputs.proofs.Within.{input-within}
 use borrow.Author.Needs.{needs}
 use Rattle.image_desk.proofs.look_at_given.Statement.{statement}
 use Rattle.image_desk.proofs.look_at_given.Tie as tie

@@ -1,6 +1,6 @@
 -- `list_desk::list_file` is safe and ends: the count that was read lies within the buffer.
 -- Assumes nothing.
-use Rattle.desk.proofs.Within.{input-within}
+use Rattle.inputs.proofs.Within.{input-within}
 use borrow.Author.Needs.{needs}
 use Rattle.list_desk.proofs.list_file.Statement.{statement}
 use Rattle.list_desk.proofs.list_file.Tie as tie

@@ -2,7 +2,7 @@
 -- Assumes nothing.
 use native.Mathlib.Omega.{arith}
 use lib.ListN.{length-take}
-use Rattle.desk.proofs.Within.{input-within}
+use Rattle.inputs.proofs.Within.{input-within}
 use borrow.Author.Needs.{needs}
 use Rattle.image_desk.proofs.places.show_under.Statement.{statement}
 use Rattle.image_desk.proofs.places.show_under.Tie as tie

@@ -1,11 +1,11 @@
--- `desk::input::read_input` meets its contract.
+-- `inputs::read_input` meets its contract.
 -- Assumes nothing.
 use native.Mathlib.Nat.{le-of-lt}
 use Rattle.io.proofs.Counting.{counts}
-use Rattle.desk.proofs.Within.{part-count}
+use Rattle.inputs.proofs.Within.{part-count}
 use borrow.Author.Needs.{needs}
-use Rattle.desk.proofs.input.read_input.Statement.{statement}
-use Rattle.desk.proofs.input.read_input.Tie as tie
+use Rattle.inputs.proofs.read_input.Statement.{statement}
+use Rattle.inputs.proofs.read_input.Tie as tie
 
 read-part-requires : tie.Need-read-part-requires
 read-part-requires c κs = search needs

@@ -1,11 +1,11 @@
--- `desk::input::read_part` meets its contract. The loop keeps its place within the buffer, whose length no read changes.
+-- `inputs::read_part` meets its contract. The loop keeps its place within the buffer, whose length no read changes.
 -- Assumes nothing.
 use Prim.Native.Nat.{_-_, _≤_}
 use mathlib.Core.Path.{_≡_}
 use lib.ListN.{length}
 use borrow.Author.Needs.{needs}
-use Rattle.desk.proofs.input.read_part.Statement.{statement}
-use Rattle.desk.proofs.input.read_part.Tie as tie
+use Rattle.inputs.proofs.read_part.Statement.{statement}
+use Rattle.inputs.proofs.read_part.Tie as tie
 
 abbrev Inv-loop : tie.InvT-loop
 Inv-loop fd buf₀ done₀ buf done = (done ≤ length buf) × (length buf ≡ length buf₀)
