@@ -30,12 +30,12 @@ use Rattle.escapes.specs.declared.Escape.the-variants.{Byte, Unknown}
 use Rattle.escapes.proofs.Once.{Often, given-once}
 use Rattle.body.specs.Body.{written, crunchedFrom, crunchedBody}
 use Rattle.body.specs.BoundHelpers.{mayRepeat}
-use Rattle.body_steps.specs.Lexicon.{lexicon}
-use Rattle.body_steps.specs.Steps.{first, one, token, opened, otherStep, signStep, formStep, plainStep, lettered, stringByte, escaped, braced, stringStep, dataStep, dataQuoteStep, crunchStep}
-use Rattle.body_steps.specs.declared.moves.Mode.{Mode}
-use Rattle.body_steps.specs.declared.moves.Mode.the-variants.{Plain, String, Remark, Data, DataQuote}
-use Rattle.body_steps.specs.declared.moves.Move.{Move}
-use Rattle.body_steps.proofs.Beginnings.{Takes, document-proper, word-takes, plain-word-takes, operators-start}
+use Rattle.moves.specs.Lexicon.{lexicon}
+use Rattle.moves.specs.Steps.{first, one, token, opened, otherStep, signStep, formStep, plainStep, lettered, stringByte, escaped, braced, stringStep, dataStep, dataQuoteStep, crunchStep}
+use Rattle.moves.specs.declared.Mode.{Mode}
+use Rattle.moves.specs.declared.Mode.the-variants.{Plain, String, Remark, Data, DataQuote}
+use Rattle.moves.specs.declared.Move.{Move}
+use Rattle.moves.proofs.Beginnings.{Takes, document-proper, word-takes, plain-word-takes, operators-start}
 use Rattle.body.proofs.Progress.{step-takes}
 use Rattle.body.proofs.Run.{length-written, body-end, body-step}
 

@@ -20,12 +20,12 @@ use Rattle.escapes.specs.declared.Escape.the-variants.{Byte, Unknown}
 use Rattle.matching.specs.Sets.{liveWord, plainWord}
 use Rattle.forms.specs.Forms.{formWord}
 use Rattle.forms.proofs.Standing.{form-takes}
-use Rattle.body_steps.specs.Lexicon.{Lexicon}
-use Rattle.body_steps.specs.Steps.{first, one, token, opened, otherStep, signStep, formStep, plainStep, lettered, stringByte, escaped, braced, stringStep, dataStep, dataQuoteStep, crunchStep}
-use Rattle.body_steps.specs.declared.moves.Mode.{Mode}
-use Rattle.body_steps.specs.declared.moves.Mode.the-variants.{Plain, String, Remark, Data, DataQuote}
-use Rattle.body_steps.specs.declared.moves.Move.{Move}
-use Rattle.body_steps.proofs.Beginnings.{proper, Takes, word-takes, live-takes, tsb-start, plain-word-takes, operators-start}
+use Rattle.moves.specs.Lexicon.{Lexicon}
+use Rattle.moves.specs.Steps.{first, one, token, opened, otherStep, signStep, formStep, plainStep, lettered, stringByte, escaped, braced, stringStep, dataStep, dataQuoteStep, crunchStep}
+use Rattle.moves.specs.declared.Mode.{Mode}
+use Rattle.moves.specs.declared.Mode.the-variants.{Plain, String, Remark, Data, DataQuote}
+use Rattle.moves.specs.declared.Move.{Move}
+use Rattle.moves.proofs.Beginnings.{proper, Takes, word-takes, live-takes, tsb-start, plain-word-takes, operators-start}
 
 -- the move takes text
 abbrev Moves : List ℕ → Move → Type 0

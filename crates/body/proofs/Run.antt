@@ -11,11 +11,11 @@ use lib.ListN.{length, drop, replicate, length-append, length-drop, length-repli
 use Rattle.steps.specs.Again.{again}
 use Rattle.steps.proofs.Nearer.{Nearer, again-on}
 use Rattle.body.specs.Body.{prefixOf, written, moveThen, crunchOn, crunchedFrom}
-use Rattle.body_steps.specs.Lexicon.{Lexicon}
-use Rattle.body_steps.specs.Steps.{crunchStep}
-use Rattle.body_steps.specs.declared.moves.Mode.{Mode}
-use Rattle.body_steps.specs.declared.moves.Move.{Move}
-use Rattle.body_steps.proofs.Beginnings.{proper, Takes}
+use Rattle.moves.specs.Lexicon.{Lexicon}
+use Rattle.moves.specs.Steps.{crunchStep}
+use Rattle.moves.specs.declared.Mode.{Mode}
+use Rattle.moves.specs.declared.Move.{Move}
+use Rattle.moves.proofs.Beginnings.{proper, Takes}
 use Rattle.body.proofs.Progress.{step-takes}
 
 pub length-prefix : (prefixed : Bool) → length (prefixOf prefixed) ≤ 1

@@ -23,7 +23,7 @@ use Rattle.escapes.specs.Keys.{keyNames, controlByte, keyWith, keyed, keyEscape
 use Rattle.escapes.specs.Escape.{nameEscape, repeated, starred, countedName, escapeOf}
 use Rattle.forms.specs.Forms.{formWord}
 use Rattle.body.specs.Body.{crunchedFrom, crunchedBody}
-use Rattle.body_steps.specs.Lexicon.{Lexicon, lexicon}
+use Rattle.moves.specs.Lexicon.{Lexicon, lexicon}
 
 -- no TSB word is live
 abbrev pub v2Lexicon : Lexicon

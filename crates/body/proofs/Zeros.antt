@@ -22,14 +22,14 @@ use Rattle.words.proofs.Sameness.{T-true}
 use Rattle.tables.specs.Rom.{operators}
 use Rattle.matching.specs.declared.sets.Sets.{Sets}
 use Rattle.body.specs.Body.{prefixOf, written, crunchedFrom, crunchedBody}
-use Rattle.body_steps.specs.Lexicon.{Lexicon, lexicon}
-use Rattle.body_steps.specs.ShortHelpers.{isShort, plainByte, shortByte, shortMode}
-use Rattle.body_steps.specs.Steps.{one, lettered, crunchStep}
+use Rattle.moves.specs.Lexicon.{Lexicon, lexicon}
+use Rattle.moves.specs.ShortHelpers.{isShort, plainByte, shortByte, shortMode}
+use Rattle.moves.specs.Steps.{one, lettered, crunchStep}
 use Rattle.body.specs.Zero.{holdsZero}
-use Rattle.body_steps.specs.declared.moves.Mode.{Mode}
-use Rattle.body_steps.specs.declared.moves.Mode.the-variants.{Plain, String, Remark, Data, DataQuote}
-use Rattle.body_steps.specs.declared.moves.Move.{Move}
-use Rattle.body_steps.proofs.Beginnings.{proper, document-proper}
+use Rattle.moves.specs.declared.Mode.{Mode}
+use Rattle.moves.specs.declared.Mode.the-variants.{Plain, String, Remark, Data, DataQuote}
+use Rattle.moves.specs.declared.Move.{Move}
+use Rattle.moves.proofs.Beginnings.{proper, document-proper}
 use Rattle.body.proofs.Run.{body-end}
 use Rattle.body.proofs.Writing.{body-at, step-within, step-less, step-fits, short-here}
 

@@ -1,19 +1,18 @@
 // One step of crunching a body, at any place: for whoever walks over a body without crunching it.
-use body_steps::moves;
-use body_steps::moves::Mode;
-use body_steps::moves::Move;
-use body_steps::short;
 use body_steps::step;
 use body_steps::string;
 use body_steps::string::Span;
 use matching::sets::Sets;
+use moves::Mode;
+use moves::Move;
+use moves::short;
 ghost use mathlib.Core.Path.{_≡_};
 ghost use Prim.Native.Nat.{_<_};
 ghost use lib.ListN.{length, drop};
 ghost use Rattle.tables.specs.WordsHelpers.{SpellsWords};
 ghost use Rattle.body_steps.specs.BraceHelpers.{Spans};
-ghost use Rattle.body_steps.specs.Lexicon.{lexicon};
-ghost use Rattle.body_steps.specs.Steps.{crunchStep};
+ghost use Rattle.moves.specs.Lexicon.{lexicon};
+ghost use Rattle.moves.specs.Steps.{crunchStep};
 
 // Where a walk over a body stands: a place, the mode there, and the span that is known there.
 pub struct Stand {

@@ -19,9 +19,10 @@ use Rattle.escapes.specs.declared.Escape.the-variants.{Byte, Unknown}
 use Rattle.escapes.specs.declared.Tail.{Tail}
 use Rattle.escapes.proofs.Tails.{drop-take}
 use Rattle.body_steps.specs.BraceHelpers.{SpanOf, Spans, Reaches}
-use Rattle.body_steps.specs.Steps.{one, escaped, braced, stringStep}
-use Rattle.body_steps.specs.declared.moves.Mode.the-variants.{String}
-use Rattle.body_steps.specs.declared.moves.Move.{Move}
+use Rattle.moves.specs.Steps.{one, escaped, braced, stringStep}
+use Rattle.moves.specs.declared.Mode.the-variants.{String}
+use Rattle.moves.specs.declared.Move.{Move}
+use Rattle.moves.proofs.StringSteps.{escaped-known, escaped-unknown}
 use Rattle.body_steps.specs.declared.string.Span.{Span}
 
 -- ---- a span that is known
@@ -115,12 +116,10 @@ module _ (t : List ℕ) {at : ℕ} {w : Span} (s : SpanOf t at w) (e : getD t at
 
     pub brace-known : {b count : ℕ} → x ≡ Byte b count
         → _≡_ {A = Move} (record { prefixed = false; byte = b; count = count; mode = String; used = w .close + 1 - at }) (stringStep (drop at t))
-    unfolding escaped
     brace-known {b} {count} g =
         let i : w .close + 1 - at ≡ w .close - (at + 1) + 2 = omega (arith, s .ahead) in
         ap {B = Move} (λ (n : ℕ). record { prefixed = false; byte = b; count = count; mode = String; used = n }) i
-        ∙ ap (escaped (w .close - (at + 1))) (sym g) ∙ escaped-here
+        ∙ escaped-known (w .close - (at + 1)) g ∙ escaped-here
 
     pub brace-unknown : {r : Move} → r ≡ one 0x7B String → x ≡ Unknown → r ≡ stringStep (drop at t)
-    unfolding escaped
-    brace-unknown q g = q ∙ ap (escaped (w .close - (at + 1))) (sym g) ∙ escaped-here
+    brace-unknown q g = escaped-unknown (w .close - (at + 1)) q g ∙ escaped-here

@@ -1,5 +1,1 @@
-pub mod Beginnings
 pub mod Braces
-pub mod PlainSteps
-pub mod ShortSteps
-pub mod StringSteps

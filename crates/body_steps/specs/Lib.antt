@@ -1,4 +1,1 @@
 pub mod BraceHelpers
-pub mod Lexicon
-pub mod ShortHelpers
-pub mod Steps

@@ -1,6 +1,5 @@
-// One step of crunching a body: what the front of the text left gives in each mode, and how much of the text it takes.
-pub mod moves;
+// One step of crunching a body at a byte that does not give one by itself: what it gives in plain mode and in a string, and how much of the
+// text it takes.
 mod plain;
-pub mod short;
 pub mod step;
 pub mod string;

@@ -1,8 +1,7 @@
 // A step in plain mode at a letter or at the first byte of pi. The functions are lent the text from the step's place on.
-use crate::moves;
-use crate::moves::Mode;
-use crate::moves::Move;
 use matching::sets::Sets;
+use moves::Mode;
+use moves::Move;
 use words::Match;
 ghost use mathlib.Core.Path.{_≡_};
 ghost use mathlib.Core.Bool.{true, false};
@@ -12,8 +11,8 @@ ghost use Rattle.ascii.specs.Bytes.{isLetter};
 ghost use Rattle.tables.specs.Tsb.{tsbWords};
 ghost use Rattle.tables.specs.WordsHelpers.{SpellsWords};
 ghost use Rattle.matching.specs.Sets.{liveWord};
-ghost use Rattle.body_steps.specs.Lexicon.{lexicon};
-ghost use Rattle.body_steps.specs.Steps.{first, opened as openedBy, otherStep, formStep, plainStep};
+ghost use Rattle.moves.specs.Lexicon.{lexicon};
+ghost use Rattle.moves.specs.Steps.{first, otherStep, formStep, plainStep};
 
 // A letter: a TSB word, a V2 word or one of BASIC 3.5, a short form of a V2 word, or the letter.
 pub fn letter_step(rest: &[u8], bytes: &[u8], index: &[u16], sets: Sets) -> Move
@@ -31,7 +30,7 @@ pub fn letter_step(rest: &[u8], bytes: &[u8], index: &[u16], sets: Sets) -> Move
                 index: _,
                 used,
                 token,
-            } => moves::token(false, token, opened(token), used),
+            } => moves::token(false, token, moves::opened(token), used),
             Match::Nothing => form_step(rest, bytes, index, sets),
         },
     }
@@ -61,22 +60,9 @@ fn form_step(rest: &[u8], bytes: &[u8], index: &[u16], sets: Sets) -> Move
             index: _,
             used,
             token,
-        } => moves::token(false, token, opened(token), used),
+        } => moves::token(false, token, moves::opened(token), used),
         Match::Nothing => moves::one(ascii::upper(rest[0]), Mode::Plain),
     }
-}
-
-// The mode behind a word.
-fn opened(token: u8) -> Mode
-    ensures { λ r. ⌜ r ≡ openedBy token ⌝ }
-{
-    if token == 0x8F {
-        return Mode::Remark;
-    }
-    if token == 0x83 {
-        return Mode::Data;
-    }
-    Mode::Plain
 }
 
 // CF with 80 behind it is pi.

@@ -1,17 +1,17 @@
 // One step of crunching a body, at a byte that does not give one by itself: a word, pi, a letter, or an escape.
-use crate::moves::Move;
 use crate::plain;
 use crate::string;
 use crate::string::Span;
 use matching::sets::Sets;
+use moves::Move;
 ghost use mathlib.Core.Path.{_≡_};
 ghost use mathlib.Core.Bool.{true};
 ghost use Prim.Native.Nat.{_<_};
 ghost use lib.ListN.{length, getD, drop};
 ghost use Rattle.tables.specs.WordsHelpers.{SpellsWords};
 ghost use Rattle.body_steps.specs.BraceHelpers.{Reaches};
-ghost use Rattle.body_steps.specs.Lexicon.{lexicon};
-ghost use Rattle.body_steps.specs.ShortHelpers.{isLong, longStep};
+ghost use Rattle.moves.specs.Lexicon.{lexicon};
+ghost use Rattle.moves.specs.ShortHelpers.{isLong, longStep};
 
 // A step at a place of a text. At a { the span is that of its }.
 pub fn step(text: &[u8], at: usize, span: Span, bytes: &[u8], index: &[u16], sets: Sets) -> Move

@@ -1,17 +1,16 @@
 // A step at a { in a string.
-use crate::moves;
-use crate::moves::Mode;
-use crate::moves::Move;
 use ascii::search;
 use ascii::search::Kind;
 use escapes::Escape;
 use escapes::Tail;
+use moves::Mode;
+use moves::Move;
 ghost use mathlib.Core.Path.{_≡_};
 ghost use Prim.Native.Nat.{_<_};
 ghost use lib.ListN.{length, getD, drop};
 ghost use Rattle.tables.specs.WordsHelpers.{SpellsWords};
 ghost use Rattle.body_steps.specs.BraceHelpers.{SpanOf, Spans, Reaches};
-ghost use Rattle.body_steps.specs.Steps.{stringStep};
+ghost use Rattle.moves.specs.Steps.{stringStep};
 
 // What the { in front of one } share: a place behind the first of them, the place of the }, or the text's end where none follows, and
 // the tail of the bytes between.

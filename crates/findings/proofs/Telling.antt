@@ -8,9 +8,9 @@ use lib.Dec.{eqb, ltb}
 use lib.ListN.{take}
 use borrow.Author.Tests.{eq-eqb, ne-eqb, lt-ltb, le-ltb}
 use Rattle.ascii.specs.Search.{equals, before}
-use Rattle.body_steps.specs.declared.moves.Mode.{Mode}
-use Rattle.body_steps.specs.declared.moves.Mode.the-variants.{String}
-use Rattle.body_steps.specs.declared.moves.Move.{Move}
+use Rattle.moves.specs.declared.Mode.{Mode}
+use Rattle.moves.specs.declared.Mode.the-variants.{String}
+use Rattle.moves.specs.declared.Move.{Move}
 use Rattle.findings.specs.Braces.{insideBy, insideOf}
 use Rattle.findings.specs.Sights.{isCode, isControl, isKept, findingOf}
 use Rattle.findings.specs.declared.braces.Inside.the-variants.{Closed, Unclosed, Long}

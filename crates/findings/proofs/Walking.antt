@@ -13,11 +13,11 @@ use mir.Val.{Fits}
 use Rattle.steps.proofs.Nearer.{Nearer, again-on}
 use Rattle.ascii.proofs.Choice.{taken, left}
 use Rattle.matching.specs.declared.sets.Sets.{Sets}
-use Rattle.body_steps.specs.Lexicon.{Lexicon, lexicon}
-use Rattle.body_steps.specs.Steps.{crunchStep}
-use Rattle.body_steps.specs.declared.moves.Mode.{Mode}
-use Rattle.body_steps.specs.declared.moves.Move.{Move}
-use Rattle.body_steps.proofs.Beginnings.{proper, Takes, document-proper}
+use Rattle.moves.specs.Lexicon.{Lexicon, lexicon}
+use Rattle.moves.specs.Steps.{crunchStep}
+use Rattle.moves.specs.declared.Mode.{Mode}
+use Rattle.moves.specs.declared.Move.{Move}
+use Rattle.moves.proofs.Beginnings.{proper, Takes, document-proper}
 use Rattle.body.proofs.Progress.{step-takes}
 use Rattle.findings.specs.Sights.{findingOf, isUsual, stepFrom, spotBehind, toldOr, sightOn, firstSight}
 use Rattle.findings.specs.declared.sights.Finding.{Finding}

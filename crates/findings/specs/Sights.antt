@@ -6,11 +6,11 @@ use mathlib.Core.List.{List}
 use lib.Dec.{eqb, ltb}
 use lib.ListN.{length, getD, drop}
 use Rattle.steps.specs.Again.{again}
-use Rattle.body_steps.specs.Lexicon.{Lexicon}
-use Rattle.body_steps.specs.Steps.{crunchStep}
-use Rattle.body_steps.specs.declared.moves.Mode.{Mode}
-use Rattle.body_steps.specs.declared.moves.Mode.the-variants.{Plain, String, Remark, Data, DataQuote}
-use Rattle.body_steps.specs.declared.moves.Move.{Move}
+use Rattle.moves.specs.Lexicon.{Lexicon}
+use Rattle.moves.specs.Steps.{crunchStep}
+use Rattle.moves.specs.declared.Mode.{Mode}
+use Rattle.moves.specs.declared.Mode.the-variants.{Plain, String, Remark, Data, DataQuote}
+use Rattle.moves.specs.declared.Move.{Move}
 use Rattle.findings.specs.declared.sights.Finding.{Finding}
 use Rattle.findings.specs.declared.sights.Finding.the-variants.{Usual, TsbWord, Zero, Brace, Control}
 use Rattle.findings.specs.declared.sights.Sighting.{Sighting}

@@ -4,7 +4,7 @@ use Prim.Native.Nat.{ℕ}
 use mathlib.Core.Path.{_≡_}
 use mathlib.Core.List.{List}
 use Rattle.body_steps.specs.BraceHelpers.{Spans}
-use Rattle.body_steps.specs.Lexicon.{Lexicon}
+use Rattle.moves.specs.Lexicon.{Lexicon}
 use Rattle.body.specs.declared.at.Stand.{Stand}
 use Rattle.findings.specs.Sights.{firstSight}
 use Rattle.findings.specs.declared.sights.Sighting.{Sighting}

@@ -11,7 +11,7 @@ ghost use lib.ListN.{length};
 ghost use Rattle.tables.specs.WordsHelpers.{SpellsWords};
 ghost use Rattle.dialect.specs.declared.Dialect.the-variants.{Auto};
 ghost use Rattle.guess.specs.Guess.{wordSets};
-ghost use Rattle.body_steps.specs.Lexicon.{lexicon};
+ghost use Rattle.moves.specs.Lexicon.{lexicon};
 ghost use Rattle.body.specs.Body.{crunchedBody};
 ghost use Rattle.findings.specs.Deciding.{decidingLine, tsbLength};
 

@@ -1,14 +1,14 @@
 // The steps of a body that an editor is told of, one after the other.
 use body::at;
 use body::at::Stand;
-use body_steps::moves::Mode;
-use body_steps::moves::Move;
 use matching::sets::Sets;
+use moves::Mode;
+use moves::Move;
 use tables::spellings;
 ghost use mathlib.Core.Path.{_≡_};
 ghost use Rattle.tables.specs.WordsHelpers.{SpellsWords};
 ghost use Rattle.body_steps.specs.BraceHelpers.{Spans};
-ghost use Rattle.body_steps.specs.Lexicon.{lexicon};
+ghost use Rattle.moves.specs.Lexicon.{lexicon};
 ghost use Rattle.findings.specs.Sights.{isCode, isControl, isKept, findingOf, isUsual, firstSight};
 ghost use Rattle.findings.specs.ToldHelpers.{Tells};
 

@@ -22,11 +22,11 @@ use Rattle.line_numbers.specs.Numbering.{ReadLine, blankLine, missingNumber, nu
 use Rattle.text_lines.specs.TextLines.{textLines}
 use Rattle.guess.specs.Guess.{evidence, names, noneDemoted, wordSets}
 use Rattle.body.specs.Body.{written, moveThen, crunchOn, crunchedFrom, crunchedBody}
-use Rattle.body_steps.specs.Lexicon.{Lexicon, lexicon}
-use Rattle.body_steps.specs.Steps.{first, one, token, opened, signStep, formStep, plainStep, stringStep, dataStep, dataQuoteStep, crunchStep}
-use Rattle.body_steps.specs.declared.moves.Mode.{Mode}
-use Rattle.body_steps.specs.declared.moves.Mode.the-variants.{Plain, String, Remark, Data, DataQuote}
-use Rattle.body_steps.specs.declared.moves.Move.{Move}
+use Rattle.moves.specs.Lexicon.{Lexicon, lexicon}
+use Rattle.moves.specs.Steps.{first, one, token, opened, signStep, formStep, plainStep, stringStep, dataStep, dataQuoteStep, crunchStep}
+use Rattle.moves.specs.declared.Mode.{Mode}
+use Rattle.moves.specs.declared.Mode.the-variants.{Plain, String, Remark, Data, DataQuote}
+use Rattle.moves.specs.declared.Move.{Move}
 use Rattle.readers.specs.NumberedBody.{NumberedBody}
 use Rattle.layout.specs.Layout.{imageOf}
 use Rattle.layout.specs.Reads.{linesAt}

@@ -18,11 +18,11 @@ use Rattle.line_numbers.specs.Numbering.{ReadLine, blankLine, missingNumber, nu
 use Rattle.text_lines.specs.TextLines.{textLines}
 use Rattle.guess.specs.Guess.{wordSets}
 use Rattle.body.specs.Body.{moveThen}
-use Rattle.body_steps.specs.Lexicon.{Lexicon, lexicon}
-use Rattle.body_steps.specs.Steps.{first, one, token, opened, signStep, stringStep, dataStep, dataQuoteStep}
-use Rattle.body_steps.specs.declared.moves.Mode.{Mode}
-use Rattle.body_steps.specs.declared.moves.Mode.the-variants.{Plain, String, Remark, Data, DataQuote}
-use Rattle.body_steps.specs.declared.moves.Move.{Move}
+use Rattle.moves.specs.Lexicon.{Lexicon, lexicon}
+use Rattle.moves.specs.Steps.{first, one, token, opened, signStep, stringStep, dataStep, dataQuoteStep}
+use Rattle.moves.specs.declared.Mode.{Mode}
+use Rattle.moves.specs.declared.Mode.the-variants.{Plain, String, Remark, Data, DataQuote}
+use Rattle.moves.specs.declared.Move.{Move}
 use Rattle.readers.specs.NumberedBody.{NumberedBody}
 use Rattle.profile.specs.Profile.{lineAllowed, allowed, leastBehind}
 use Rattle.text_image.specs.Crunched.{lastLink}

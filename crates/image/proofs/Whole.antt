@@ -22,7 +22,7 @@ use Rattle.text_lines.specs.declared.LineRule.the-variants.{AfterCr}
 use Rattle.domain.specs.Domain.{checkedText, textCheckAnswer}
 use Rattle.text_lines.specs.TextLines.{textLines}
 use Rattle.guess.specs.Guess.{wordSets}
-use Rattle.body_steps.specs.Lexicon.{Lexicon, lexicon}
+use Rattle.moves.specs.Lexicon.{Lexicon, lexicon}
 use Rattle.readers.specs.NumberedBody.{NumberedBody}
 use Rattle.layout.specs.Layout.{imageOf}
 use Rattle.layout.specs.Reads.{linesAt}

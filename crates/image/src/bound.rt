@@ -3,7 +3,7 @@ use matching::sets::Sets;
 use text_lines::LineRule;
 ghost use mathlib.Core.Bool.{false};
 ghost use Rattle.tables.specs.WordsHelpers.{SpellsWords};
-ghost use Rattle.body_steps.specs.Lexicon.{lexicon};
+ghost use Rattle.moves.specs.Lexicon.{lexicon};
 ghost use Rattle.text_image.specs.PassesHelpers.{textImage};
 ghost use Rattle.image.specs.CallHelpers.{FitsIf};
 

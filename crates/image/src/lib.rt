@@ -12,7 +12,7 @@ use text_image::Options;
 ghost use mathlib.Core.Path.{_≡_};
 ghost use Rattle.lent.specs.Lent.{intoBuffer, roomFor, outcomeAnswer, left};
 ghost use Rattle.tables.specs.WordsHelpers.{SpellsWords};
-ghost use Rattle.body_steps.specs.Lexicon.{lexicon};
+ghost use Rattle.moves.specs.Lexicon.{lexicon};
 ghost use Rattle.text_image.specs.Crunched.{crunched};
 ghost use Rattle.text_image.specs.Measured.{lineMeasured, lineAnswer};
 ghost use Rattle.text_image.specs.PassesHelpers.{textImage};

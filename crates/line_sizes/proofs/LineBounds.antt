@@ -10,7 +10,7 @@ use Rattle.line_numbers.specs.declared.Numbering.{Numbering}
 use Rattle.line_numbers.specs.declared.Numbering.the-variants.{Blank, Numbered}
 use Rattle.line_numbers.specs.NumberHelpers.{numbering}
 use Rattle.body.specs.Body.{crunchedBody}
-use Rattle.body_steps.specs.Lexicon.{Lexicon}
+use Rattle.moves.specs.Lexicon.{Lexicon}
 use Rattle.readers.specs.NumberedBody.{NumberedBody}
 use Rattle.layout.specs.Layout.{endAddress}
 use Rattle.text_image.specs.Crunched.{textLine}

@@ -15,7 +15,7 @@ use Rattle.refusals.specs.declared.Refusal.the-variants.{MissingLineNumber, Lin
 use Rattle.line_numbers.specs.declared.Numbering.{Numbering}
 use Rattle.line_numbers.specs.declared.Numbering.the-variants.{Blank, Missing, OutOfRange, Numbered}
 use Rattle.line_numbers.specs.NumberHelpers.{numbering, told}
-use Rattle.body_steps.specs.Lexicon.{Lexicon}
+use Rattle.moves.specs.Lexicon.{Lexicon}
 use Rattle.body.specs.Body.{crunchedBody}
 use Rattle.body.specs.Zero.{holdsZero}
 use Rattle.readers.specs.NumberedBody.{NumberedBody}

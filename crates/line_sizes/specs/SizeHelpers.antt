@@ -7,7 +7,7 @@ use mathlib.Core.List.{List, [], _∷_}
 use lib.Dec.{ltb}
 use Rattle.refusals.specs.declared.Refusal.the-variants.{AddressOverflow}
 use Rattle.refusals.specs.Answer.{Answer, done, refused, numbered, andThen}
-use Rattle.body_steps.specs.Lexicon.{Lexicon}
+use Rattle.moves.specs.Lexicon.{Lexicon}
 use Rattle.readers.specs.NumberedBody.{NumberedBody}
 use Rattle.layout.specs.Layout.{linkOf, endAddress}
 use Rattle.text_image.specs.Crunched.{textLine, lastLink}

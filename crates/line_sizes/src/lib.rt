@@ -7,7 +7,7 @@ use refusals::Refusal;
 ghost use mathlib.Core.Path.{_≡_};
 ghost use Prim.Native.Nat.{_≤_};
 ghost use Rattle.tables.specs.WordsHelpers.{SpellsWords};
-ghost use Rattle.body_steps.specs.Lexicon.{lexicon};
+ghost use Rattle.moves.specs.Lexicon.{lexicon};
 ghost use Rattle.text_image.specs.Crunched.{lineUnder};
 ghost use Rattle.line_sizes.specs.SizeHelpers.{SizedAs, sizedAt, Bounded};
 

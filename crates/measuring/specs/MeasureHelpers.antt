@@ -11,7 +11,7 @@ use Rattle.lent.specs.Lent.{roomFor, outcomeAnswer}
 use Rattle.lent.specs.declared.Outcome.the-variants.{Refused as Outcome·Refused}
 use Rattle.text_lines.specs.declared.LineRule.the-variants.{AfterCr}
 use Rattle.text_lines.specs.TextLines.{textLines}
-use Rattle.body_steps.specs.Lexicon.{Lexicon}
+use Rattle.moves.specs.Lexicon.{Lexicon}
 use Rattle.readers.specs.declared.Line.{Line}
 use Rattle.layout.specs.Reads.{linesAt}
 use Rattle.text_image.specs.Crunched.{crunchLines}

@@ -11,7 +11,7 @@ use text_image::Options;
 use text_lines::LineRule;
 ghost use mathlib.Core.Path.{_≡_};
 ghost use Rattle.tables.specs.WordsHelpers.{SpellsWords};
-ghost use Rattle.body_steps.specs.Lexicon.{lexicon};
+ghost use Rattle.moves.specs.Lexicon.{lexicon};
 ghost use Rattle.measuring.specs.MeasureHelpers.{PassedAs, refusedPass, Span, lineBetween};
 
 // What measuring a text answers: the room that its image needs, and the line at a place of that image.

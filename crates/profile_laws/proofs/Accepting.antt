@@ -16,7 +16,7 @@ use Rattle.ascii.proofs.Ranges.{between-in}
 use Rattle.text_lines.specs.declared.LineRule.the-variants.{AfterCr}
 use Rattle.domain.specs.Domain.{checkedText}
 use Rattle.text_lines.specs.TextLines.{textLines}
-use Rattle.body_steps.specs.Lexicon.{Lexicon}
+use Rattle.moves.specs.Lexicon.{Lexicon}
 use Rattle.body.specs.Zero.{holdsZero}
 use Rattle.readers.specs.Links.{linkStep}
 use Rattle.readers.specs.NumberedBody.{NumberedBody}

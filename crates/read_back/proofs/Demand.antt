@@ -18,7 +18,7 @@ use Rattle.line_numbers.specs.Numbering.{ReadLine, blankLine, missingNumber, nu
 use Rattle.text_lines.specs.TextLines.{textLines}
 use Rattle.line_numbers.proofs.Numbers.{number-fits}
 use Rattle.body.specs.Body.{crunchedBody}
-use Rattle.body_steps.specs.Lexicon.{Lexicon}
+use Rattle.moves.specs.Lexicon.{Lexicon}
 use Rattle.readers.specs.NumberedBody.{NumberedBody}
 use Rattle.readers.specs.Lines.{Reader, Overview, overview}
 use Rattle.readers.specs.Bodies.{bodiesOf}

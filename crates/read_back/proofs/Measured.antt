@@ -11,7 +11,7 @@ use Rattle.ascii.specs.Trim.{trim}
 use Rattle.text_lines.specs.declared.LineRule.the-variants.{AfterCr}
 use Rattle.domain.specs.Domain.{checkedText}
 use Rattle.text_lines.specs.TextLines.{textLines}
-use Rattle.body_steps.specs.Lexicon.{Lexicon}
+use Rattle.moves.specs.Lexicon.{Lexicon}
 use Rattle.image_bytes.specs.ImageBytes.{addressAt}
 use Rattle.readers.specs.declared.Line.{Line}
 use Rattle.readers.specs.NumberedBody.{NumberedBody}

@@ -17,7 +17,7 @@ use Rattle.line_numbers.specs.NumberHelpers.{numbering, told}
 use Rattle.ascii.specs.Search.{isBlank}
 use Rattle.text_lines.proofs.Blanks.{blank-trimmed}
 use Rattle.line_numbers.proofs.Numbers.{read-told, numbered-placed, read-space}
-use Rattle.body_steps.specs.Lexicon.{Lexicon}
+use Rattle.moves.specs.Lexicon.{Lexicon}
 use Rattle.readers.specs.NumberedBody.{NumberedBody}
 use Rattle.layout.specs.Layout.{endAddress}
 use Rattle.profile.specs.Profile.{allowed, leastBehind}

@@ -14,7 +14,7 @@ use Rattle.ascii.specs.Bytes.{isDigit}
 use Rattle.ascii.specs.Trim.{trim}
 use Rattle.line_numbers.specs.Numbering.{ReadLine, blankLine, missingNumber, numberTooHigh, numberedText, decimalFrom, digitsRead, trimmedRead, readLine}
 use Rattle.body.specs.Body.{crunchedBody}
-use Rattle.body_steps.specs.Lexicon.{Lexicon}
+use Rattle.moves.specs.Lexicon.{Lexicon}
 use Rattle.readers.specs.declared.Line.{Line}
 use Rattle.readers.specs.NumberedBody.{NumberedBody}
 use Rattle.layout.specs.Layout.{linkOf, endAddress}

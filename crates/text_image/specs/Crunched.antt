@@ -14,7 +14,7 @@ use Rattle.domain.specs.Domain.{checkedText}
 use Rattle.line_numbers.specs.Numbering.{ReadLine, blankLine, missingNumber, numberTooHigh, numberedText, readLine}
 use Rattle.text_lines.specs.TextLines.{textLines}
 use Rattle.guess.specs.Guess.{wordSets}
-use Rattle.body_steps.specs.Lexicon.{Lexicon, lexicon}
+use Rattle.moves.specs.Lexicon.{Lexicon, lexicon}
 use Rattle.body.specs.Body.{crunchedFrom, crunchedBody}
 use Rattle.readers.specs.NumberedBody.{NumberedBody}
 use Rattle.layout.specs.Layout.{endAddress, imageOf}

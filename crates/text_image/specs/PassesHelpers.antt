@@ -6,7 +6,7 @@ use mathlib.Core.List.{List, []}
 use Rattle.refusals.specs.Answer.{Answer, done, refused, mapDone, andThen}
 use Rattle.text_lines.specs.declared.LineRule.the-variants.{AfterCr}
 use Rattle.text_lines.specs.TextLines.{textLines}
-use Rattle.body_steps.specs.Lexicon.{Lexicon}
+use Rattle.moves.specs.Lexicon.{Lexicon}
 use Rattle.readers.specs.NumberedBody.{NumberedBody}
 use Rattle.layout.specs.Layout.{imageOf}
 use Rattle.text_image.specs.Crunched.{lineUnder, lastLink, crunchLines}

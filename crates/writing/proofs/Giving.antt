@@ -12,7 +12,7 @@ use Rattle.lent.proofs.Storing.{room-as, put-as, put-none}
 use Rattle.line_numbers.specs.declared.Numbering.{Numbering}
 use Rattle.line_numbers.specs.declared.Numbering.the-variants.{Blank, Missing, OutOfRange, Numbered}
 use Rattle.line_numbers.specs.NumberHelpers.{numbering, told}
-use Rattle.body_steps.specs.Lexicon.{Lexicon}
+use Rattle.moves.specs.Lexicon.{Lexicon}
 use Rattle.body.specs.Body.{crunchedBody}
 use Rattle.readers.specs.NumberedBody.{NumberedBody}
 use Rattle.layout.specs.Layout.{linesBytes, lineBytes}

@@ -9,7 +9,7 @@ ghost use mathlib.Core.Bool.{false};
 ghost use Rattle.lent.specs.Lent.{intoBuffer, left};
 ghost use Rattle.lent.specs.Stores.{Room, Put, HasRoom};
 ghost use Rattle.tables.specs.WordsHelpers.{SpellsWords};
-ghost use Rattle.body_steps.specs.Lexicon.{lexicon};
+ghost use Rattle.moves.specs.Lexicon.{lexicon};
 ghost use Rattle.layout.specs.Layout.{linesBytes, twoBytes};
 ghost use Rattle.text_image.specs.Crunched.{textLine};
 ghost use Rattle.text_image.specs.PassesHelpers.{textImage, given};

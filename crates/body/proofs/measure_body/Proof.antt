@@ -5,8 +5,8 @@ use denote.Ref.{now}
 use lib.ListN.{length}
 use mir.Syntax.{w64}
 use mir.Val.{Fits}
-use Rattle.body_steps.specs.Lexicon.{lexicon}
-use Rattle.body_steps.proofs.Beginnings.{document-proper}
+use Rattle.moves.specs.Lexicon.{lexicon}
+use Rattle.moves.proofs.Beginnings.{document-proper}
 use Rattle.body.proofs.Writing.{Measured, measured-start, measured-full, measured-turn, measured-end, measured-fits, measured-less, short-full, short-measured, long-byte, long-here}
 use Rattle.body_steps.specs.BraceHelpers.{Spans}
 use Rattle.body_steps.proofs.Braces.{spans-on, reaches-on}

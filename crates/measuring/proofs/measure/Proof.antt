@@ -3,7 +3,7 @@
 use Prim.Native.Nat.{_-_}
 use native.Mathlib.Omega.{arith}
 use lib.ListN.{length}
-use Rattle.body_steps.specs.Lexicon.{lexicon}
+use Rattle.moves.specs.Lexicon.{lexicon}
 use Rattle.measuring.proofs.Measuring.{MeasuredTo, measured-low, measured-end, measured-start, measured-blank, measured-refused, measured-span, measured-here, measured-past}
 use Rattle.guess.proofs.Texts.{line-high, line-less, line-up}
 use borrow.Author.Needs.{needs}

@@ -5,7 +5,7 @@ use denote.Ref.{now}
 use lib.ListN.{length}
 use mir.Syntax.{w64}
 use mir.Val.{Fits}
-use Rattle.body_steps.specs.Lexicon.{lexicon}
+use Rattle.moves.specs.Lexicon.{lexicon}
 use Rattle.writing.proofs.Writing.{Written, room-load, written-start, written-room, written-turn, written-room-end, written-end, written-high, written-low, written-fits, written-same, written-within}
 use Rattle.guess.proofs.Texts.{line-high, line-less, line-up}
 use native.Mathlib.Omega.{arith}

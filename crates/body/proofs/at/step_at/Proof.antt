@@ -6,12 +6,12 @@ use mathlib.Core.Bool.{Bool, true}
 use mathlib.Core.List.{List}
 use lib.ListN.{length, getD, drop}
 use Rattle.matching.specs.declared.sets.Sets.{Sets}
-use Rattle.body_steps.specs.Lexicon.{lexicon}
-use Rattle.body_steps.specs.ShortHelpers.{isShort, shortByte, shortMode}
-use Rattle.body_steps.specs.Steps.{one, crunchStep}
-use Rattle.body_steps.specs.declared.moves.Mode.{Mode}
-use Rattle.body_steps.specs.declared.moves.Move.{Move}
-use Rattle.body_steps.proofs.ShortSteps.{short-known}
+use Rattle.moves.specs.Lexicon.{lexicon}
+use Rattle.moves.specs.ShortHelpers.{isShort, shortByte, shortMode}
+use Rattle.moves.specs.Steps.{one, crunchStep}
+use Rattle.moves.specs.declared.Mode.{Mode}
+use Rattle.moves.specs.declared.Move.{Move}
+use Rattle.moves.proofs.ShortSteps.{short-known}
 use Rattle.body.proofs.Writing.{short-here, long-byte, long-here}
 use borrow.Author.Needs.{needs}
 use Rattle.body.proofs.at.step_at.Statement.{statement}

@@ -5,8 +5,8 @@ use denote.Ref.{now}
 use lib.ListN.{length}
 use mir.Syntax.{w64}
 use mir.Val.{Fits}
-use Rattle.body_steps.specs.Lexicon.{lexicon}
-use Rattle.body_steps.proofs.Beginnings.{document-proper}
+use Rattle.moves.specs.Lexicon.{lexicon}
+use Rattle.moves.proofs.Beginnings.{document-proper}
 use Rattle.body.proofs.Writing.{long-byte, long-here}
 use Rattle.body.proofs.Zeros.{NoneTo, none-start, none-found, none-turn, none-end, none-less, none-fits, short-found, short-none}
 use Rattle.body_steps.specs.BraceHelpers.{Spans}

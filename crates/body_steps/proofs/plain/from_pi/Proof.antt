@@ -1,6 +1,6 @@
 -- `body_steps::plain::from_pi` meets its contract.
 -- Assumes nothing.
-use Rattle.body_steps.proofs.PlainSteps.{other-pi, other-no-pi, other-short}
+use Rattle.moves.proofs.PlainSteps.{other-pi, other-no-pi, other-short}
 use Rattle.steps.proofs.The.{the}
 use borrow.Author.Needs.{needs}
 use Rattle.body_steps.proofs.plain.from_pi.Statement.{statement}

@@ -4,9 +4,9 @@ use Prim.Native.Nat.{ℕ}
 use mathlib.Core.Path.{_≡_, ap, subst, sym, _∙_}
 use mathlib.Core.List.{List}
 use Rattle.body_steps.specs.BraceHelpers.{Spans}
-use Rattle.body_steps.specs.Lexicon.{Lexicon}
+use Rattle.moves.specs.Lexicon.{Lexicon}
 use Rattle.body.specs.declared.at.Stand.{Stand}
-use Rattle.body_steps.specs.declared.moves.Mode.{Mode}
+use Rattle.moves.specs.declared.Mode.{Mode}
 use Rattle.body_steps.specs.declared.string.Span.{Span}
 use Rattle.findings.specs.Sights.{firstSight}
 use Rattle.findings.specs.ToldHelpers.{Tells}

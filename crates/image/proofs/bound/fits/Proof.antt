@@ -3,7 +3,7 @@
 use Prim.Native.Nat.{_-_}
 use native.Mathlib.Omega.{arith}
 use lib.ListN.{length}
-use Rattle.body_steps.specs.Lexicon.{lexicon}
+use Rattle.moves.specs.Lexicon.{lexicon}
 use Rattle.image.proofs.Bounding.{BoundTo, bound-start, bound-low, bound-turn, bound-end}
 use Rattle.guess.proofs.Texts.{line-high, line-less, line-up}
 use borrow.Author.Needs.{needs}

@@ -1,10 +1,10 @@
 // Bytes that give one byte by themselves, whatever stands behind them.
-use crate::moves::Mode;
+use crate::Mode;
 ghost use mathlib.Core.Path.{_≡_};
 ghost use mathlib.Core.Bool.{true, cond};
 ghost use lib.Dec.{eqb};
-ghost use Rattle.body_steps.specs.ShortHelpers.{isShort, plainByte, shortByte, shortMode};
-ghost use Rattle.body_steps.specs.Steps.{lettered as letteredOf};
+ghost use Rattle.moves.specs.ShortHelpers.{isShort, plainByte, shortByte, shortMode};
+ghost use Rattle.moves.specs.Steps.{lettered as letteredOf};
 
 // Whether a byte is one: in plain mode all but letters and the first byte of pi, in a string all but {.
 pub fn is_short(mode: Mode, b: u8) -> bool

@@ -1,10 +1,10 @@
--- `body_steps::short::short_byte` meets its contract.
+-- `moves::short::short_byte` meets its contract.
 -- Assumes nothing.
-use Rattle.body_steps.specs.ShortHelpers.{shortByte}
-use Rattle.body_steps.proofs.ShortSteps.{byte-in, known-in}
+use Rattle.moves.specs.ShortHelpers.{shortByte}
+use Rattle.moves.proofs.ShortSteps.{byte-in, known-in}
 use borrow.Author.Needs.{needs}
-use Rattle.body_steps.proofs.short.short_byte.Statement.{statement}
-use Rattle.body_steps.proofs.short.short_byte.Tie as tie
+use Rattle.moves.proofs.short.short_byte.Statement.{statement}
+use Rattle.moves.proofs.short.short_byte.Tie as tie
 
 plain-byte-requires : tie.Need-plain-byte-requires
 plain-byte-requires c κs = search known-in

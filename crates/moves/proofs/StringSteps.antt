@@ -1,12 +1,16 @@
--- A byte of a string, case by case.
+-- A byte of a string, and an escape, case by case.
 -- Assumes nothing.
 use Prim.Native.Nat.{ℕ, _+_, _-_, _≤_}
-use mathlib.Core.Path.{_≡_, sym, _∙_}
+use mathlib.Core.Path.{_≡_, sym, ap, _∙_}
 use mathlib.Core.Bool.{Bool, true, false}
 use native.Mathlib.Omega.{arith}
 use Rattle.ascii.specs.Bytes.{between}
 use Rattle.ascii.proofs.Ranges.{between-in}
-use Rattle.body_steps.specs.Steps.{lettered}
+use Rattle.escapes.specs.declared.Escape.{Escape}
+use Rattle.escapes.specs.declared.Escape.the-variants.{Byte, Unknown}
+use Rattle.moves.specs.Steps.{one, lettered, escaped}
+use Rattle.moves.specs.declared.Mode.the-variants.{String}
+use Rattle.moves.specs.declared.Move.{Move}
 
 module _ (b : ℕ) where
   pub lettered-small : {x : Bool} → x ≡ true → x ≡ between 97 122 b → b - 32 ≡ lettered b
@@ -26,3 +30,14 @@ module _ (b : ℕ) where
 
   pub capital-to : {x : Bool} → x ≡ true → x ≡ between 65 90 b → b ≤ 90
   capital-to t e = omega (arith, between-in 65 90 b (sym e ∙ t))
+
+-- an escape, n bytes between braces: the string goes on behind it, whatever byte it gives
+module _ (n : ℕ) {x : Escape} where
+  pub escaped-known : {b count : ℕ} → x ≡ Byte b count
+      → _≡_ {A = Move} (record { prefixed = false; byte = b; count = count; mode = String; used = n + 2 }) (escaped n x)
+  unfolding escaped
+  escaped-known e = ap (escaped n) (sym e)
+
+  pub escaped-unknown : {r : Move} → r ≡ one 0x7B String → x ≡ Unknown → r ≡ escaped n x
+  unfolding escaped
+  escaped-unknown q e = q ∙ ap (escaped n) (sym e)

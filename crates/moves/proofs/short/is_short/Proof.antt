@@ -1,11 +1,11 @@
--- `body_steps::short::is_short` meets its contract.
+-- `moves::short::is_short` meets its contract.
 -- Assumes nothing.
-use Rattle.body_steps.specs.ShortHelpers.{isShort}
-use Rattle.body_steps.proofs.ShortSteps.{short-in, short-pi, short-letter}
+use Rattle.moves.specs.ShortHelpers.{isShort}
+use Rattle.moves.proofs.ShortSteps.{short-in, short-pi, short-letter}
 use Rattle.steps.proofs.The.{the}
 use borrow.Author.Needs.{needs}
-use Rattle.body_steps.proofs.short.is_short.Statement.{statement}
-use Rattle.body_steps.proofs.short.is_short.Tie as tie
+use Rattle.moves.proofs.short.is_short.Statement.{statement}
+use Rattle.moves.proofs.short.is_short.Tie as tie
 
 returns : tie.Need-returns
 returns c = search (short-in, short-pi)

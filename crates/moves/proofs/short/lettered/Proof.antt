@@ -1,11 +1,11 @@
--- `body_steps::short::lettered` meets its contract.
+-- `moves::short::lettered` meets its contract.
 -- Assumes nothing.
 use native.Mathlib.Omega.{arith}
-use Rattle.body_steps.proofs.StringSteps.{lettered-small, lettered-capital, lettered-other, capital-to, raised-from}
+use Rattle.moves.proofs.StringSteps.{lettered-small, lettered-capital, lettered-other, capital-to, raised-from}
 use Rattle.steps.proofs.The.{the}
 use borrow.Author.Needs.{needs}
-use Rattle.body_steps.proofs.short.lettered.Statement.{statement}
-use Rattle.body_steps.proofs.short.lettered.Tie as tie
+use Rattle.moves.proofs.short.lettered.Statement.{statement}
+use Rattle.moves.proofs.short.lettered.Tie as tie
 
 sub-result : tie.Need-sub-result
 sub-result c = search raised-from

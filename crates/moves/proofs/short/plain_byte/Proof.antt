@@ -1,9 +1,9 @@
--- `body_steps::short::plain_byte` meets its contract.
+-- `moves::short::plain_byte` meets its contract.
 -- Assumes nothing.
-use Rattle.body_steps.specs.ShortHelpers.{plainByte}
-use Rattle.body_steps.proofs.ShortSteps.{no-operator}
-use Rattle.body_steps.proofs.short.plain_byte.Statement.{statement}
-use Rattle.body_steps.proofs.short.plain_byte.Tie as tie
+use Rattle.moves.specs.ShortHelpers.{plainByte}
+use Rattle.moves.proofs.ShortSteps.{no-operator}
+use Rattle.moves.proofs.short.plain_byte.Statement.{statement}
+use Rattle.moves.proofs.short.plain_byte.Tie as tie
 
 returns : tie.Need-returns
 unfolding plainByte

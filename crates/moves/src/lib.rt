@@ -1,6 +1,9 @@
-// What a step of crunching does: the modes, and a step's answer.
+// What a step of crunching does: the modes, a step's answer, and the bytes that give one by themselves. The definition of a step in each
+// mode stands here with its laws.
 ghost use mathlib.Core.Path.{_≡_};
-ghost use Rattle.body_steps.specs.Steps.{one as oneByte, token as tokenOf};
+ghost use Rattle.moves.specs.Steps.{one as oneByte, token as tokenOf, opened as openedBy};
+
+pub mod short;
 
 pub enum Mode {
     Plain,
@@ -44,4 +47,17 @@ pub fn token(prefixed: bool, byte: u8, mode: Mode, used: usize) -> Move
         mode,
         used,
     }
+}
+
+// The mode behind a word.
+pub fn opened(token: u8) -> Mode
+    ensures { λ r. ⌜ r ≡ openedBy token ⌝ }
+{
+    if token == 0x8F {
+        return Mode::Remark;
+    }
+    if token == 0x83 {
+        return Mode::Data;
+    }
+    Mode::Plain
 }

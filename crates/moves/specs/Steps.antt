@@ -14,10 +14,10 @@ use Rattle.escapes.specs.declared.Escape.{Escape}
 use Rattle.escapes.specs.declared.Escape.the-variants.{Byte, Unknown}
 use Rattle.matching.specs.Sets.{liveWord, plainWord}
 use Rattle.forms.specs.Forms.{formWord}
-use Rattle.body_steps.specs.Lexicon.{Lexicon}
-use Rattle.body_steps.specs.declared.moves.Mode.{Mode}
-use Rattle.body_steps.specs.declared.moves.Mode.the-variants.{Plain, String, Remark, Data, DataQuote}
-use Rattle.body_steps.specs.declared.moves.Move.{Move}
+use Rattle.moves.specs.Lexicon.{Lexicon}
+use Rattle.moves.specs.declared.Mode.{Mode}
+use Rattle.moves.specs.declared.Mode.the-variants.{Plain, String, Remark, Data, DataQuote}
+use Rattle.moves.specs.declared.Move.{Move}
 
 -- the first byte of the text left
 abbrev pub first : List ℕ → ℕ

@@ -22,8 +22,8 @@ use Rattle.tables.specs.Tsb.{tsbWords}
 use Rattle.tables.specs.Basic35.{basic35Words}
 use Rattle.matching.specs.Sets.{isDemoted, isLive, liveWord, plainWords, plainWord}
 use Rattle.matching.specs.declared.sets.Sets.{Sets}
-use Rattle.body_steps.specs.Lexicon.{Lexicon, lexicon}
-use Rattle.body_steps.specs.Steps.{first}
+use Rattle.moves.specs.Lexicon.{Lexicon, lexicon}
+use Rattle.moves.specs.Steps.{first}
 
 -- ---- the rule of a lexicon: each TSB word, each V2 word and each of BASIC 3.5 begins with a letter, and no operator does
 

@@ -1,8 +1,8 @@
--- `body_steps::short::at_byte` meets its contract.
+-- `moves::short::at_byte` meets its contract.
 -- Assumes nothing.
 use borrow.Author.Tests.{eq-eqb, ne-eqb}
-use Rattle.body_steps.proofs.short.at_byte.Statement.{statement}
-use Rattle.body_steps.proofs.short.at_byte.Tie as tie
+use Rattle.moves.proofs.short.at_byte.Statement.{statement}
+use Rattle.moves.proofs.short.at_byte.Tie as tie
 
 returns : tie.Need-returns
 returns c = simp (eq-eqb _ _ (c .if1 .taken))

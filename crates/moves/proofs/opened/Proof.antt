@@ -1,9 +1,9 @@
--- `body_steps::plain::opened` meets its contract.
+-- `moves::opened` meets its contract.
 -- Assumes nothing.
-use Rattle.body_steps.proofs.PlainSteps.{opened-remark, opened-data, opened-plain}
+use Rattle.moves.proofs.PlainSteps.{opened-remark, opened-data, opened-plain}
 use Rattle.steps.proofs.The.{the}
-use Rattle.body_steps.proofs.plain.opened.Statement.{statement}
-use Rattle.body_steps.proofs.plain.opened.Tie as tie
+use Rattle.moves.proofs.opened.Statement.{statement}
+use Rattle.moves.proofs.opened.Tie as tie
 
 returns : tie.Need-returns
 returns c = search opened-remark

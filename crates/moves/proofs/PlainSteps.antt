@@ -15,12 +15,12 @@ use Rattle.words.specs.declared.Match.the-variants.{Word, Nothing}
 use Rattle.matching.specs.Sets.{liveWord, plainWord}
 use Rattle.forms.specs.Forms.{formWord}
 use Rattle.forms.proofs.Standing.{form-letter}
-use Rattle.body_steps.specs.Lexicon.{Lexicon}
-use Rattle.body_steps.specs.Steps.{first, one, token, opened, otherStep, signStep, formStep, plainStep}
-use Rattle.body_steps.specs.declared.moves.Mode.{Mode}
-use Rattle.body_steps.specs.declared.moves.Mode.the-variants.{Plain, String, Remark, Data}
-use Rattle.body_steps.specs.declared.moves.Move.{Move}
-use Rattle.body_steps.proofs.Beginnings.{proper, word-none, live-none, tsb-start, plain-word-none, operators-start}
+use Rattle.moves.specs.Lexicon.{Lexicon}
+use Rattle.moves.specs.Steps.{first, one, token, opened, otherStep, signStep, formStep, plainStep}
+use Rattle.moves.specs.declared.Mode.{Mode}
+use Rattle.moves.specs.declared.Mode.the-variants.{Plain, String, Remark, Data}
+use Rattle.moves.specs.declared.Move.{Move}
+use Rattle.moves.proofs.Beginnings.{proper, word-none, live-none, tsb-start, plain-word-none, operators-start}
 
 -- ---- a byte that begins no word
 

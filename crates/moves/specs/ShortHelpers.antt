@@ -9,11 +9,11 @@ use Rattle.ascii.specs.Bytes.{upper, between, isLetter}
 use Rattle.words.specs.Find.{wordIn}
 use Rattle.words.specs.declared.Match.the-variants.{Word, Nothing}
 use Rattle.tables.specs.Rom.{operators}
-use Rattle.body_steps.specs.Lexicon.{Lexicon}
-use Rattle.body_steps.specs.Steps.{first, lettered, plainStep, stringStep}
-use Rattle.body_steps.specs.declared.moves.Mode.{Mode}
-use Rattle.body_steps.specs.declared.moves.Mode.the-variants.{Plain, String, Remark, Data, DataQuote}
-use Rattle.body_steps.specs.declared.moves.Move.{Move}
+use Rattle.moves.specs.Lexicon.{Lexicon}
+use Rattle.moves.specs.Steps.{first, lettered, plainStep, stringStep}
+use Rattle.moves.specs.declared.Mode.{Mode}
+use Rattle.moves.specs.declared.Mode.the-variants.{Plain, String, Remark, Data, DataQuote}
+use Rattle.moves.specs.declared.Move.{Move}
 
 -- in plain mode all but letters and the first byte of pi, in a string all but {
 unfoldable pub isShort : Mode → ℕ → Bool

@@ -19,14 +19,14 @@ use Rattle.words.specs.declared.Match.{Match}
 use Rattle.words.specs.declared.Match.the-variants.{Word, Nothing}
 use Rattle.tables.specs.Rom.{operators}
 use Rattle.matching.specs.declared.sets.Sets.{Sets}
-use Rattle.body_steps.specs.Lexicon.{lexicon}
-use Rattle.body_steps.specs.ShortHelpers.{isShort, plainByte, shortByte, shortMode, isLong, longStep}
-use Rattle.body_steps.specs.Steps.{first, one, token, otherStep, plainStep, lettered, stringByte, stringStep, dataStep, dataQuoteStep, crunchStep}
-use Rattle.body_steps.specs.declared.moves.Mode.{Mode}
-use Rattle.body_steps.specs.declared.moves.Mode.the-variants.{Plain, String, Remark, Data, DataQuote}
-use Rattle.body_steps.specs.declared.moves.Move.{Move}
-use Rattle.body_steps.proofs.Beginnings.{document-proper, word-takes, Takes, operators-start}
-use Rattle.body_steps.proofs.PlainSteps.{plain-quote, other-operator, other-none}
+use Rattle.moves.specs.Lexicon.{lexicon}
+use Rattle.moves.specs.ShortHelpers.{isShort, plainByte, shortByte, shortMode, isLong, longStep}
+use Rattle.moves.specs.Steps.{first, one, token, otherStep, plainStep, lettered, stringByte, stringStep, dataStep, dataQuoteStep, crunchStep}
+use Rattle.moves.specs.declared.Mode.{Mode}
+use Rattle.moves.specs.declared.Mode.the-variants.{Plain, String, Remark, Data, DataQuote}
+use Rattle.moves.specs.declared.Move.{Move}
+use Rattle.moves.proofs.Beginnings.{document-proper, word-takes, Takes, operators-start}
+use Rattle.moves.proofs.PlainSteps.{plain-quote, other-operator, other-none}
 
 -- ---- what is known in an arm for a mode
 

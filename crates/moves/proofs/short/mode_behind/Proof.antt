@@ -1,10 +1,10 @@
--- `body_steps::short::mode_behind` meets its contract.
+-- `moves::short::mode_behind` meets its contract.
 -- Assumes nothing.
-use Rattle.body_steps.specs.ShortHelpers.{shortMode}
-use Rattle.body_steps.proofs.ShortSteps.{behind-in, behind-data}
+use Rattle.moves.specs.ShortHelpers.{shortMode}
+use Rattle.moves.proofs.ShortSteps.{behind-in, behind-data}
 use borrow.Author.Needs.{needs}
-use Rattle.body_steps.proofs.short.mode_behind.Statement.{statement}
-use Rattle.body_steps.proofs.short.mode_behind.Tie as tie
+use Rattle.moves.proofs.short.mode_behind.Statement.{statement}
+use Rattle.moves.proofs.short.mode_behind.Tie as tie
 
 returns : tie.Need-returns
 unfolding shortMode

@@ -1,0 +1,4 @@
+pub mod Beginnings
+pub mod PlainSteps
+pub mod ShortSteps
+pub mod StringSteps

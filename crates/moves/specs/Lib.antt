@@ -1,0 +1,3 @@
+pub mod Lexicon
+pub mod ShortHelpers
+pub mod Steps
