@@ -24,10 +24,10 @@ use Rattle.matching.specs.Sets.{isDemoted, isLive, liveWord, plainWord}
 use Rattle.forms.specs.Forms.{formWord}
 use Rattle.forms.proofs.Standing.{form-takes}
 use Rattle.matching.specs.declared.sets.Sets.{Sets}
-use Rattle.escapes.specs.Escape.{escapeOf}
-use Rattle.escapes.specs.declared.Escape.{Escape}
-use Rattle.escapes.specs.declared.Escape.the-variants.{Byte, Unknown}
-use Rattle.escapes.proofs.Once.{Often, given-once}
+use Rattle.escape_bytes.specs.Escape.{escapeOf}
+use Rattle.escape_bytes.specs.declared.Escape.{Escape}
+use Rattle.escape_bytes.specs.declared.Escape.the-variants.{Byte, Unknown}
+use Rattle.escape_bytes.proofs.Once.{Often, given-once}
 use Rattle.body.specs.Body.{written, crunchedFrom, crunchedBody}
 use Rattle.body.specs.BoundHelpers.{mayRepeat}
 use Rattle.moves.specs.Lexicon.{lexicon}

@@ -13,10 +13,10 @@ use Rattle.ascii.specs.Bytes.{upper}
 use Rattle.words.specs.Find.{wordIn}
 use Rattle.words.specs.declared.Match.{Match}
 use Rattle.words.specs.declared.Match.the-variants.{Word, Nothing}
-use Rattle.escapes.specs.Escape.{escapeOf}
+use Rattle.escape_bytes.specs.Escape.{escapeOf}
 use Rattle.ascii.specs.Search.{equals, before}
-use Rattle.escapes.specs.declared.Escape.{Escape}
-use Rattle.escapes.specs.declared.Escape.the-variants.{Byte, Unknown}
+use Rattle.escape_bytes.specs.declared.Escape.{Escape}
+use Rattle.escape_bytes.specs.declared.Escape.the-variants.{Byte, Unknown}
 use Rattle.matching.specs.Sets.{liveWord, plainWord}
 use Rattle.forms.specs.Forms.{formWord}
 use Rattle.forms.proofs.Standing.{form-takes}

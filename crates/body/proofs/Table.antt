@@ -18,9 +18,9 @@ use Rattle.matching.specs.Sets.{liveWord, plainWord}
 use Rattle.tables.specs.Basic35.{basic35Words}
 use Rattle.matching.specs.declared.sets.Sets.{Sets}
 use Rattle.tables.specs.Tsb.{tsbWords}
-use Rattle.escapes.specs.Numbers.{digitOf, numberAfter, numberOf, hexOf, unsigned, countOf}
-use Rattle.escapes.specs.Keys.{keyNames, controlByte, keyWith, keyed, keyEscape}
-use Rattle.escapes.specs.Escape.{nameEscape, repeated, starred, countedName, escapeOf}
+use Rattle.escape_numbers.specs.Numbers.{digitOf, numberAfter, numberOf, hexOf, unsigned, countOf}
+use Rattle.escape_bytes.specs.Keys.{keyNames, controlByte, keyWith, keyed, keyEscape}
+use Rattle.escape_bytes.specs.Escape.{nameEscape, repeated, starred, countedName, escapeOf}
 use Rattle.forms.specs.Forms.{formWord}
 use Rattle.body.specs.Body.{crunchedFrom, crunchedBody}
 use Rattle.moves.specs.Lexicon.{Lexicon, lexicon}

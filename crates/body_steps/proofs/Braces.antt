@@ -12,10 +12,10 @@ use mir.Syntax.{w64}
 use mir.Val.{Fits}
 use Rattle.ascii.specs.Search.{equals, other, before}
 use Rattle.ascii.proofs.Searching.{tail, here, before-le, front-drop}
-use Rattle.escapes.specs.Escape.{escapeOf}
+use Rattle.escape_bytes.specs.Escape.{escapeOf}
 use Rattle.escapes.specs.TailHelpers.{TailOf}
-use Rattle.escapes.specs.declared.Escape.{Escape}
-use Rattle.escapes.specs.declared.Escape.the-variants.{Byte, Unknown}
+use Rattle.escape_bytes.specs.declared.Escape.{Escape}
+use Rattle.escape_bytes.specs.declared.Escape.the-variants.{Byte, Unknown}
 use Rattle.escapes.specs.declared.Tail.{Tail}
 use Rattle.escapes.proofs.Tails.{drop-take}
 use Rattle.body_steps.specs.BraceHelpers.{SpanOf, Spans, Reaches}

@@ -1,7 +1,7 @@
 // A step at a { in a string.
 use ascii::search;
 use ascii::search::Kind;
-use escapes::Escape;
+use escape_bytes::Escape;
 use escapes::Tail;
 use moves::Mode;
 use moves::Move;

@@ -1,6 +1,6 @@
 // Prints what the library gives, for the checks in facts/: the code of each escape that standard input names, a name to a line; then, for each
 // of the 256 bytes, the listing of a line that holds the byte alone, and of one that holds a quote and the byte.
-use escapes::Escape;
+use escape_bytes::Escape;
 use lent::Outcome;
 use libc::STDIN_FILENO;
 use libc::STDOUT_FILENO;

@@ -1,9 +1,3 @@
-pub mod Codes
-pub mod Counting
-pub mod Keying
-pub mod Numbering
-pub mod Once
+pub mod Marks
 pub mod Resolving
-pub mod ShiftHome
-pub mod Table
 pub mod Tails

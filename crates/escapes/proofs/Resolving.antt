@@ -14,13 +14,13 @@ use Rattle.words.specs.Find.{nameIn}
 use Rattle.words.specs.declared.Match.{Match}
 use Rattle.words.specs.declared.Match.the-variants.{Word, Nothing}
 use Rattle.tables.specs.Escapes.{escapeNames}
-use Rattle.escapes.specs.Numbers.{numberOf, hexOf}
-use Rattle.escapes.specs.Keys.{keyEscape}
-use Rattle.escapes.specs.Escape.{nameEscape}
-use Rattle.escapes.specs.declared.numbers.Number.{Number}
-use Rattle.escapes.specs.declared.numbers.Number.the-variants.{Value, Missing}
-use Rattle.escapes.specs.declared.Escape.{Escape}
-use Rattle.escapes.specs.declared.Escape.the-variants.{Byte, Unknown}
+use Rattle.escape_numbers.specs.Numbers.{numberOf, hexOf}
+use Rattle.escape_bytes.specs.Keys.{keyEscape}
+use Rattle.escape_bytes.specs.Escape.{nameEscape}
+use Rattle.escape_numbers.specs.declared.Number.{Number}
+use Rattle.escape_numbers.specs.declared.Number.the-variants.{Value, Missing}
+use Rattle.escape_bytes.specs.declared.Escape.{Escape}
+use Rattle.escape_bytes.specs.declared.Escape.the-variants.{Byte, Unknown}
 
 -- ---- a name
 

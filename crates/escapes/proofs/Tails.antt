@@ -18,15 +18,15 @@ use Rattle.ascii.specs.declared.search.Found.{Found}
 use Rattle.ascii.specs.declared.search.Found.the-variants.{At, Nowhere}
 use Rattle.ascii.proofs.Laws.{trim-space}
 use Rattle.ascii.proofs.Searching.{tail, front-more, front-none, front-le, front-take, end-take, end-le, last-within, Behind}
-use Rattle.escapes.specs.Numbers.{countOf}
-use Rattle.escapes.specs.NumbersHelpers.{countable}
-use Rattle.escapes.specs.Escape.{Counted, nameEscape, repeated, starred, countedName, countedEscape, escapeOf}
+use Rattle.escape_numbers.specs.Numbers.{countOf}
+use Rattle.escape_numbers.specs.NumbersHelpers.{countable}
+use Rattle.escape_bytes.specs.Escape.{Counted, nameEscape, repeated, starred, countedName, countedEscape, escapeOf}
 use Rattle.escapes.specs.TailHelpers.{tailEscape, TailOf, wholeTail, numberTail, starredTail}
-use Rattle.escapes.specs.declared.Escape.{Escape}
+use Rattle.escape_bytes.specs.declared.Escape.{Escape}
 use Rattle.escapes.specs.declared.Tail.{Tail}
-use Rattle.escapes.specs.declared.numbers.Number.{Number}
-use Rattle.escapes.specs.declared.numbers.Number.the-variants.{Value, Missing}
-use Rattle.escapes.proofs.Counting.{uncounted}
+use Rattle.escape_numbers.specs.declared.Number.{Number}
+use Rattle.escape_numbers.specs.declared.Number.the-variants.{Value, Missing}
+use Rattle.escape_numbers.proofs.Counting.{uncounted}
 
 -- ---- an end of a text, without the bytes at its end that pass a test
 

@@ -1,5 +1,1 @@
-pub mod Escape
-pub mod Keys
-pub mod Numbers
-pub mod NumbersHelpers
 pub mod TailHelpers

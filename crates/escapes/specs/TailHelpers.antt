@@ -10,12 +10,12 @@ use lib.ListN.{length, take, drop}
 use Rattle.ascii.specs.Bytes.{isSpace}
 use Rattle.ascii.specs.Search.{past, pastEnd}
 use Rattle.ascii.specs.Trim.{trim}
-use Rattle.escapes.specs.Escape.{escapeOf, nameEscape}
-use Rattle.escapes.specs.Numbers.{countOf}
-use Rattle.escapes.specs.declared.Escape.{Escape}
+use Rattle.escape_bytes.specs.Escape.{escapeOf, nameEscape}
+use Rattle.escape_numbers.specs.Numbers.{countOf}
+use Rattle.escape_bytes.specs.declared.Escape.{Escape}
 use Rattle.escapes.specs.declared.Tail.{Tail}
-use Rattle.escapes.specs.declared.numbers.Number.{Number}
-use Rattle.escapes.specs.declared.numbers.Number.the-variants.{Value, Missing}
+use Rattle.escape_numbers.specs.declared.Number.{Number}
+use Rattle.escape_numbers.specs.declared.Number.the-variants.{Value, Missing}
 
 -- what a tail makes of a text from place k on: the name before the *, so often as its count says, where the * is in what is left; else
 -- the whole is the name

@@ -1,20 +1,14 @@
 // Escapes that name a key to be held, and one byte.
-use crate::Escape;
 use ascii::search;
 use ascii::search::Kind;
+use escape_bytes::Escape;
+use escape_bytes::Key;
 use words::Section;
 use words::Test;
 ghost use mathlib.Core.Path.{_≡_};
+ghost use mathlib.Core.List.{[], _∷_};
 ghost use Prim.Native.Nat.{_<_, min};
-ghost use Rattle.escapes.specs.Keys.{controlByte, keyWith, keyEscape};
-ghost use Rattle.escapes.specs.declared.keys.Key.the-variants.{Commodore, Shift};
-
-// A key that is held while another is pressed.
-pub enum Key {
-    Control,
-    Commodore,
-    Shift,
-}
+ghost use Rattle.escape_bytes.specs.Keys.{keyed, keyEscape};
 
 const KEY_BYTES: [u8; 28] = *b"CTRLCNTRLCONTROLCMCBMSHSHIFT";
 
@@ -30,59 +24,6 @@ const KEYS: [Key; 7] = [
     Key::Shift,
 ];
 
-// What the control key gives with a byte.
-fn control_byte(b: u8) -> u8
-    ensures { λ r. ⌜ r ≡ controlByte b ⌝ }
-{
-    if ascii::is_digit(b) {
-        return keyboard::ctrl_digit_byte(ascii::wide(b - 48));
-    }
-    if ascii::is_letter(b) {
-        return ascii::upper(b) - 64;
-    }
-    b % 32
-}
-
-// What the Commodore key gives with a byte.
-fn commodore_with(b: u8, count: u64) -> Escape
-    ensures { λ r. ⌜ r ≡ keyWith Commodore b count ⌝ }
-{
-    if !ascii::is_letter(b) {
-        return Escape::Unknown;
-    }
-    Escape::Byte {
-        byte: keyboard::cbm_letter_byte(ascii::wide(ascii::upper(b) - 65)),
-        count,
-    }
-}
-
-// What the shift key gives with a byte.
-fn shift_with(b: u8, count: u64) -> Escape
-    ensures { λ r. ⌜ r ≡ keyWith Shift b count ⌝ }
-{
-    if !ascii::is_letter(b) {
-        return Escape::Unknown;
-    }
-    Escape::Byte {
-        byte: 0xC0 + (ascii::upper(b) - 64),
-        count,
-    }
-}
-
-// What a key gives with a byte.
-fn key_with(key: Key, b: u8, count: u64) -> Escape
-    ensures { λ r. ⌜ r ≡ keyWith key b count ⌝ }
-{
-    match key {
-        Key::Control => Escape::Byte {
-            byte: control_byte(b),
-            count,
-        },
-        Key::Commodore => commodore_with(b, count),
-        Key::Shift => shift_with(b, count),
-    }
-}
-
 fn at_most_eight(n: usize) -> usize
     ensures { λ r. ⌜ r ≡ min n 8 ⌝ }
 {
@@ -90,6 +31,24 @@ fn at_most_eight(n: usize) -> usize
         return n;
     }
     8
+}
+
+// What a prefix and the one byte behind its mark give.
+fn prefixed(prefix: &[u8], b: u8, count: u64) -> Escape
+    ensures { λ r. ⌜ r ≡ keyed (now (prefix .entry)) (b ∷ []) count ⌝ }
+{
+    let k = words::first_passing(
+        Test::Alike,
+        prefix,
+        &KEY_BYTES,
+        &KEY_STARTS,
+        Section { from: 0, to: 7 },
+        0,
+    );
+    if k < 7 {
+        return escape_bytes::key_with(KEYS[k], b, count);
+    }
+    Escape::Unknown
 }
 
 // The escape of a name that is a prefix, a mark and one byte. No prefix has more than seven bytes, so its mark is one of the first
@@ -107,17 +66,5 @@ pub fn key_escape(name: &[u8], count: u64) -> Escape
     if argument.len() != 1 {
         return Escape::Unknown;
     }
-    let b = argument[0];
-    let k = words::first_passing(
-        Test::Alike,
-        &name[..mark],
-        &KEY_BYTES,
-        &KEY_STARTS,
-        Section { from: 0, to: 7 },
-        0,
-    );
-    if k < 7 {
-        return key_with(KEYS[k], b, count);
-    }
-    Escape::Unknown
+    prefixed(&name[..mark], argument[0], count)
 }

@@ -1,8 +1,9 @@
 // What stands between braces in a string: a byte and how often it is repeated, or nothing known.
-use crate::numbers::Number;
 use ascii::search;
 use ascii::search::Found;
 use ascii::search::Kind;
+use escape_bytes::Escape;
+use escape_numbers::Number;
 use tables::spellings;
 use words::Match;
 ghost use mathlib.Core.Path.{_≡_};
@@ -11,16 +12,10 @@ ghost use lib.ListN.{length, take, drop};
 ghost use Rattle.ascii.specs.Bytes.{isSpace};
 ghost use Rattle.ascii.specs.Search.{past};
 ghost use Rattle.tables.specs.WordsHelpers.{SpellsWords};
-ghost use Rattle.escapes.specs.Escape.{escapeOf, nameEscape};
+ghost use Rattle.escape_bytes.specs.Escape.{escapeOf, nameEscape};
 ghost use Rattle.escapes.specs.TailHelpers.{TailOf, wholeTail, starredTail};
 
 mod keys;
-mod numbers;
-
-pub enum Escape {
-    Byte { byte: u8, count: u64 },
-    Unknown,
-}
 
 // What a text shares with every end of it, so that many { in front of one } need not look for it each.
 pub struct Tail {
@@ -55,7 +50,7 @@ pub fn tail_of(inside: &[u8]) -> Tail
     let end = ascii::solid_length(inside);
     let text = &inside[..end];
     // A count ends in a digit: most escapes have none, and no `*` is looked for.
-    if !numbers::may_end_in_count(text) {
+    if !escape_numbers::may_end_in_count(text) {
         return whole(end);
     }
     match search::last(text, Kind::Is(b'*')) {
@@ -82,7 +77,7 @@ fn starred_tail(text: &[u8], star: usize) -> Tail
     ensures { λ r. ⌜ r ≡ starredTail (now (text .entry)) star ⌝ }
 {
     let from = star + 1;
-    match numbers::count_of(ascii::trim(&text[from..])) {
+    match escape_numbers::count_of(ascii::trim(&text[from..])) {
         Number::Value(count) => {
             if count == 0 {
                 return whole(text.len());
@@ -130,12 +125,12 @@ fn resolve_name(name: &[u8], count: u64, bytes: &[u8], index: &[u16]) -> Escape
     if name.len() == 0 {
         return Escape::Unknown;
     }
-    match numbers::number_in(name, 10, 255) {
+    match escape_numbers::number_in(name, 10, 255) {
         Number::Value(v) => Escape::Byte {
             byte: v as u8,
             count,
         },
-        Number::Missing => match numbers::hex_number(name) {
+        Number::Missing => match escape_numbers::hex_number(name) {
             Number::Value(v) => Escape::Byte {
                 byte: v as u8,
                 count,

@@ -14,7 +14,7 @@ use Rattle.dialect.specs.declared.Named.{Named}
 use Rattle.dialect.specs.declared.Named.the-variants.{Known, Refused}
 use Rattle.guess.specs.Guess.{resolved, resolvedAnswer}
 use Rattle.guess.specs.declared.resolve.Resolved.{Resolved}
-use Rattle.escapes.specs.declared.Escape.{Escape}
+use Rattle.escape_bytes.specs.declared.Escape.{Escape}
 use Rattle.moldthatch.specs.Given.{resolvedBy}
 use Rattle.moldthatch.specs.ToldDialects.{dialectNumber, dialectCode, loadCode, escapeCode}
 use Rattle.moldthatch.proofs.TellingOptions.{of-known, of-unknown}

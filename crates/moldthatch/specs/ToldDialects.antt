@@ -8,8 +8,8 @@ use Rattle.refusals.specs.declared.Code.{Code}
 use Rattle.dialect.specs.Dialects.{defaultLoad}
 use Rattle.dialect.specs.declared.Dialect.{Dialect}
 use Rattle.dialect.specs.declared.Dialect.the-variants.{Auto, BasicV2, Tsb, Basic35}
-use Rattle.escapes.specs.declared.Escape.{Escape}
-use Rattle.escapes.specs.declared.Escape.the-variants.{Byte, Unknown}
+use Rattle.escape_bytes.specs.declared.Escape.{Escape}
+use Rattle.escape_bytes.specs.declared.Escape.the-variants.{Byte, Unknown}
 
 -- the number that `byNumber` takes for the dialect (`number-back`, proofs/TellingDialects.antt)
 abbrev pub dialectNumber : Dialect → ℕ

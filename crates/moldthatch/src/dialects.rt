@@ -1,7 +1,7 @@
 // Dialects by name and by number, and what else is asked of a text before it is crunched.
 use dialect::Dialect;
 use dialect::Named;
-use escapes::Escape;
+use escape_bytes::Escape;
 use guess::resolve;
 use guess::resolve::Resolved;
 use matching::tsb;
@@ -11,7 +11,7 @@ ghost use Rattle.refusals.specs.Answer.{done};
 ghost use Rattle.dialect.specs.Dialects.{byNumber, named as dialectNamed, namedAnswer};
 ghost use Rattle.guess.specs.Guess.{resolvedAnswer};
 ghost use Rattle.tables.specs.Tsb.{isTsbWord};
-ghost use Rattle.escapes.specs.Escape.{escapeOf};
+ghost use Rattle.escape_bytes.specs.Escape.{escapeOf};
 ghost use Rattle.sentences.specs.Clipped.{Clipped};
 ghost use Rattle.text_image.specs.Measured.{nonblankLines};
 ghost use Rattle.moldthatch.specs.Given.{resolvedBy};

@@ -8,10 +8,10 @@ use lib.Dec.{eqb, ltb}
 use Rattle.ascii.specs.Bytes.{between, upper}
 use Rattle.words.specs.Find.{wordIn}
 use Rattle.words.specs.declared.Match.the-variants.{Word, Nothing}
-use Rattle.escapes.specs.Escape.{escapeOf}
+use Rattle.escape_bytes.specs.Escape.{escapeOf}
 use Rattle.ascii.specs.Search.{equals, before}
-use Rattle.escapes.specs.declared.Escape.{Escape}
-use Rattle.escapes.specs.declared.Escape.the-variants.{Byte, Unknown}
+use Rattle.escape_bytes.specs.declared.Escape.{Escape}
+use Rattle.escape_bytes.specs.declared.Escape.the-variants.{Byte, Unknown}
 use Rattle.matching.specs.Sets.{liveWord, plainWord}
 use Rattle.forms.specs.Forms.{formWord}
 use Rattle.moves.specs.Lexicon.{Lexicon}

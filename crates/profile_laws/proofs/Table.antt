@@ -9,9 +9,9 @@ use Rattle.tables.specs.Escapes.{escapeNames}
 use Rattle.keyboard.specs.KeyCodes.{cbmLetters, ctrlDigits}
 use Rattle.tables.specs.Rom.{v2Words, operators}
 use Rattle.tables.specs.Tsb.{tsbWords}
-use Rattle.escapes.specs.Numbers.{digitOf, numberAfter, numberOf, hexOf, unsigned, countOf}
-use Rattle.escapes.specs.Keys.{keyNames, controlByte, keyWith, keyed, keyEscape}
-use Rattle.escapes.specs.Escape.{nameEscape, repeated, starred, countedName}
+use Rattle.escape_numbers.specs.Numbers.{digitOf, numberAfter, numberOf, hexOf, unsigned, countOf}
+use Rattle.escape_bytes.specs.Keys.{keyNames, controlByte, keyWith, keyed, keyEscape}
+use Rattle.escape_bytes.specs.Escape.{nameEscape, repeated, starred, countedName}
 use Rattle.text_image.specs.Crunched.{crunchedLines}
 use Rattle.profile_laws.specs.Examples.{ProfileTable}
 

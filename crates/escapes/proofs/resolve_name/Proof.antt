@@ -1,6 +1,6 @@
 -- `escapes::resolve_name` meets its contract.
 -- Assumes nothing.
-use Rattle.escapes.proofs.Numbering.{decimal-byte, hex-byte}
+use Rattle.escape_numbers.proofs.Numbering.{decimal-byte, hex-byte}
 use Rattle.escapes.proofs.Resolving.{name-empty, name-decimal, name-hex, name-listed, name-keyed}
 use Rattle.steps.proofs.The.{the}
 use borrow.Author.Needs.{needs}

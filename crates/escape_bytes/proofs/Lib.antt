@@ -1,0 +1,4 @@
+pub mod Keying
+pub mod Once
+pub mod ShiftHome
+pub mod Table
