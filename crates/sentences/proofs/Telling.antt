@@ -10,8 +10,8 @@ use Rattle.refusals.specs.declared.Code.{Code}
 use Rattle.words.specs.Spelling.{bytesOf}
 use Rattle.sentences.specs.Clipped.{Clipped}
 use Rattle.decimals.specs.Decimal.{decimal}
-use Rattle.sentences.specs.Place.{textPlace}
-use Rattle.sentences.specs.declared.place.Place.{Place}
+use Rattle.text_places.specs.Place.{textPlace}
+use Rattle.text_places.specs.declared.Place.{Place}
 use Rattle.sentences.specs.Rows.{rows, placedRow}
 use Rattle.sentences.specs.Sentence.{filled, behindRows, sentenceOf, sentence, placedSentence, nameFirst, numberLast, message}
 use Rattle.sentences.proofs.Clipping.{clip-as, clip-none, clip-both}

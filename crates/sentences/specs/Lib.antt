@@ -1,5 +1,4 @@
 pub mod Clipped
-pub mod Place
 pub mod Rows
 pub mod Sentence
 pub mod SpeltHelpers

@@ -7,7 +7,7 @@ use lib.Dec.{eqb}
 use Rattle.refusals.specs.declared.Code.{Code}
 use Rattle.words.specs.Spelling.{bytesOf}
 use Rattle.decimals.specs.Decimal.{decimal}
-use Rattle.sentences.specs.Place.{textPlace}
+use Rattle.text_places.specs.Place.{textPlace}
 use Rattle.sentences.specs.Rows.{rows, placedRow}
 
 -- a line up to its end, its marks filled with two values, one after the other

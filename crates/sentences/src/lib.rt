@@ -8,7 +8,6 @@ ghost use lib.ListN.{length};
 ghost use Rattle.sentences.specs.Clipped.{Clipped};
 ghost use Rattle.sentences.specs.Sentence.{filled, behindRows, sentence as sentenceOf, placedSentence, nameFirst, numberLast, message as messageOf};
 
-pub mod place;
 pub mod put;
 
 // A line for each refusal, in the order of the numbers. # stands for the next value that the refusal carries.
@@ -115,7 +114,7 @@ fn put_placed(out: &mut [u8], at: usize, text: &[u8], code: Code) -> usize
     ensures { λ r. ⌜ Clipped (now (out .entry)) at (placedSentence (now (text .entry)) code) r (now (out .exit)) ⌝ }
 {
     if code.number == 2 {
-        let found = place::place_of(text, code.first);
+        let found = text_places::place_of(text, code.first);
         return fill(out, at, &PLACED, found.line, found.column);
     }
     put_sentence(out, at, code)

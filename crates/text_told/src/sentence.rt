@@ -5,8 +5,8 @@ use desk::result;
 use libc::STDERR_FILENO;
 use libc::STDOUT_FILENO;
 use refusals::Refusal;
-use sentences::place::Place;
 use sentences::put;
+use text_places::Place;
 
 // What was found so far: whether a release would refuse the text, whether a line could not be written, and whether lines are to be
 // written at all.

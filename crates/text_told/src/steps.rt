@@ -12,15 +12,14 @@ use matching::sets::Sets;
 use moves::Mode;
 use nearest::names;
 use nearest::parts;
-use sentences::place;
-use sentences::place::Place;
+use text_places::Place;
 
 // How many columns some bytes take, as an editor shows them.
 fn columns(s: &[u8]) -> usize {
     if s.len() > 1048576 {
         return 0;
     }
-    let behind = place::place_of(s, s.len()).column;
+    let behind = text_places::place_of(s, s.len()).column;
     if behind == 0 {
         return 0;
     }

@@ -4,7 +4,7 @@ use crate::sentence;
 use crate::sentence::Tally;
 use foreign::Foreign;
 use foreign::Stranger;
-use sentences::place::Place;
+use text_places::Place;
 
 // How many characters of UTF-8 stand in some bytes.
 fn characters(s: &[u8]) -> usize {

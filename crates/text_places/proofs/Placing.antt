@@ -10,8 +10,8 @@ use lib.Dec.{eqb}
 use lib.ListN.{length, getD, take, drop, length-drop, drop-of-length-le}
 use lib.Seq.{drop-cons, take-all}
 use borrow.Author.Tests.{eq-eqb, ne-eqb}
-use Rattle.sentences.specs.Place.{endsLine, placeBehind, placeFrom, textPlace}
-use Rattle.sentences.specs.declared.place.Place.{Place}
+use Rattle.text_places.specs.Place.{endsLine, placeBehind, placeFrom, textPlace}
+use Rattle.text_places.specs.declared.Place.{Place}
 
 module _ {b : ℕ} (s : List ℕ) where
   pub ends-lf : b ≡ 0x0A → true ≡ endsLine b s

@@ -1,9 +1,9 @@
--- `sentences::place::past` meets its contract.
+-- `text_places::past` meets its contract.
 -- Assumes nothing.
-use Rattle.sentences.proofs.Placing.{past-end, past-pi, past-one}
+use Rattle.text_places.proofs.Placing.{past-end, past-pi, past-one}
 use borrow.Author.Needs.{needs}
-use Rattle.sentences.proofs.place.past.Statement.{statement}
-use Rattle.sentences.proofs.place.past.Tie as tie
+use Rattle.text_places.proofs.past.Statement.{statement}
+use Rattle.text_places.proofs.past.Tie as tie
 
 returns : tie.Need-returns
 returns c = search past-end

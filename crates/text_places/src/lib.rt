@@ -2,7 +2,7 @@
 ghost use mathlib.Core.Path.{_≡_};
 ghost use Prim.Native.Nat.{_≤_, _<_};
 ghost use lib.ListN.{length};
-ghost use Rattle.sentences.specs.Place.{endsLine, placeBehind as pastOf, textPlace};
+ghost use Rattle.text_places.specs.Place.{endsLine, placeBehind as pastOf, textPlace};
 
 // Both are counted from 1.
 pub struct Place {

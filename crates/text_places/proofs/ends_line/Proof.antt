@@ -1,9 +1,9 @@
--- `sentences::place::ends_line` meets its contract.
+-- `text_places::ends_line` meets its contract.
 -- Assumes nothing.
-use Rattle.sentences.proofs.Placing.{ends-lf, ends-other, ends-last, ends-next}
+use Rattle.text_places.proofs.Placing.{ends-lf, ends-other, ends-last, ends-next}
 use borrow.Author.Needs.{needs}
-use Rattle.sentences.proofs.place.ends_line.Statement.{statement}
-use Rattle.sentences.proofs.place.ends_line.Tie as tie
+use Rattle.text_places.proofs.ends_line.Statement.{statement}
+use Rattle.text_places.proofs.ends_line.Tie as tie
 
 returns : tie.Need-returns
 returns c = search ends-lf

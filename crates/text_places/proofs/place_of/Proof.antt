@@ -1,11 +1,11 @@
--- `sentences::place::place_of` meets its contract.
+-- `text_places::place_of` meets its contract.
 -- Assumes nothing.
 use Prim.Native.Nat.{_-_}
 use lib.ListN.{length}
-use Rattle.sentences.proofs.Placing.{Passed, passed-start, passed-turn, passed-there, passed-end}
+use Rattle.text_places.proofs.Placing.{Passed, passed-start, passed-turn, passed-there, passed-end}
 use borrow.Author.Needs.{needs}
-use Rattle.sentences.proofs.place.place_of.Statement.{statement}
-use Rattle.sentences.proofs.place.place_of.Tie as tie
+use Rattle.text_places.proofs.place_of.Statement.{statement}
+use Rattle.text_places.proofs.place_of.Tie as tie
 
 abbrev Inv-loop : tie.InvT-loop
 Inv-loop text offset i₀ at₀ i at = Passed text offset i at

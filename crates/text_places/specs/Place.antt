@@ -6,7 +6,7 @@ use mathlib.Core.Bool.{Bool, cond, not, _&&_, _||_}
 use mathlib.Core.List.{List, [], _∷_}
 use lib.Dec.{eqb}
 use lib.ListN.{getD}
-use Rattle.sentences.specs.declared.place.Place.{Place}
+use Rattle.text_places.specs.declared.Place.{Place}
 
 -- a byte ends a line in front of s: LF, and CR with no LF past it
 unfoldable pub endsLine : ℕ → List ℕ → Bool
