@@ -19,9 +19,10 @@ use Rattle.find_line.specs.declared.Sought.{Sought}
 use Rattle.text_image.specs.declared.Options.{Options}
 use Rattle.text_image.specs.declared.LineMeasured.{LineMeasured}
 use Rattle.text_image.specs.Measured.{lineMeasured, lineAnswer}
-use Rattle.moldthatch.specs.declared.CrunchNumbers.{CrunchNumbers}
+use Rattle.library_numbers.specs.declared.CrunchNumbers.{CrunchNumbers}
+use Rattle.library_numbers.specs.Choices.{crunchOptions}
 use Rattle.moldthatch.specs.declared.lines.LineCode.{LineCode}
-use Rattle.moldthatch.specs.Given.{crunchOptions, measuredWith}
+use Rattle.moldthatch.specs.Given.{measuredWith}
 use Rattle.moldthatch.specs.ToldLines.{noLine, stepCode, visitCode, measuredCode}
 use Rattle.moldthatch.proofs.TellingOptions.{of-known, of-unknown}
 

@@ -13,14 +13,14 @@ use Rattle.dialect.specs.Dialects.{byNumber, namedAnswer}
 use Rattle.dialect.specs.declared.Dialect.{Dialect}
 use Rattle.dialect.specs.declared.Named.{Named}
 use Rattle.dialect.specs.declared.Named.the-variants.{Known, Refused}
-use Rattle.readers.specs.declared.By.{By}
 use Rattle.list_options.specs.declared.ListOptions.{ListOptions}
 use Rattle.listing.specs.Listing.{listingUnder}
 use Rattle.text_image.specs.declared.Options.{Options}
 use Rattle.text_image.specs.Crunched.{crunched}
-use Rattle.moldthatch.specs.declared.CrunchNumbers.{CrunchNumbers}
-use Rattle.moldthatch.specs.declared.ListNumbers.{ListNumbers}
-use Rattle.moldthatch.specs.Given.{isYes, crunchOptions, crunchedWith, readerBy, listOptions, listedWith}
+use Rattle.library_numbers.specs.declared.CrunchNumbers.{CrunchNumbers}
+use Rattle.library_numbers.specs.declared.ListNumbers.{ListNumbers}
+use Rattle.library_numbers.specs.Choices.{crunchOptions, listOptions}
+use Rattle.moldthatch.specs.Given.{crunchedWith, listedWith}
 use Rattle.moldthatch.specs.Told.{Told, toldCode}
 use Rattle.moldthatch.proofs.Telling.{tells, tells-room, tells-refused, tells-refused-room}
 
@@ -36,9 +36,6 @@ module _ {A : Type 0} (f : Dialect → Answer A) (number : ℕ) {n : Named} (ans
   of-unknown e = asked e
 
 -- ---- crunching and listing with options
-
-pub lists-by : (g : ListNumbers) (d : Dialect) {by : By} → by ≡ readerBy (isYes (g .links)) → record { dialect = d; remarks = isYes (g .remarks); by = by } ≡ listOptions g d
-lists-by g d e = ap (λ (x : By). record { dialect = d; remarks = isYes (g .remarks); by = x }) e
 
 module _ (g : CrunchNumbers) (text : List ℕ) {n : Named} (answer : namedAnswer n ≡ byNumber (g .dialect)) where
   module _ {d : Dialect} (e : n ≡ Known d) {p : Options} (is : p ≡ crunchOptions g d) where

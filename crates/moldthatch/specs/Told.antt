@@ -10,7 +10,6 @@ use Rattle.refusals.specs.Code.{codeOf, answerCode, lengthCode}
 use Rattle.refusals.specs.Numbers.{badDisk}
 use Rattle.lent.specs.Lent.{Lent}
 use Rattle.refusals.specs.declared.Code.{Code}
-use Rattle.readers.specs.Lines.{Overview}
 use Rattle.d64.specs.Calls.{Holding, After}
 use Rattle.d64.specs.Check.{sound}
 use Rattle.directory.specs.Listing.{directoryText}
@@ -26,11 +25,6 @@ pub record Told : Type 0 where
 
 abbrev pub toldCode : Lent → Told
 toldCode l = record { code = lengthCode (l .answer); buffer = l .buffer }
-
--- the load address and the line count
-abbrev pub overviewCode : Answer Overview → Code
-overviewCode (done o) = answerCode (done (o .load ∷ o .lines ∷ []))
-overviewCode (refused n) = answerCode (refused n)
 
 -- a result without values
 abbrev pub bareCode : Answer Unit → Code

@@ -1,26 +1,23 @@
 // The library for C and for Rust: its calls take and give numbers and slices. A dialect is 0 for Auto, 1 for BASIC V2, 2 for TSB,
 // 3 for BASIC 3.5. A choice is 0 for no, and any other number for yes.
-use dialect::Dialect;
 use dialect::Named;
-use list_options::ListOptions;
-use readers::By;
-use readers::Checked;
+use library_numbers::CrunchNumbers;
+use library_numbers::ListNumbers;
 use readers::links;
 use readers::terminators;
 use refusals::Code;
-use text_image::Options;
 ghost use mathlib.Core.Path.{_≡_};
 ghost use Rattle.refusals.specs.Code.{lengthCode};
 ghost use Rattle.lent.specs.Lent.{intoBuffer, roomFor};
-ghost use Rattle.readers.specs.Answers.{checkedAnswer};
 ghost use Rattle.readers.specs.Lines.{overview};
 ghost use Rattle.readers.specs.Links.{linkStep};
 ghost use Rattle.readers.specs.Terminators.{terminatorStep};
 ghost use Rattle.listing.specs.Listing.{listing};
 ghost use Rattle.sentences.specs.Clipped.{Clipped};
 ghost use Rattle.sentences.specs.Sentence.{sentence};
-ghost use Rattle.moldthatch.specs.Given.{crunchOptions, crunchedWith, crunchedBy, readerBy, listOptions, listedWith, listedBy};
-ghost use Rattle.moldthatch.specs.Told.{toldCode, overviewCode};
+ghost use Rattle.library_numbers.specs.Overview.{overviewCode};
+ghost use Rattle.moldthatch.specs.Given.{crunchedWith, crunchedBy, listedWith, listedBy};
+ghost use Rattle.moldthatch.specs.Told.{toldCode};
 
 pub mod counts;
 pub mod dialects;
@@ -29,23 +26,6 @@ pub mod fault_calls;
 pub mod indexes;
 pub mod lines;
 pub mod stretch;
-
-// What a text is crunched with: where its image begins, its dialect, whether the machine profile is asked, and whether short forms are taken.
-#[repr(C)]
-pub struct CrunchNumbers {
-    pub load: u16,
-    pub dialect: u8,
-    pub profile: u8,
-    pub forms: u8,
-}
-
-// How an image is listed: under a dialect, with remarks as text or not, by links or by terminators.
-#[repr(C)]
-pub struct ListNumbers {
-    pub dialect: u8,
-    pub remarks: u8,
-    pub links: u8,
-}
 
 // Crunches a text with options into the start of a buffer: the image's length.
 #[no_mangle]
@@ -58,7 +38,11 @@ pub extern "C" fn moldthatch_crunch_with(
 {
     match dialect::dialect_by_number(options.dialect) {
         Named::Known(known) => {
-            lent::outcome_code(image::crunch(text, crunch_options(options, known), out))
+            lent::outcome_code(image::crunch(
+                text,
+                library_numbers::crunch_options(options, known),
+                out,
+            ))
         }
         Named::Refused(refusal) => refusals::refusal_code(refusal),
     }
@@ -72,7 +56,7 @@ pub extern "C" fn moldthatch_crunch_with_room(text: &[u8], options: CrunchNumber
     match dialect::dialect_by_number(options.dialect) {
         Named::Known(known) => lent::outcome_code(image::room(
             text,
-            crunch_options(options, known),
+            library_numbers::crunch_options(options, known),
         )),
         Named::Refused(refusal) => refusals::refusal_code(refusal),
     }
@@ -134,7 +118,11 @@ pub extern "C" fn moldthatch_list_with(image: &[u8], options: ListNumbers, out: 
 {
     match dialect::dialect_by_number(options.dialect) {
         Named::Known(known) => {
-            lent::outcome_code(listing::list_under(image, list_options(options, known), out))
+            lent::outcome_code(listing::list_under(
+                image,
+                library_numbers::list_options(options, known),
+                out,
+            ))
         }
         Named::Refused(refusal) => refusals::refusal_code(refusal),
     }
@@ -147,7 +135,10 @@ pub extern "C" fn moldthatch_list_with_room(image: &[u8], options: ListNumbers) 
 {
     match dialect::dialect_by_number(options.dialect) {
         Named::Known(known) => {
-            lent::outcome_code(listing::room_under(image, list_options(options, known)))
+            lent::outcome_code(listing::room_under(
+                image,
+                library_numbers::list_options(options, known),
+            ))
         }
         Named::Refused(refusal) => refusals::refusal_code(refusal),
     }
@@ -189,7 +180,7 @@ pub extern "C" fn moldthatch_list_under_room(image: &[u8], dialect: u8) -> Code
 pub extern "C" fn moldthatch_check(image: &[u8]) -> Code
     ensures { λ r. ⌜ r ≡ overviewCode (overview linkStep (now (image .entry))) ⌝ }
 {
-    checked_code(links::check(image))
+    library_numbers::checked_code(links::check(image))
 }
 
 // The same by terminators.
@@ -197,7 +188,7 @@ pub extern "C" fn moldthatch_check(image: &[u8]) -> Code
 pub extern "C" fn moldthatch_check_terminators(image: &[u8]) -> Code
     ensures { λ r. ⌜ r ≡ overviewCode (overview terminatorStep (now (image .entry))) ⌝ }
 {
-    checked_code(terminators::check(image))
+    library_numbers::checked_code(terminators::check(image))
 }
 
 // Stores the sentence of a refusal at the start of a buffer, as much of it as fits: how many bytes that are.
@@ -219,46 +210,4 @@ pub extern "C" fn moldthatch_sentence(
         },
         out,
     )
-}
-
-// The options of a dialect that is known by now.
-fn crunch_options(given: CrunchNumbers, dialect: Dialect) -> Options
-    ensures { λ r. ⌜ r ≡ crunchOptions given dialect ⌝ }
-{
-    Options {
-        load: given.load,
-        dialect,
-        profile: given.profile != 0,
-        forms: given.forms != 0,
-    }
-}
-
-fn list_options(given: ListNumbers, dialect: Dialect) -> ListOptions
-    ensures { λ r. ⌜ r ≡ listOptions given dialect ⌝ }
-{
-    ListOptions {
-        dialect,
-        remarks: given.remarks != 0,
-        by: reader(given.links != 0),
-    }
-}
-
-fn reader(links: bool) -> By
-    ensures { λ r. ⌜ r ≡ readerBy links ⌝ }
-{
-    if links { By::Links } else { By::Terminators }
-}
-
-fn checked_code(checked: Checked) -> Code
-    ensures { λ r. ⌜ r ≡ overviewCode (checkedAnswer checked) ⌝ }
-{
-    match checked {
-        Checked::Image { load, lines } => Code {
-            number: 0,
-            count: 2,
-            first: ascii::wide16(load),
-            second: lines,
-        },
-        Checked::Refused(refusal) => refusals::refusal_code(refusal),
-    }
 }

@@ -1,8 +1,8 @@
 // Lines of an image, one at a time: by its offset, by its number, by its place in the image that a text would have.
-use crate::CrunchNumbers;
-use crate::crunch_options;
 use dialect::Named;
 use find_line::Sought;
+use library_numbers::CrunchNumbers;
+use library_numbers::crunch_options;
 use readers::Line;
 use readers::Step;
 use readers::links;

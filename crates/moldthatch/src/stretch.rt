@@ -1,7 +1,7 @@
 // The listing of a line in stretches. What is left of the line is carried in numbers from call to call.
-use crate::ListNumbers;
-use crate::list_options;
 use dialect::Named;
+use library_numbers::ListNumbers;
+use library_numbers::list_options;
 use line_stretches::Place;
 use line_stretches::Stretch;
 use refusals::Code;

@@ -1,12 +1,12 @@
--- `moldthatch::checked_code` meets its contract.
+-- `library_numbers::checked_code` meets its contract.
 -- Assumes nothing.
 use mathlib.Core.Path.{ap, sym, _∙_}
 use Rattle.readers.specs.Answers.{checkedAnswer}
 use Rattle.readers.specs.declared.Checked.{Checked}
-use Rattle.moldthatch.specs.Told.{overviewCode}
+use Rattle.library_numbers.specs.Overview.{overviewCode}
 use borrow.Author.Needs.{needs}
-use Rattle.moldthatch.proofs.checked_code.Statement.{statement}
-use Rattle.moldthatch.proofs.checked_code.Tie as tie
+use Rattle.library_numbers.proofs.checked_code.Statement.{statement}
+use Rattle.library_numbers.proofs.checked_code.Tie as tie
 
 enum-known-checked : tie.Need-enum-known-checked
 enum-known-checked c = search needs
