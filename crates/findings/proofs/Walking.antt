@@ -19,8 +19,9 @@ use Rattle.moves.specs.declared.Mode.{Mode}
 use Rattle.moves.specs.declared.Move.{Move}
 use Rattle.moves.proofs.Beginnings.{proper, Takes, document-proper}
 use Rattle.body.proofs.Progress.{step-takes}
-use Rattle.findings.specs.Sights.{findingOf, isUsual, stepFrom, spotBehind, toldOr, sightOn, firstSight}
-use Rattle.findings.specs.declared.sights.Finding.{Finding}
+use Rattle.step_findings.specs.StepFindings.{findingOf, isUsual}
+use Rattle.findings.specs.Sights.{stepFrom, spotBehind, toldOr, sightOn, firstSight}
+use Rattle.step_findings.specs.declared.Finding.{Finding}
 use Rattle.findings.specs.declared.sights.Sighting.{Sighting}
 use Rattle.findings.specs.declared.sights.Sighting.the-variants.{Seen, Over}
 use Rattle.findings.specs.declared.sights.Spot.{Spot}

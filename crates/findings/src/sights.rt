@@ -1,30 +1,16 @@
 // The steps of a body that an editor is told of, one after the other.
 use body::at;
 use body::at::Stand;
-use matching::sets::Sets;
 use moves::Mode;
-use moves::Move;
+use matching::sets::Sets;
+use step_findings::Finding;
 use tables::spellings;
 ghost use mathlib.Core.Path.{_≡_};
 ghost use Rattle.tables.specs.WordsHelpers.{SpellsWords};
 ghost use Rattle.body_steps.specs.BraceHelpers.{Spans};
 ghost use Rattle.moves.specs.Lexicon.{lexicon};
-ghost use Rattle.findings.specs.Sights.{isCode, isControl, isKept, findingOf, isUsual, firstSight};
+ghost use Rattle.findings.specs.Sights.{firstSight};
 ghost use Rattle.findings.specs.ToldHelpers.{Tells};
-
-// What a step is to an editor.
-pub enum Finding {
-    // Nothing is said of it.
-    Usual,
-    // A TSB word is taken.
-    TsbWord,
-    // A zero byte is written, where the machine would end the line.
-    Zero,
-    // A { in a string begins no escape, and gives itself.
-    Brace,
-    // A control stands in the code, as a tab does.
-    Control,
-}
 
 // A place of a body, and the mode in which it is crunched from there on.
 pub struct Spot {
@@ -46,79 +32,6 @@ pub enum Sighting {
 pub struct Told {
     pub sighting: Sighting,
     pub stand: Stand,
-}
-
-fn is_code(mode: Mode) -> bool
-    ensures { λ r. ⌜ r ≡ isCode mode ⌝ }
-{
-    match mode {
-        Mode::Plain => true,
-        Mode::String => false,
-        Mode::Remark => false,
-        Mode::Data => true,
-        Mode::DataQuote => false,
-    }
-}
-
-fn is_control(b: u8) -> bool
-    ensures { λ r. ⌜ r ≡ isControl b ⌝ }
-{
-    if b < 0x20 {
-        return true;
-    }
-    b == 0x7F
-}
-
-// Whether a byte is a { of a string that gives itself: an escape takes two bytes at least.
-fn is_kept(mode: Mode, b: u8, used: usize) -> bool
-    ensures { λ r. ⌜ r ≡ isKept mode b used ⌝ }
-{
-    match mode {
-        Mode::Plain => false,
-        Mode::String => {
-            if b != 0x7B {
-                return false;
-            }
-            used == 1
-        }
-        Mode::Remark => false,
-        Mode::Data => false,
-        Mode::DataQuote => false,
-    }
-}
-
-// What a step at a byte is.
-fn finding_of(mode: Mode, b: u8, step: Move) -> Finding
-    ensures { λ r. ⌜ r ≡ findingOf mode b step ⌝ }
-{
-    if step.prefixed {
-        return Finding::TsbWord;
-    }
-    if step.byte == 0 {
-        return Finding::Zero;
-    }
-    if is_kept(mode, b, step.used) {
-        return Finding::Brace;
-    }
-    if !is_code(mode) {
-        return Finding::Usual;
-    }
-    if is_control(b) {
-        return Finding::Control;
-    }
-    Finding::Usual
-}
-
-fn is_usual(finding: Finding) -> bool
-    ensures { λ r. ⌜ r ≡ isUsual finding ⌝ }
-{
-    match finding {
-        Finding::Usual => true,
-        Finding::TsbWord => false,
-        Finding::Zero => false,
-        Finding::Brace => false,
-        Finding::Control => false,
-    }
 }
 
 // The first step from a spot of a body on that is told.
@@ -156,11 +69,11 @@ fn sight_with(text: &[u8], from: Stand, bytes: &[u8], index: &[u16], sets: Sets)
     while at < text.len() {
         let taken = at::step_at(text, Stand { at, mode, span }, bytes, index, sets);
         let step = taken.step;
-        let finding = finding_of(mode, text[at], step);
+        let finding = step_findings::finding_of(mode, text[at], step);
         let next = step.mode;
         let behind = at + step.used;
         let known = taken.span;
-        if !is_usual(finding) {
+        if !step_findings::is_usual(finding) {
             return Told {
                 sighting: Sighting::Seen {
                     finding,

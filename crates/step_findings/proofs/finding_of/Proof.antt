@@ -1,10 +1,10 @@
--- `findings::sights::finding_of` meets its contract.
+-- `step_findings::finding_of` meets its contract.
 -- Assumes nothing.
-use Rattle.findings.proofs.Telling.{found-word, found-zero, found-brace, found-aside, found-control, found-usual}
+use Rattle.step_findings.proofs.StepTests.{found-word, found-zero, found-brace, found-aside, found-control, found-usual}
 use Rattle.steps.proofs.The.{the}
 use borrow.Author.Needs.{needs}
-use Rattle.findings.proofs.sights.finding_of.Statement.{statement}
-use Rattle.findings.proofs.sights.finding_of.Tie as tie
+use Rattle.step_findings.proofs.finding_of.Statement.{statement}
+use Rattle.step_findings.proofs.finding_of.Tie as tie
 
 returns : tie.Need-returns
 returns c = search found-word

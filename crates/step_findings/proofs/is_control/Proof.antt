@@ -1,9 +1,9 @@
--- `findings::sights::is_control` meets its contract.
+-- `step_findings::is_control` meets its contract.
 -- Assumes nothing.
 use borrow.Author.Tests.{lt-ltb, le-ltb}
 use borrow.Author.Needs.{needs}
-use Rattle.findings.proofs.sights.is_control.Statement.{statement}
-use Rattle.findings.proofs.sights.is_control.Tie as tie
+use Rattle.step_findings.proofs.is_control.Statement.{statement}
+use Rattle.step_findings.proofs.is_control.Tie as tie
 
 returns : tie.Need-returns
 returns c = rw (lt-ltb _ _ (c .if1 .taken))

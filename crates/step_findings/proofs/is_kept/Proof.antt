@@ -1,9 +1,9 @@
--- `findings::sights::is_kept` meets its contract.
+-- `step_findings::is_kept` meets its contract.
 -- Assumes nothing.
-use Rattle.findings.proofs.Telling.{kept-other, kept-brace}
+use Rattle.step_findings.proofs.StepTests.{kept-other, kept-brace}
 use borrow.Author.Needs.{needs}
-use Rattle.findings.proofs.sights.is_kept.Statement.{statement}
-use Rattle.findings.proofs.sights.is_kept.Tie as tie
+use Rattle.step_findings.proofs.is_kept.Statement.{statement}
+use Rattle.step_findings.proofs.is_kept.Tie as tie
 
 returns : tie.Need-returns
 returns c = search (kept-other, c .if1 .taken)
