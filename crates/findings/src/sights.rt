@@ -1,8 +1,8 @@
 // The steps of a body that an editor is told of, one after the other.
 use body::at;
 use body::at::Stand;
-use moves::Mode;
 use matching::sets::Sets;
+use moves::Mode;
 use step_findings::Finding;
 use tables::spellings;
 ghost use mathlib.Core.Path.{_≡_};

@@ -3,16 +3,16 @@ use crate::sayings;
 use crate::sentence;
 use crate::sentence::Tally;
 use body::at;
-use moves::Mode;
 use findings::braces;
 use findings::braces::Inside;
 use findings::sights;
 use findings::sights::Sighting;
 use matching::sets::Sets;
+use moves::Mode;
 use nearest::names;
 use nearest::parts;
-use text_places::Place;
 use step_findings::Finding;
+use text_places::Place;
 
 // How many columns some bytes take, as an editor shows them.
 fn columns(s: &[u8]) -> usize {
