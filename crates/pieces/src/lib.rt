@@ -1,8 +1,9 @@
 // How the units of a body are spelt in a listing.
 use units::Unit;
 ghost use mathlib.Core.Path.{_≡_};
-ghost use Prim.Native.Nat.{_+_};
-ghost use lib.ListN.{length};
+ghost use Prim.Native.Nat.{_+_, _≤_};
+ghost use lib.ListN.{length, take, drop};
+ghost use lib.Seq.{sets};
 ghost use Rattle.lent.specs.Stores.{Room, Put};
 ghost use Rattle.texts.specs.TextsHelpers.{SpellsTexts};
 ghost use Rattle.tables.specs.Tsb.{tsbId, tsbText};
@@ -73,16 +74,49 @@ pub fn put_unit(out: &mut [u8], at: usize, bytes: &[u8], starts: &[u16], unit: U
     }
 }
 
-// Stores a text from a place on, and answers the place behind it. One byte is stored at once.
+// Stores a text from a place on, and answers the place behind it. One byte is stored at once, and four to eight, as most words have, by
+// the first four and the last four.
 pub fn put(out: &mut [u8], at: usize, text: &[u8]) -> usize
     requires { ⌜ Room (now out) at (now text) ⌝ }
     ensures { λ r. ⌜ Put (now (out .entry)) at (now (text .entry)) r (now (out .exit)) ⌝ }
 {
-    if text.len() == 1 {
-        out[at] = text[0];
-        return at + 1;
+    let n = text.len();
+    match n {
+        1 => {
+            out[at] = text[0];
+            at + 1
+        }
+        4..=8 => {
+            put_ends(out, at, text);
+            at + n
+        }
+        _ => copy(out, at, text),
     }
-    copy(out, at, text)
+}
+
+// Stores the first four bytes of a text, and the last four: of four to eight, that is all.
+fn put_ends(out: &mut [u8], at: usize, text: &[u8])
+    requires { ⌜ Room (now out) at (now text) × (4 ≤ length (now text)) × (length (now text) ≤ 8) ⌝ }
+    ensures { λ r. ⌜ now (out .exit) ≡ sets (now (out .entry)) at (now (text .entry)) ⌝ }
+{
+    let last = text.len() - 4;
+    put_four(out, at, text, 0);
+    put_four(out, at + last, text, last);
+}
+
+// Stores four bytes of a text, from its place i on. All are read before one is stored, so that they move as one.
+fn put_four(out: &mut [u8], at: usize, text: &[u8], i: usize)
+    requires { ⌜ (at + 4 ≤ length (now out)) × (i + 4 ≤ length (now text)) ⌝ }
+    ensures { λ r. ⌜ now (out .exit) ≡ sets (now (out .entry)) at (take 4 (drop i (now (text .entry)))) ⌝ }
+{
+    let a = text[i];
+    let b = text[i + 1];
+    let c = text[i + 2];
+    let d = text[i + 3];
+    out[at] = a;
+    out[at + 1] = b;
+    out[at + 2] = c;
+    out[at + 3] = d;
 }
 
 // The same, byte by byte.

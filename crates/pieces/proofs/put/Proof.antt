@@ -1,16 +1,9 @@
--- `pieces::put` meets its contract: one byte, or more of them.
+-- `pieces::put` meets its contract: one byte, the two ends of a text, or its bytes one by one.
 -- Assumes nothing.
-use native.Mathlib.Omega.{arith}
-use Rattle.pieces.proofs.Copying.{one-room, one-put}
+use Rattle.pieces.proofs.Copying.{one-put}
 use borrow.Author.Needs.{needs}
 use Rattle.pieces.proofs.put.Statement.{statement}
 use Rattle.pieces.proofs.put.Tie as tie
-
-slice-write-out : tie.Need-slice-write-out
-slice-write-out c = search one-room
-
-add-result : tie.Need-add-result
-add-result c = omega (arith, slice-write-out (search))
 
 returns : tie.Need-returns
 returns c = search one-put
@@ -20,10 +13,14 @@ put-spec =
     tie.close
     (tie.spec
     (λ c. search needs)
-    slice-write-out
-    add-result
+    (λ c. search needs)
+    (λ c. search needs)
+    (λ c κs. search needs)
+    (λ c. search needs)
+    (λ c κs. search needs)
     (λ c. search needs)
     returns
-    (λ c κs. search needs)
+    (λ c. search needs)
+    (λ c. search needs)
     (λ c. search needs)
     (λ c. search needs))
