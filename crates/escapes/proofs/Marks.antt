@@ -2,7 +2,7 @@
 -- Assumes nothing.
 use Prim.Native.Nat.{ℕ, zero, suc, _+_, _-_, _≤_, _<_, min}
 use mathlib.Core.Path.{_≡_, refl, sym, ap, _∙_}
-use mathlib.Core.Bool.{Bool, true, false, _&&_}
+use mathlib.Core.Bool.{Bool, true, false, not, _&&_, false≢true, and-false}
 use mathlib.Core.List.{List, [], _∷_, map}
 use mathlib.Core.Option.{Option, none, some}
 use native.Mathlib.Decide.{decLe}
@@ -11,21 +11,51 @@ use native.Mathlib.Omega.{arith}
 use lib.ListN.{length, getD, take, drop, drop-of-length-le}
 use lib.Seq.{length-take-le}
 use lib.Dec.{T, eqb, ltb, ltb→lt}
-use borrow.Author.Tests.{ne-eqb}
+use borrow.Author.Tests.{eq-eqb, ne-eqb, not-true}
+use Rattle.ascii.specs.Bytes.{upper}
+use Rattle.ascii.proofs.Choice.{left}
 use Rattle.ascii.specs.Search.{isMark, before}
 use Rattle.ascii.proofs.Searching.{before-le, before-take, tail}
 use Rattle.ascii.specs.Trim.{trim}
-use Rattle.words.specs.Compare.{alike}
+use Rattle.words.specs.Compare.{begins, alike}
 use Rattle.words.specs.Find.{Name, meaning}
 use Rattle.words.specs.RunHelpers.{passesAt, firstFrom}
 use Rattle.words.specs.declared.Test.the-variants.{Alike}
 use Rattle.words.proofs.Storing.{spellsNames, name-means, name-unknown}
 use Rattle.words.proofs.Search.{and-left, and-right}
+use Rattle.words.proofs.Sameness.{T-true}
 use Rattle.escape_bytes.specs.Keys.{keyNames, keyWith, keyed, keyEscape}
 use Rattle.escape_bytes.specs.declared.Key.{Key}
 use Rattle.escape_bytes.specs.declared.Key.the-variants.{Control}
 use Rattle.escape_bytes.specs.declared.Escape.{Escape}
 use Rattle.escape_bytes.specs.declared.Escape.the-variants.{Unknown}
+use Rattle.escapes.specs.KeyHelpers.{isKeyLetter, beginsKey}
+
+-- ---- the first byte of a name
+
+begins-with : (t : List ℕ) → (length t ≡ 0 → ⊥) → beginsKey t ≡ isKeyLetter (upper (getD t 0 0))
+unfolding beginsKey
+begins-with [] n = absurd (n refl)
+begins-with (b ∷ t) n = refl
+
+module _ (t : List ℕ) where
+  pub begins-empty : length t ≡ 0 → false ≡ beginsKey t
+  unfolding beginsKey
+  begins-empty e = go t e
+    where
+      go : (s : List ℕ) → length s ≡ 0 → false ≡ beginsKey s
+      go [] h = refl
+      go (b ∷ s) h = absurd (omega arith)
+
+  module _ {u : ℕ} (q : u ≡ upper (getD t 0 0)) (n : length t ≡ 0 → ⊥) where
+    told : {r : Bool} → r ≡ isKeyLetter u → r ≡ beginsKey t
+    told e = e ∙ ap isKeyLetter q ∙ sym (begins-with t n)
+
+    pub begins-c : u ≡ 0x43 → true ≡ beginsKey t
+    begins-c e = told (simp (eq-eqb _ _ e))
+
+    pub begins-s : (u ≡ 0x43 → ⊥) → eqb u 0x53 ≡ beginsKey t
+    begins-s e = told (simp (ne-eqb _ _ e))
 
 -- ---- a name split at its first mark
 
@@ -69,11 +99,48 @@ long-prefix : (prefix : List ℕ) → 8 ≤ length prefix → meaning keyNames p
 unfolding shorter keyNames
 long-prefix prefix h = long-unnamed prefix 8 h keyNames tt
 
-keyed-long : (prefix arg : List ℕ) (count : ℕ) → 8 ≤ length prefix → Unknown ≡ keyed prefix arg count
+-- each prefix begins with C or S, so that a text that does not is none
+allBegin : {A : Type 0} → List (Name A) → Bool
+allBegin [] = true
+allBegin (x ∷ ns) = beginsKey (x .name) && allBegin ns
+
+apart : (w t : List ℕ) → T (beginsKey w) → beginsKey t ≡ false → begins w t ≡ false
+unfolding beginsKey begins
+apart [] t o n = absurd o
+apart (c ∷ w) [] o n = refl
+apart (c ∷ w) (b ∷ t) o n =
+    left _ _ (ne-eqb (upper c) (upper b) (λ e. false≢true (sym n ∙ ap isKeyLetter (sym e) ∙ T-true (isKeyLetter (upper c)) o)))
+
+other-unnamed : {A : Type 0} (t : List ℕ) → beginsKey t ≡ false → (ns : List (Name A)) → T (allBegin ns) → meaning ns t ≡ none
+unfolding meaning alike allBegin
+other-unnamed t n [] s = refl
+other-unnamed t n (x ∷ ns) s =
+    let none-here : alike (x .name) t ≡ false = rw (alike, apart (x .name) t (and-left (beginsKey (x .name)) _ s) n) (and-false (eqb (length (x .name)) (length t))) in
+    rw (meaning, none-here) (other-unnamed t n ns (and-right (beginsKey (x .name)) _ s))
+
+other-prefix : (prefix : List ℕ) → beginsKey prefix ≡ false → meaning keyNames prefix ≡ none
+unfolding allBegin beginsKey upper keyNames
+other-prefix prefix n = other-unnamed prefix n keyNames tt
+
+-- what is no prefix gives nothing
+unprefixed : (prefix arg : List ℕ) (count : ℕ) → meaning keyNames prefix ≡ none → Unknown ≡ keyed prefix arg count
 unfolding keyed
-keyed-long prefix [] count h = refl
-keyed-long prefix (b ∷ []) count h = rw (keyed, long-prefix prefix h)
-keyed-long prefix (b ∷ c ∷ s) count h = refl
+unprefixed prefix [] count h = refl
+unprefixed prefix (b ∷ []) count h = rw (keyed, h)
+unprefixed prefix (b ∷ c ∷ s) count h = refl
+
+-- a part of a text in front begins as the text does, or with nothing
+front-begins : (n : ℕ) (t : List ℕ) → beginsKey t ≡ false → beginsKey (take n t) ≡ false
+unfolding beginsKey
+front-begins zero t h = refl
+front-begins (suc n) [] h = refl
+front-begins (suc n) (b ∷ t) h = h
+
+pub key-begins-not : (name : List ℕ) (count : ℕ) {r : Bool} → not r ≡ true → r ≡ beginsKey name → Unknown ≡ keyEscape name count
+unfolding keyEscape
+key-begins-not name count {r} e q =
+    unprefixed (take (before isMark name) name) (trim (drop (suc (before isMark name)) name)) count
+    (other-prefix _ (front-begins (before isMark name) name (sym q ∙ not-true r e)))
 
 module _ (name : List ℕ) (count : ℕ) {mark reach : ℕ} where
   -- the mark that is found among the first eight bytes is the first one
@@ -93,8 +160,8 @@ module _ (name : List ℕ) (count : ℕ) {mark reach : ℕ} where
           keyed-none (take (before isMark name) name) (drop (suc (before isMark name)) name) count
           (drop-of-length-le name {i = suc (before isMark name)} (omega (arith, beyond)))
       go (no l) =
-          keyed-long (take (before isMark name) name) (trim (drop (suc (before isMark name)) name)) count
-          (omega (arith, beyond, length-take-le (before isMark name) name (before-le isMark name)))
+          unprefixed (take (before isMark name) name) (trim (drop (suc (before isMark name)) name)) count
+          (long-prefix _ (omega (arith, beyond, length-take-le (before isMark name) name (before-le isMark name))))
 
   module _ {arg : List ℕ} where
     -- a prefix of a name that is split at its mark, and what follows the mark, trimmed

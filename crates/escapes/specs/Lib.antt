@@ -1,1 +1,2 @@
+pub mod KeyHelpers
 pub mod TailHelpers

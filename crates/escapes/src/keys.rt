@@ -9,6 +9,7 @@ ghost use mathlib.Core.Path.{_≡_};
 ghost use mathlib.Core.List.{[], _∷_};
 ghost use Prim.Native.Nat.{_<_, min};
 ghost use Rattle.escape_bytes.specs.Keys.{keyed, keyEscape};
+ghost use Rattle.escapes.specs.KeyHelpers.{beginsKey};
 
 const KEY_BYTES: [u8; 28] = *b"CTRLCNTRLCONTROLCMCBMSHSHIFT";
 
@@ -51,11 +52,28 @@ fn prefixed(prefix: &[u8], b: u8, count: u64) -> Escape
     Escape::Unknown
 }
 
+// Whether a name begins as a prefix does, with C or S.
+fn begins_key(name: &[u8]) -> bool
+    ensures { λ r. ⌜ r ≡ beginsKey (now (name .entry)) ⌝ }
+{
+    if name.len() == 0 {
+        return false;
+    }
+    let first = ascii::upper(name[0]);
+    if first == b'C' {
+        return true;
+    }
+    first == b'S'
+}
+
 // The escape of a name that is a prefix, a mark and one byte. No prefix has more than seven bytes, so its mark is one of the first
-// eight: a long text between braces is not gone through.
+// eight: a long text between braces is not gone through. Most texts that are no escape are told by their first byte.
 pub fn key_escape(name: &[u8], count: u64) -> Escape
     ensures { λ r. ⌜ r ≡ keyEscape (now (name .entry)) count ⌝ }
 {
+    if !begins_key(name) {
+        return Escape::Unknown;
+    }
     let reach = at_most_eight(name.len());
     let mark = search::before(&name[..reach], Kind::Mark);
     if reach <= mark {
