@@ -2,14 +2,14 @@
 -- Assumes nothing.
 use Prim.Native.Nat.{ℕ, zero, suc, _+_, _≤_, _<_}
 use mathlib.Core.Path.{_≡_, refl, sym, ap, _∙_, subst}
-use mathlib.Core.Bool.{Bool, true, false}
+use mathlib.Core.Bool.{Bool, true, false, _&&_, false≢true}
 use mathlib.Core.List.{List, [], _∷_}
 use native.Mathlib.Nat.{add-zero}
 use native.Mathlib.Omega.{arith}
 use lib.Dec.{eqb}
 use lib.ListN.{length, getD, drop, drop-of-length-le, length-drop}
 use lib.Seq.{drop-drop, getD-drop}
-use borrow.Author.Tests.{eq-eqb, ne-eqb}
+use borrow.Author.Tests.{eq-eqb, ne-eqb, eqb-true}
 use mir.Syntax.{w64}
 use mir.Val.{Fits}
 use Rattle.steps.specs.Again.{again}
@@ -83,9 +83,6 @@ space-step place [] e = absurd (omega arith)
 space-step place (b ∷ s) e = rw e
 
 module _ (place : Place) (t : List ℕ) where
-  pub statement-space : {s : EvidenceStep} → s ≡ On 1 place → getD t 0 0 ≡ 0x20 → s ≡ statementStep place t
-  statement-space q e = q ∙ space-step place t e
-
   pub statement-quote : {s : EvidenceStep} → s ≡ On 1 Quoted → getD t 0 0 ≡ 0x22 → s ≡ statementStep place t
   unfolding statementStep
   statement-quote q e = q ∙ sym (taken _ _ (eq-eqb _ _ e))
@@ -279,13 +276,36 @@ module _ (line : List ℕ) (place : Place) (i : ℕ) {s : EvidenceStep} where
     scanned-turn k =
         record { within = far .1; gives = ap (decidingFrom (i + used) next) (sym (drop-drop used i line)) ∙ sym (there e q h) ∙ k .gives }
 
+first-there : (line : List ℕ) (j : ℕ) → getD (rest line j) 0 0 ≡ getD line j 0
+first-there line j = ap (λ (t : List ℕ). getD t 0 0) (tail line j) ∙ getD-drop j line 0 0 ∙ ap (λ (n : ℕ). getD line n 0) (add-zero j)
+
+-- a space outside strings and DATA
+module _ (place : Place) (b : ℕ) where
+  pub no-gap : (b ≡ 0x20 → ⊥) → false ≡ (eqb b 0x20 && isPlain place)
+  no-gap n = simp (ne-eqb _ _ n)
+
+  pub gap : {r : Bool} → r ≡ isPlain place → b ≡ 0x20 → r ≡ (eqb b 0x20 && isPlain place)
+  gap p e = p ∙ simp (eq-eqb _ _ e)
+
+pub gap-turn : (line : List ℕ) (place : Place) (i : ℕ) {w : Found} {r : Bool} → r ≡ true → r ≡ (eqb (getD line i 0) 0x20 && isPlain place) → i < length line
+    → Scanned line w place i → Scanned line w place (i + 1)
+unfolding evidenceStep
+gap-turn line place i {w} {r} e g h k = go (eqb (getD line i 0) 0x20) refl (isPlain place) refl (sym g ∙ e)
+  where
+    go : (a : Bool) → eqb (getD line i 0) 0x20 ≡ a → (b : Bool) → isPlain place ≡ b → (a && b) ≡ true → Scanned line w place (i + 1)
+    go true p true q f =
+        let s : On 1 place ≡ evidenceStep place (rest line i) =
+        space-step place (rest line i) (first-there line i ∙ eqb-true _ _ p) ∙ sym (taken _ _ q) in
+        scanned-turn line place i {s = On 1 place} refl s h k
+    go true p false q f = absurd (false≢true f)
+    go false p b q f = absurd (false≢true f)
+
 -- ---- a step, and the bytes of a string or of DATA behind it
 
 same-turn : (line : List ℕ) (place : Place) (j : ℕ) {w : Found} → j < length line → Same place (getD line j 0) → Scanned line w place j → Scanned line w place (j + 1)
 unfolding evidenceStep
 same-turn line place j h s k =
-    let first : getD (rest line j) 0 0 ≡ getD line j 0 = ap (λ (t : List ℕ). getD t 0 0) (tail line j) ∙ getD-drop j line 0 0 ∙ ap (λ (n : ℕ). getD line n 0) (add-zero j) in
-    let q : On 1 place ≡ evidenceStep place (rest line j) = sym (left _ _ (s .apart) ∙ ap (On 1) (ap (aside place) first ∙ s .same)) in
+    let q : On 1 place ≡ evidenceStep place (rest line j) = sym (left _ _ (s .apart) ∙ ap (On 1) (ap (aside place) (first-there line j) ∙ s .same)) in
     scanned-turn line place j {s = On 1 place} refl q h k
 
 module _ (line : List ℕ) (place : Place) (i : ℕ) {s : EvidenceStep} {used : ℕ} {next : Place} (e : s ≡ On used next) (q : s ≡ evidenceStep place (rest line i)) (h : i < length line) where

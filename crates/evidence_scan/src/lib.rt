@@ -11,12 +11,14 @@ use word_uses::proving;
 use words::Match;
 ghost use mathlib.Core.Path.{_≡_};
 ghost use Prim.Native.Nat.{_≤_, _<_};
-ghost use mathlib.Core.Bool.{true, false};
+ghost use mathlib.Core.Bool.{true, false, _&&_};
+ghost use lib.Dec.{eqb};
 ghost use lib.ListN.{length, getD};
 ghost use Rattle.ascii.specs.Bytes.{isLetter};
 ghost use Rattle.ascii.specs.declared.search.Kind.the-variants.{White};
 ghost use Rattle.tables.specs.WordsHelpers.{SpellsWords};
 ghost use Rattle.evidence_scan.specs.Evidence.{wordProves, statementStep, evidenceStep, numberLength, lineEvidence, listPlace, decidingPlace, decidingWord};
+ghost use Rattle.scan_places.specs.Places.{isPlain};
 ghost use Rattle.word_uses.specs.MarkHelpers.{MarksOf};
 
 // The first word of a line that proves that a text is TSB.
@@ -90,7 +92,7 @@ fn other_step(place: Place, text: &[u8]) -> EvidenceStep
     on(1, Place::Within)
 }
 
-// A step outside strings and DATA. A space is asked for first, since no byte is more frequent.
+// A step outside strings and DATA.
 fn statement_step(
     place: Place,
     text: &[u8],
@@ -101,11 +103,7 @@ fn statement_step(
     requires { ⌜ SpellsWords (now bytes) (now index) × (0 < length (now text)) × MarksOf White (now text) (now marks) ⌝ }
     ensures { λ r. ⌜ r ≡ statementStep place (now (text .entry)) ⌝ }
 {
-    let b = text[0];
-    if b == 0x20 {
-        return on(1, place);
-    }
-    if ascii::is_letter(b) {
+    if ascii::is_letter(text[0]) {
         return letter_step(place, text, marks, bytes, index);
     }
     other_step(place, text)
@@ -150,6 +148,17 @@ fn list_place(text: &[u8], bytes: &[u8], index: &[u16]) -> usize
     }
 }
 
+// Whether a byte is a space outside strings and DATA, which leaves the place as it is.
+fn is_gap(place: Place, b: u8) -> bool
+    ensures { λ r. ⌜ r ≡ (eqb b 0x20 && isPlain place) ⌝ }
+{
+    if b != 0x20 {
+        return false;
+    }
+    place::is_plain(place)
+}
+
+// A space is passed without a step, since no byte is more frequent.
 fn marked_place(line: &[u8], marks: &[u8], bytes: &[u8], index: &[u16]) -> Found
     requires { ⌜ SpellsWords (now bytes) (now index) × MarksOf White (now line) (now marks) ⌝ }
     ensures { λ r. ⌜ r ≡ decidingPlace (now (line .entry)) ⌝ }
@@ -157,17 +166,21 @@ fn marked_place(line: &[u8], marks: &[u8], bytes: &[u8], index: &[u16]) -> Found
     let mut i = number_length(line);
     let mut place = Place::Start;
     while i < line.len() {
-        match evidence_step(place, &line[i..], marks, bytes, index) {
-            EvidenceStep::Proved => {
-                return Found::At(i);
-            }
-            EvidenceStep::Remark => {
-                return Found::Nowhere;
-            }
-            EvidenceStep::On { used, place: next } => {
-                let behind = i + used;
-                i = behind + place::stretch(next, &line[behind..]);
-                place = next;
+        if is_gap(place, line[i]) {
+            i += 1;
+        } else {
+            match evidence_step(place, &line[i..], marks, bytes, index) {
+                EvidenceStep::Proved => {
+                    return Found::At(i);
+                }
+                EvidenceStep::Remark => {
+                    return Found::Nowhere;
+                }
+                EvidenceStep::On { used, place: next } => {
+                    let behind = i + used;
+                    i = behind + place::stretch(next, &line[behind..]);
+                    place = next;
+                }
             }
         }
     }

@@ -3,7 +3,7 @@
 use Prim.Native.Nat.{_-_}
 use lib.ListN.{length}
 use Rattle.evidence_scan.specs.Evidence.{decidingPlace}
-use Rattle.evidence_scan.proofs.Steps.{Scanned, scanned-start, scanned-proved, scanned-remark, scanned-stretch, scanned-end, on-fits, behind-some, behind-within}
+use Rattle.evidence_scan.proofs.Steps.{Scanned, scanned-start, gap-turn, scanned-proved, scanned-remark, scanned-stretch, scanned-end, on-fits, behind-some, behind-within}
 use Rattle.word_uses.proofs.Behind.{rest-some}
 use Rattle.word_uses.proofs.Marks.{marks-rest}
 use Rattle.scan_places.proofs.Places.{stretch-fits, stretch-less}
@@ -19,6 +19,9 @@ abbrev μ-loop : tie.MeasureT-loop
 
 loop-holds : tie.Need-loop-holds Inv-loop μ-loop
 loop-holds c = search scanned-start
+
+loop-again : tie.Need-loop-again Inv-loop μ-loop
+loop-again c = search gap-turn
 
 evidence-step-requires : tie.Need-evidence-step-requires Inv-loop μ-loop
 evidence-step-requires c κs = search (rest-some, marks-rest)
@@ -38,14 +41,14 @@ sub-stretch c = search behind-within
 part-stretch-start : tie.Need-part-stretch-start Inv-loop μ-loop
 part-stretch-start c = search behind-within
 
-add-i : tie.Need-add-i Inv-loop μ-loop
-add-i c = search (stretch-fits, behind-within)
+add-i-2 : tie.Need-add-i-2 Inv-loop μ-loop
+add-i-2 c = search (stretch-fits, behind-within)
 
-loop-less : tie.Need-loop-less Inv-loop μ-loop
-loop-less c = search (stretch-less, behind-some, behind-within)
+loop-less-2 : tie.Need-loop-less-2 Inv-loop μ-loop
+loop-less-2 c = search (stretch-less, behind-some, behind-within)
 
-loop-again : tie.Need-loop-again Inv-loop μ-loop
-loop-again c = search scanned-stretch
+loop-again-2 : tie.Need-loop-again-2 Inv-loop μ-loop
+loop-again-2 c = search scanned-stretch
 
 returns-3 : tie.Need-returns-3 Inv-loop μ-loop
 returns-3 c = search scanned-end
@@ -58,6 +61,11 @@ marked-place-spec =
     μ-loop
     (λ c κs. search needs)
     loop-holds
+    (λ c. search needs)
+    (λ c κs. search needs)
+    (λ c. search needs)
+    (λ c. search needs)
+    loop-again
     (λ c. search needs)
     (λ c. search needs)
     (λ c. search needs)
@@ -72,7 +80,7 @@ marked-place-spec =
     part-stretch-start
     (λ c. search needs)
     (λ c κs. search needs)
-    add-i
-    loop-less
-    loop-again
+    add-i-2
+    loop-less-2
+    loop-again-2
     returns-3)

@@ -1,13 +1,9 @@
 -- `evidence_scan::statement_step` meets its contract.
 -- Assumes nothing.
-use Rattle.evidence_scan.proofs.Steps.{statement-space}
 use Rattle.scan_places.proofs.Words.{letter-told}
 use borrow.Author.Needs.{needs}
 use Rattle.evidence_scan.proofs.statement_step.Statement.{statement}
 use Rattle.evidence_scan.proofs.statement_step.Tie as tie
-
-returns : tie.Need-returns
-returns c = search statement-space
 
 letter-step-requires : tie.Need-letter-step-requires
 letter-step-requires c κs = search letter-told
@@ -20,8 +16,6 @@ statement-step-spec =
     tie.close
     (tie.spec
     (λ c. search needs)
-    (λ c κs. search needs)
-    returns
     (λ c κs. search needs)
     letter-step-requires
     (λ c. search needs)
