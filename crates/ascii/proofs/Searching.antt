@@ -4,13 +4,14 @@ use Prim.Native.Nat.{ℕ, zero, suc, _+_, _-_, _≤_, _<_, min}
 use mathlib.Core.Path.{_≡_, refl, sym, ap, _∙_, subst}
 use mathlib.Core.Bool.{Bool, true, false, not, cond, false≢true}
 use mathlib.Core.List.{List, [], _∷_, _++_, reverse, reverse-append, reverse-reverse}
-use native.Mathlib.Numerals.{add-one}
+use native.Mathlib.Numerals.{add-one, unary-clauses}
 use native.Mathlib.Omega.{arith}
 use lib.ListN.{length, getD, take, drop, drop-of-length-le, length-drop, length-append, take-append-drop}
 use lib.Dec.{eqb}
-use lib.Seq.{drop-cons, take-suc, take-all, take-length, length-take-le, take-append-seam}
-use borrow.Author.Tests.{not-true, not-false, eq-eqb, ne-eqb}
-use Rattle.ascii.specs.Search.{equals, other, ofKind, startsWith, front, before, past, last, pastEnd}
+use lib.Seq.{drop-cons, drop-drop, take-suc, take-all, take-length, length-take-le, take-append-seam}
+use borrow.Author.Tests.{not-true, not-false, eq-eqb}
+use Rattle.ascii.specs.EightHelpers.{Eight, Tops, Bottoms}
+use Rattle.ascii.specs.Search.{equals, other, ofKind, startsWith, front, before, last, pastEnd}
 use Rattle.ascii.specs.declared.search.Kind.{Kind}
 use Rattle.ascii.specs.declared.search.Found.{Found}
 use Rattle.ascii.specs.declared.search.Found.the-variants.{At, Nowhere}
@@ -93,13 +94,34 @@ module _ (p : ℕ → Bool) {s : List ℕ} {from i : ℕ} where
     pub from-found : not r ≡ true → r ≡ p (getD s i 0) → i < length s → Onward (front p) s from i → i ≡ from + front p (drop from s)
     from-found t q = stops (sym q ∙ not-true r t)
 
+-- a loop that goes on by so many at a time, each of which passes
+pub passes-all : (p : ℕ → Bool) {s : List ℕ} {from i : ℕ} (n : ℕ) → ((k : ℕ) → k < n → p (getD s (i + k) 0) ≡ true) → i + n ≤ length s
+    → Onward (front p) s from i → Onward (front p) s from (i + n)
+passes-all p zero f h o = simp unary-clauses o
+passes-all p {s} {from} {i} (suc n) f h o =
+    let e : i + n + 1 ≡ i + suc n = omega arith in
+    subst (Onward (front p) s from) e (passes p (f n (omega arith)) (omega arith) (passes-all p n (λ k l. f k (omega arith)) (omega arith) o))
+
+-- the eight, each by its number
+pub each-of : {R : ℕ → ℕ → Type 0} {t : List ℕ} {i r : ℕ} → Eight R t i r → (k : ℕ) → k < 8 → R (getD t (i + k) 0) r
+each-of e zero h = simp unary-clauses (e .first)
+each-of e (suc zero) h = e .second
+each-of e (suc (suc zero)) h = e .third
+each-of e (suc (suc (suc zero))) h = e .fourth
+each-of e (suc (suc (suc (suc zero)))) h = e .fifth
+each-of e (suc (suc (suc (suc (suc zero))))) h = e .sixth
+each-of e (suc (suc (suc (suc (suc (suc zero)))))) h = e .seventh
+each-of e (suc (suc (suc (suc (suc (suc (suc zero))))))) h = e .eighth
+each-of e (suc (suc (suc (suc (suc (suc (suc (suc k)))))))) h = absurd (omega arith)
+
 -- a loop that goes on while a byte is b
 module _ (b : ℕ) {s : List ℕ} {from i : ℕ} where
   pub run-turn : getD s i 0 ≡ b → i < length s → Onward (front (equals b)) s from i → Onward (front (equals b)) s from (i + 1)
   run-turn e = passes (equals b) (eq-eqb _ _ e)
 
-  pub run-found : (getD s i 0 ≡ b → ⊥) → i < length s → Onward (front (equals b)) s from i → i ≡ from + front (equals b) (drop from s)
-  run-found n = stops (equals b) (ne-eqb _ _ n)
+  -- none of eight is above b, and none is below
+  pub run-eight : {x y : ℕ} → x ≤ b → b ≤ y → Tops s i x → Bottoms s i y → 8 ≤ length s - i → Onward (front (equals b)) s from i → Onward (front (equals b)) s from (i + 8)
+  run-eight l g t u h = passes-all (equals b) 8 (λ k m. eq-eqb (getD s (i + k) 0) b (omega (arith, each-of t k m, each-of u k m))) (omega arith)
 
 -- the same from the first byte on
 module _ (p : ℕ → Bool) {s : List ℕ} {i : ℕ} where
@@ -155,12 +177,6 @@ front-drop p (suc n) (b ∷ s) h = go (p b) h (front-drop p n s)
     go true l f = let m : n + front p (drop n s) ≡ front p s = f (omega arith) in omega arith
     go false l f = absurd (omega arith)
 
--- one more that passes
-pub front-step : (p : ℕ → Bool) (s : List ℕ) (i : ℕ) → i ≤ front p s → i < length s → p (getD s i 0) ≡ true → i + 1 ≤ front p s
-front-step p s i h l t =
-    let e : front p (drop i s) ≡ suc (front p (drop (i + 1) s)) = rw (here s i l) (front-more p _ _ t) in
-    omega (arith, front-drop p i s h)
-
 -- where each byte of a kind is of another, too
 pub front-wider : (p q : ℕ → Bool) → ((b : ℕ) → q b ≡ true → p b ≡ true) → (s : List ℕ) → front q s ≤ front p s
 unfolding front
@@ -171,6 +187,13 @@ front-wider p q w (b ∷ s) = go (q b) (p b) (w b) (front-wider p q w s)
     go true true f h = omega arith
     go true false f h = absurd (false≢true (f refl))
     go false y f h = omega arith
+
+-- and what went onward over the one kind did over the other
+pub onward-wider : (p q : ℕ → Bool) → ((b : ℕ) → q b ≡ true → p b ≡ true) → {s : List ℕ} {from i : ℕ} → Onward (front q) s from i → Onward (front p) s from i
+onward-wider p q w {s} {from} {i} o = record { gives = through i ∙ ap (λ (n : ℕ). n + front p (drop n s)) (o .gives) ∙ sym (through from) }
+  where
+    through : (j : ℕ) → j + front p (drop j s) ≡ j + front q (drop j s) + front p (drop (j + front q (drop j s)) s)
+    through j = rw (← drop-drop (front q (drop j s)) j s) (omega (arith, front-drop p (front q (drop j s)) (drop j s) (front-wider p q w (drop j s))))
 
 -- looked for among the first n bytes alone
 pub front-take : (p : ℕ → Bool) (n : ℕ) (s : List ℕ) → front p (take n s) ≡ min n (front p s)

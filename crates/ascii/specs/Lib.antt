@@ -1,3 +1,4 @@
 pub mod Bytes
+pub mod EightHelpers
 pub mod Search
 pub mod Trim

@@ -9,12 +9,13 @@ use lib.Dec.{eqb, ltb}
 use lib.ListN.{length, getD, take, drop, drop-of-length-le}
 use lib.Seq.{drop-drop}
 use borrow.Author.Tests.{lt-ltb, le-ltb, le-leb, lt-leb, ltb-true, not-true, not-false}
+use Rattle.ascii.specs.EightHelpers.{Tops}
 use Rattle.ascii.specs.Search.{startsWith, front}
-use Rattle.ascii.proofs.Searching.{Onward, onward-by, onward-end, tail, here, front-le, front-step, starts-long}
+use Rattle.ascii.proofs.Searching.{Onward, onward-by, onward-end, passes-all, each-of, tail, here, front-le, front-drop, starts-long}
 use Rattle.refusals.specs.Numbers.{textTooLong, badByte}
-use Rattle.refusals.specs.Answer.{Answer, done, refused}
+use Rattle.refusals.specs.Answer.{done, refused}
 use Rattle.domain.specs.Domain.{isPi, domainLength, checkedText}
-use Rattle.domain.specs.DomainHelpers.{isLow, Tops}
+use Rattle.domain.specs.DomainHelpers.{isLow}
 use Rattle.ascii.proofs.Choice.{taken, left}
 
 -- ---- one character of the domain in front
@@ -84,23 +85,11 @@ module _ {s : List ℕ} {i : ℕ} where
 
 -- ---- bytes below 80 in front
 
-low-byte : (s : List ℕ) (i : ℕ) → i ≤ front isLow s → i < length s → getD s i 0 < 0x80 → i + 1 ≤ front isLow s
-low-byte s i f h l = front-step isLow s i f h (lt-ltb _ _ l)
-
 -- eight, none above one that is below 80
 low-eight : {s : List ℕ} {i r : ℕ} → i ≤ front isLow s → 8 ≤ length s - i → Tops s i r → r < 0x80 → i + 8 ≤ front isLow s
-low-eight {s} {i} {r} f h t l =
-    on 7 (omega arith) (omega (arith, t .eighth))
-    (on 6 (omega arith) (omega (arith, t .seventh))
-    (on 5 (omega arith) (omega (arith, t .sixth))
-    (on 4 (omega arith) (omega (arith, t .fifth))
-    (on 3 (omega arith) (omega (arith, t .fourth))
-    (on 2 (omega arith) (omega (arith, t .third))
-    (on 1 (omega arith) (omega (arith, t .second))
-    (low-byte s i f (omega arith) (omega (arith, t .first)))))))))
-  where
-    on : (n : ℕ) → n < 8 → getD s (i + n) 0 < 0x80 → i + n ≤ front isLow s → i + suc n ≤ front isLow s
-    on n m b p = omega (arith, low-byte s (i + n) p (omega arith) b)
+low-eight {s} {i} f h t l =
+    let o : Onward (front isLow) s 0 i = record { gives = omega (arith, front-drop isLow i s f) } in
+    omega (arith, passes-all isLow 8 (λ k m. lt-ltb (getD s (i + k) 0) 0x80 (omega (arith, each-of t k m))) (omega arith) o .gives)
 
 pub low-sixteen : {s : List ℕ} {i a b r : ℕ} → r < 0x80 → (a ≤ r) × (b ≤ r) → Tops s i a → Tops s (i + 8) b → 16 ≤ length s - i → i ≤ front isLow s → i + 16 ≤ front isLow s
 low-sixteen l m t u h f = omega (arith, low-eight (low-eight f (omega arith) t (omega arith)) (omega arith) u (omega arith))

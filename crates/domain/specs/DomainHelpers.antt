@@ -1,21 +1,8 @@
--- For the contracts of `top_of_eight` and `passed_by_eights` alone: bytes below 80, eight by eight.
+-- For the contract of `passed_by_eights` alone: bytes below 80.
 -- Assumes nothing.
-use Prim.Native.Nat.{ℕ, _+_, _≤_}
+use Prim.Native.Nat.{ℕ}
 use mathlib.Core.Bool.{Bool}
-use mathlib.Core.List.{List}
 use lib.Dec.{ltb}
-use lib.ListN.{getD}
 
 abbrev pub isLow : ℕ → Bool
 isLow b = ltb b 0x80
-
--- none of the eight bytes from i on is above r
-pub record Tops (t : List ℕ) (i r : ℕ) : Type 0 where
-  pub first : getD t i 0 ≤ r
-  pub second : getD t (i + 1) 0 ≤ r
-  pub third : getD t (i + 2) 0 ≤ r
-  pub fourth : getD t (i + 3) 0 ≤ r
-  pub fifth : getD t (i + 4) 0 ≤ r
-  pub sixth : getD t (i + 5) 0 ≤ r
-  pub seventh : getD t (i + 6) 0 ≤ r
-  pub eighth : getD t (i + 7) 0 ≤ r

@@ -1,12 +1,13 @@
 // Which texts are taken.
+use ascii::eights::larger;
+use ascii::eights::top_of_eight;
 use ascii::search;
 use refusals::Refusal;
 ghost use mathlib.Core.Path.{_≡_};
-ghost use Prim.Native.Nat.{_+_, _≤_};
-ghost use lib.ListN.{length};
+ghost use Prim.Native.Nat.{_≤_};
 ghost use Rattle.ascii.specs.Search.{front};
 ghost use Rattle.domain.specs.Domain.{isPi, domainLength, checkedText, textCheckAnswer};
-ghost use Rattle.domain.specs.DomainHelpers.{isLow, Tops};
+ghost use Rattle.domain.specs.DomainHelpers.{isLow};
 
 // What a check of a text answers.
 pub enum TextCheck {
@@ -22,28 +23,6 @@ fn is_pi(text: &[u8]) -> bool
         return false;
     }
     search::starts_with(&text[1..], 0x80)
-}
-
-fn larger(a: u8, b: u8) -> u8
-    ensures { λ r. ⌜ (a ≤ r) × (b ≤ r) ⌝ }
-{
-    if a < b { b } else { a }
-}
-
-// A byte that none of the eight from a place on is above.
-fn top_of_eight(text: &[u8], i: usize) -> u8
-    requires { ⌜ i + 8 ≤ length (now text) ⌝ }
-    ensures { λ r. ⌜ Tops (now (text .entry)) i r ⌝ }
-{
-    let a = larger(
-        larger(text[i], text[i + 1]),
-        larger(text[i + 2], text[i + 3]),
-    );
-    let b = larger(
-        larger(text[i + 4], text[i + 5]),
-        larger(text[i + 6], text[i + 7]),
-    );
-    larger(a, b)
 }
 
 // So many bytes in front are below 80, and perhaps more: two eights are passed at a time.

@@ -7,11 +7,11 @@ use mathlib.Core.List.{List, [], _∷_}
 use native.Mathlib.Omega.{arith}
 use lib.Dec.{eqb}
 use lib.ListN.{length, getD, take, drop}
-use lib.Seq.{drop-drop}
-use borrow.Author.Tests.{eqb-true, eq-eqb, not-false}
+use borrow.Author.Tests.{eqb-true, not-false}
 use Rattle.ascii.specs.Bytes.{between, isSpace}
 use Rattle.ascii.specs.Search.{equals, isWhite, isBlank, front}
-use Rattle.ascii.proofs.Searching.{Onward, onward-start, here, from-end, from-found, front-nil, front-more, front-none, front-drop, front-wider}
+use Rattle.ascii.proofs.Searching.{Onward, onward-start, onward-wider, run-turn, from-end, from-found, front-nil, front-more, front-none}
+use Rattle.text_lines.specs.SplitHelpers.{runEnd}
 
 -- ---- one byte
 
@@ -41,6 +41,11 @@ blank-white = blank-each (λ b. isWhite b ≡ true) refl refl refl
 
 -- ---- from a place on
 
+-- one more of a run, and those that are passed behind it
+pub run-on : {t : List ℕ} {b from i : ℕ} (n : ℕ) → runEnd b t n ≡ runEnd b t (i + 1) → getD t i 0 ≡ b → i < length t → Onward (front (equals b)) t from i
+    → runEnd b t n ≡ runEnd b t from
+run-on {b = b} n run e h o = run ∙ run-turn b e h o .gives
+
 module _ (t : List ℕ) (from : ℕ) where
   pub blanks-beyond : length t ≤ from → from ≡ from + front isBlank (drop from t)
   blanks-beyond h = from-end isBlank h (onward-start (front isBlank) t from)
@@ -48,18 +53,14 @@ module _ (t : List ℕ) (from : ℕ) where
   pub blanks-none : {r : Bool} → not r ≡ true → r ≡ isBlank (getD t from 0) → from < length t → from ≡ from + front isBlank (drop from t)
   blanks-none e q h = from-found isBlank e q h (onward-start (front isBlank) t from)
 
-  -- a run of one blank is passed first
-  pub blanks-run : {n : ℕ} {r : Bool} → n ≡ from + 1 + front (equals (getD t from 0)) (drop (from + 1) t) → not r ≡ false → r ≡ isBlank (getD t from 0) → from < length t
+  -- a run of one blank is passed first, or a part of it
+  pub blanks-run : {n : ℕ} {r : Bool} → runEnd (getD t from 0) t n ≡ runEnd (getD t from 0) t (from + 1) → not r ≡ false → r ≡ isBlank (getD t from 0) → from < length t
       → Onward (front isBlank) t from n
   blanks-run {n} {r} run e q h =
       let b = getD t from 0 in
-      let k = front (equals b) (drop from t) in
-      let one : k ≡ suc (front (equals b) (drop (from + 1) t)) = rw (here t from h) (front-more (equals b) b (drop (from + 1) t) (eq-eqb b b refl)) in
       let blank : isBlank b ≡ true = sym q ∙ not-false r e in
-      let wider = front-wider isBlank (equals b) (λ x p. ap isBlank (eqb-true x b p) ∙ blank) (drop from t) in
-      let far : n ≡ from + k = omega arith in
-      let rest : drop n t ≡ drop k (drop from t) = ap (λ (m : ℕ). drop m t) far ∙ sym (drop-drop k from t) in
-      record { gives = omega (arith, ap (front isBlank) rest, front-drop isBlank k (drop from t) wider) }
+      let o : Onward (front (equals b)) t from n = record { gives = run-on n run refl h (onward-start (front (equals b)) t from) } in
+      onward-wider isBlank (equals b) (λ x p. ap isBlank (eqb-true x b p) ∙ blank) o
 
 -- ---- what one blank in front does not change, all of them in front of a line do not
 

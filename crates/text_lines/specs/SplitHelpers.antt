@@ -1,11 +1,11 @@
--- For the contracts of `end_mark`, `behind_fours` and `next_line` alone: the lines where they stand. proofs/Splitting.antt shows that these are the
--- lines of TextLines.antt, one after the other.
+-- For the contracts of `end_mark`, `behind_run`, `long_run`, `behind_fours` and `next_line` alone: the lines where they stand. proofs/Splitting.antt
+-- shows that these are the lines of TextLines.antt, one after the other.
 -- Assumes nothing.
 use Prim.Native.Nat.{ℕ, zero, suc, _+_, _≤_, _<_}
 use mathlib.Core.Bool.{cond}
 use mathlib.Core.List.{List, [], _∷_}
 use lib.ListN.{length, getD, drop}
-use Rattle.ascii.specs.Search.{startsWith, isBlank, front}
+use Rattle.ascii.specs.Search.{equals, startsWith, isBlank, front}
 use Rattle.text_lines.specs.declared.LineRule.{LineRule}
 use Rattle.text_lines.specs.declared.LineRule.the-variants.{AsGiven, AfterCr}
 use Rattle.text_lines.specs.declared.TextLine.{TextLine}
@@ -33,6 +33,10 @@ unfoldable pub lineFrom : LineRule → List ℕ → ℕ → TextLine
 unfolding lineLength front
 lineFrom rule t from =
     record { begin = from + front isBlank (drop from t); end = from + lineLength rule (drop from t); next = from + lineUsed rule (drop from t) }
+
+-- where the run of one byte ends that stands from a place on
+abbrev pub runEnd : ℕ → List ℕ → ℕ → ℕ
+runEnd b t i = i + front (equals b) (drop i t)
 
 -- each byte from a place up to another is above CR, so that none ends a line
 pub record AboveCr (t : List ℕ) (from to : ℕ) : Type 0 where

@@ -1,11 +1,12 @@
 // The lines of a text, found where they stand: nothing is copied.
+use ascii::eights;
 use ascii::search;
 use ascii::search::Kind;
 ghost use mathlib.Core.Path.{_≡_};
-ghost use Prim.Native.Nat.{_+_};
-ghost use lib.ListN.{drop};
-ghost use Rattle.ascii.specs.Search.{equals, isBlank, front};
-ghost use Rattle.text_lines.specs.SplitHelpers.{endMark, lineFrom, AboveCr};
+ghost use Prim.Native.Nat.{_+_, _≤_};
+ghost use lib.ListN.{length, drop};
+ghost use Rattle.ascii.specs.Search.{isBlank, front};
+ghost use Rattle.text_lines.specs.SplitHelpers.{endMark, lineFrom, runEnd, AboveCr};
 
 // What ends a line.
 pub enum LineRule {
@@ -41,9 +42,10 @@ fn end_mark(text: &[u8], rule: LineRule) -> usize
     }
 }
 
-// The place behind the run of one byte that stands from a place on.
+// A place in the run of one byte that stands from a place on, or behind it. Most runs are short, and are passed whole. Behind sixteen bytes they
+// are passed eight at a time.
 fn behind_run(text: &[u8], from: usize, b: u8) -> usize
-    ensures { λ r. ⌜ r ≡ from + front (equals b) (drop from (now (text .entry))) ⌝ }
+    ensures { λ r. ⌜ runEnd b (now (text .entry)) r ≡ runEnd b (now (text .entry)) from ⌝ }
 {
     let mut i: usize = from;
     while i < text.len() {
@@ -51,12 +53,33 @@ fn behind_run(text: &[u8], from: usize, b: u8) -> usize
             return i;
         }
         i += 1;
+        if i - from == 16 {
+            return long_run(text, i, b);
+        }
     }
     i
 }
 
-// The place behind the blanks that stand from a place on. Most are a run of one, which is passed with one test for each byte. These
-// loops stand here, and not in `ascii::search`, because they are run for each text line.
+// The same for the rest of a long run. Eight bytes are all b where none is above it and none is below. Fewer than eight of the run may be left.
+fn long_run(text: &[u8], from: usize, b: u8) -> usize
+    requires { ⌜ from ≤ length (now text) ⌝ }
+    ensures { λ r. ⌜ runEnd b (now (text .entry)) r ≡ runEnd b (now (text .entry)) from ⌝ }
+{
+    let mut i = from;
+    while text.len() - i >= 8 {
+        if eights::top_of_eight(text, i) > b {
+            return i;
+        }
+        if eights::bottom_of_eight(text, i) < b {
+            return i;
+        }
+        i += 8;
+    }
+    i
+}
+
+// The place behind the blanks that stand from a place on. Most are a run of one, which is passed first with one test for each byte, or for eight.
+// These loops stand here, and not in `ascii::search`, because they are run for each text line.
 fn behind_blanks(text: &[u8], from: usize) -> usize
     ensures { λ r. ⌜ r ≡ from + front isBlank (drop from (now (text .entry))) ⌝ }
 {
