@@ -1,6 +1,6 @@
 // The faults that make a program unfit for the master disk: of the whole image, of a line, of a jump.
 ghost use mathlib.Core.Path.{_≡_};
-ghost use Prim.Native.Nat.{_+_, _*_, _≤_, min};
+ghost use Prim.Native.Nat.{_+_, _≤_, min};
 ghost use lib.ListN.{getD};
 ghost use Rattle.image_bytes.specs.ImageBytes.{lowFirstAt};
 ghost use Rattle.faults.specs.Faults.{inBasicMemory, memoryFaults, numberFaults, orderFaults, zeroFaults, lengthFaults, relinkFaults};
@@ -176,11 +176,12 @@ fn number_at(image: &[u8], offset: usize) -> u16
     low_first_at(image, offset + 2)
 }
 
+// The number in two bytes at an offset, low byte first; a byte that is not there counts as 0.
 fn low_first_at(image: &[u8], offset: usize) -> u16
     requires { ⌜ offset ≤ 18446744073709551614 ⌝ }
     ensures { λ r. ⌜ r ≡ lowFirstAt (now (image .entry)) offset ⌝ }
 {
-    low_first(byte_at(image, offset), byte_at(image, offset + 1))
+    image_bytes::low_first(byte_at(image, offset), byte_at(image, offset + 1))
 }
 
 fn byte_at(image: &[u8], offset: usize) -> u8
@@ -190,10 +191,4 @@ fn byte_at(image: &[u8], offset: usize) -> u8
         return image[offset];
     }
     0
-}
-
-fn low_first(low: u8, high: u8) -> u16
-    ensures { λ r. ⌜ r ≡ low + 256 * high ⌝ }
-{
-    (low as u16) + 256 * (high as u16)
 }

@@ -1,8 +1,7 @@
 // What the machine makes of a program's links after loading it: its ROM's routine at A533, over an image that is loaded at its own address.
 ghost use mathlib.Core.Path.{_≡_};
-ghost use Prim.Native.Nat.{_+_, _*_, _≤_, _<_};
+ghost use Prim.Native.Nat.{_+_, _≤_, _<_};
 ghost use lib.ListN.{length};
-ghost use Rattle.image_bytes.specs.ImageBytes.{lowFirstAt};
 ghost use Rattle.relink.specs.Relinking.{inMemory, zeroSought, stored, relinkStep, relinkedAnswer, relinking};
 use refusals::Refusal;
 
@@ -100,9 +99,9 @@ fn store(image: &[u8], offset: usize, count: usize) -> Passed
     requires { ⌜ (offset + 1 < length (now image)) × (length (now image) ≤ 1048576) × (2 ≤ offset) × (count < 256) ⌝ }
     ensures { λ r. ⌜ r ≡ stored (now (image .entry)) offset count ⌝ }
 {
-    let sum = low_first_at(image, 0) as usize + offset - 2 + count;
+    let sum = image_bytes::low_first_at(image, 0) as usize + offset - 2 + count;
     let link = (sum % 65536) as u16;
-    if link != low_first_at(image, offset) {
+    if link != image_bytes::low_first_at(image, offset) {
         return Passed::Changed(link);
     }
     if count == 0 {
@@ -139,18 +138,4 @@ fn is_in_memory(image: &[u8], offset: usize) -> bool
         return false;
     }
     image.len() < 65539
-}
-
-// The number in two bytes at an offset, low byte first.
-fn low_first_at(image: &[u8], offset: usize) -> u16
-    requires { ⌜ offset + 1 < length (now image) ⌝ }
-    ensures { λ r. ⌜ r ≡ lowFirstAt (now (image .entry)) offset ⌝ }
-{
-    low_first(image[offset], image[offset + 1])
-}
-
-fn low_first(low: u8, high: u8) -> u16
-    ensures { λ r. ⌜ r ≡ low + 256 * high ⌝ }
-{
-    (low as u16) + 256 * (high as u16)
 }
