@@ -66,8 +66,8 @@ fn begins_key(name: &[u8]) -> bool
     first == b'S'
 }
 
-// The escape of a name that is a prefix, a mark and one byte. No prefix has more than seven bytes, so its mark is one of the first
-// eight: a long text between braces is not gone through. Most texts that are no escape are told by their first byte.
+// The escape of a name that is a prefix, a mark and one byte. Most texts that are no escape begin with another letter than a prefix. No prefix has more than
+// seven bytes, so its mark is one of the first eight: a long text between braces is not gone through.
 pub fn key_escape(name: &[u8], count: u64) -> Escape
     ensures { λ r. ⌜ r ≡ keyEscape (now (name .entry)) count ⌝ }
 {
