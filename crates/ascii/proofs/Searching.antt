@@ -10,7 +10,6 @@ use lib.ListN.{length, getD, take, drop, drop-of-length-le, length-drop, length-
 use lib.Dec.{eqb}
 use lib.Seq.{drop-cons, drop-drop, take-suc, take-all, take-length, length-take-le, take-append-seam}
 use borrow.Author.Tests.{not-true, not-false, eq-eqb}
-use Rattle.ascii.specs.EightHelpers.{Eight, Tops, Bottoms}
 use Rattle.ascii.specs.Search.{equals, other, ofKind, startsWith, front, before, last, pastEnd}
 use Rattle.ascii.specs.declared.search.Kind.{Kind}
 use Rattle.ascii.specs.declared.search.Found.{Found}
@@ -102,26 +101,10 @@ passes-all p {s} {from} {i} (suc n) f h o =
     let e : i + n + 1 ≡ i + suc n = omega arith in
     subst (Onward (front p) s from) e (passes p (f n (omega arith)) (omega arith) (passes-all p n (λ k l. f k (omega arith)) (omega arith) o))
 
--- the eight, each by its number
-pub each-of : {R : ℕ → ℕ → Type 0} {t : List ℕ} {i r : ℕ} → Eight R t i r → (k : ℕ) → k < 8 → R (getD t (i + k) 0) r
-each-of e zero h = simp unary-clauses (e .first)
-each-of e (suc zero) h = e .second
-each-of e (suc (suc zero)) h = e .third
-each-of e (suc (suc (suc zero))) h = e .fourth
-each-of e (suc (suc (suc (suc zero)))) h = e .fifth
-each-of e (suc (suc (suc (suc (suc zero))))) h = e .sixth
-each-of e (suc (suc (suc (suc (suc (suc zero)))))) h = e .seventh
-each-of e (suc (suc (suc (suc (suc (suc (suc zero))))))) h = e .eighth
-each-of e (suc (suc (suc (suc (suc (suc (suc (suc k)))))))) h = absurd (omega arith)
-
 -- a loop that goes on while a byte is b
 module _ (b : ℕ) {s : List ℕ} {from i : ℕ} where
   pub run-turn : getD s i 0 ≡ b → i < length s → Onward (front (equals b)) s from i → Onward (front (equals b)) s from (i + 1)
   run-turn e = passes (equals b) (eq-eqb _ _ e)
-
-  -- none of eight is above b, and none is below
-  pub run-eight : {x y : ℕ} → x ≤ b → b ≤ y → Tops s i x → Bottoms s i y → 8 ≤ length s - i → Onward (front (equals b)) s from i → Onward (front (equals b)) s from (i + 8)
-  run-eight l g t u h = passes-all (equals b) 8 (λ k m. eq-eqb (getD s (i + k) 0) b (omega (arith, each-of t k m, each-of u k m))) (omega arith)
 
 -- the same from the first byte on
 module _ (p : ℕ → Bool) {s : List ℕ} {i : ℕ} where

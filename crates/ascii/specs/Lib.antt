@@ -1,4 +1,3 @@
 pub mod Bytes
-pub mod EightHelpers
 pub mod Search
 pub mod Trim

@@ -5,7 +5,6 @@ ghost use Rattle.ascii.specs.Bytes.{between as betweenOf, upper as upper
 ghost use Rattle.ascii.specs.Search.{front, pastEnd};
 ghost use Rattle.ascii.specs.Trim.{trim as trimOf};
 
-pub mod eights;
 pub mod search;
 
 // A byte as a length or a place.

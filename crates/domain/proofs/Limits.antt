@@ -9,14 +9,15 @@ use lib.Dec.{eqb, ltb}
 use lib.ListN.{length, getD, take, drop, drop-of-length-le}
 use lib.Seq.{drop-drop}
 use borrow.Author.Tests.{lt-ltb, le-ltb, le-leb, lt-leb, ltb-true, not-true, not-false}
-use Rattle.ascii.specs.EightHelpers.{Tops}
 use Rattle.ascii.specs.Search.{startsWith, front}
-use Rattle.ascii.proofs.Searching.{Onward, onward-by, onward-end, passes-all, each-of, tail, here, front-le, front-drop, starts-long}
+use Rattle.ascii.proofs.Searching.{Onward, onward-by, onward-end, passes-all, tail, here, front-le, front-drop, starts-long}
 use Rattle.refusals.specs.Numbers.{textTooLong, badByte}
 use Rattle.refusals.specs.Answer.{done, refused}
 use Rattle.domain.specs.Domain.{isPi, domainLength, checkedText}
 use Rattle.domain.specs.DomainHelpers.{isLow}
 use Rattle.ascii.proofs.Choice.{taken, left}
+use Rattle.eights.specs.EightHelpers.{Tops}
+use Rattle.eights.proofs.Eights.{each-of}
 
 -- ---- one character of the domain in front
 

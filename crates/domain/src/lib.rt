@@ -1,7 +1,7 @@
 // Which texts are taken.
-use ascii::eights::larger;
-use ascii::eights::top_of_eight;
 use ascii::search;
+use eights::larger;
+use eights::top_of_eight;
 use refusals::Refusal;
 ghost use mathlib.Core.Path.{_≡_};
 ghost use Prim.Native.Nat.{_≤_};

@@ -1,5 +1,4 @@
 // The lines of a text, found where they stand: nothing is copied.
-use ascii::eights;
 use ascii::search;
 use ascii::search::Kind;
 ghost use mathlib.Core.Path.{_≡_};

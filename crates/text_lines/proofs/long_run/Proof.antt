@@ -3,7 +3,8 @@
 use Prim.Native.Nat.{_-_, _≤_}
 use lib.ListN.{length}
 use Rattle.ascii.specs.Search.{equals, front}
-use Rattle.ascii.proofs.Searching.{Onward, onward-start, run-eight}
+use Rattle.ascii.proofs.Searching.{Onward, onward-start}
+use Rattle.eights.proofs.Eights.{run-eight}
 use borrow.Author.Needs.{needs}
 use Rattle.text_lines.proofs.long_run.Statement.{statement}
 use Rattle.text_lines.proofs.long_run.Tie as tie

@@ -1,7 +1,7 @@
 // The highest and the lowest of eight bytes, for loops that pass eight at a time: the compiler makes vector code of these.
 ghost use Prim.Native.Nat.{_+_, _≤_};
 ghost use lib.ListN.{length};
-ghost use Rattle.ascii.specs.EightHelpers.{Tops, Bottoms};
+ghost use Rattle.eights.specs.EightHelpers.{Tops, Bottoms};
 
 pub fn larger(a: u8, b: u8) -> u8
     ensures { λ r. ⌜ (a ≤ r) × (b ≤ r) ⌝ }
