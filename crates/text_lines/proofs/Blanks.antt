@@ -4,13 +4,14 @@ use Prim.Native.Nat.{ℕ, zero, suc, _+_, _-_, _≤_, _<_}
 use mathlib.Core.Path.{_≡_, refl, sym, ap, _∙_, subst}
 use mathlib.Core.Bool.{Bool, true, false, not, _||_}
 use mathlib.Core.List.{List, [], _∷_}
+use native.Mathlib.Numerals.{unary-clauses}
 use native.Mathlib.Omega.{arith}
 use lib.Dec.{eqb}
 use lib.ListN.{length, getD, take, drop}
-use borrow.Author.Tests.{eqb-true, not-false}
+use borrow.Author.Tests.{eqb-true, eq-eqb, not-false}
 use Rattle.ascii.specs.Bytes.{between, isSpace}
 use Rattle.ascii.specs.Search.{equals, isWhite, isBlank, front}
-use Rattle.ascii.proofs.Searching.{Onward, onward-start, onward-wider, run-turn, from-end, from-found, front-nil, front-more, front-none}
+use Rattle.ascii.proofs.Searching.{Onward, onward-start, onward-wider, passes-all, run-turn, from-end, from-found, front-nil, front-more, front-none}
 use Rattle.text_lines.specs.SplitHelpers.{runEnd}
 
 -- ---- one byte
@@ -45,6 +46,18 @@ blank-white = blank-each (λ b. isWhite b ≡ true) refl refl refl
 pub run-on : {t : List ℕ} {b from i : ℕ} (n : ℕ) → runEnd b t n ≡ runEnd b t (i + 1) → getD t i 0 ≡ b → i < length t → Onward (front (equals b)) t from i
     → runEnd b t n ≡ runEnd b t from
 run-on {b = b} n run e h o = run ∙ run-turn b e h o .gives
+
+-- four more of it
+pub run-four : (b : ℕ) {s : List ℕ} {from i : ℕ} → getD s (i + 3) 0 ≡ b → getD s (i + 2) 0 ≡ b → getD s (i + 1) 0 ≡ b → getD s i 0 ≡ b → 4 ≤ length s - i
+    → Onward (front (equals b)) s from i → Onward (front (equals b)) s from (i + 4)
+run-four b {s} {i = i} d c a e h = passes-all (equals b) 4 each (omega arith)
+  where
+    each : (k : ℕ) → k < 4 → equals b (getD s (i + k) 0) ≡ true
+    each zero l = simp unary-clauses (eq-eqb _ _ e)
+    each (suc zero) l = eq-eqb _ _ a
+    each (suc (suc zero)) l = eq-eqb _ _ c
+    each (suc (suc (suc zero))) l = eq-eqb _ _ d
+    each (suc (suc (suc (suc k)))) l = absurd (omega arith)
 
 module _ (t : List ℕ) (from : ℕ) where
   pub blanks-beyond : length t ≤ from → from ≡ from + front isBlank (drop from t)

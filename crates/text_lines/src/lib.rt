@@ -42,7 +42,7 @@ fn end_mark(text: &[u8], rule: LineRule) -> usize
 }
 
 // A place in the run of one byte that stands from a place on, or behind it. Most runs are short, and are passed whole. Behind sixteen bytes they
-// are passed eight at a time.
+// are passed four at a time.
 fn behind_run(text: &[u8], from: usize, b: u8) -> usize
     ensures { λ r. ⌜ runEnd b (now (text .entry)) r ≡ runEnd b (now (text .entry)) from ⌝ }
 {
@@ -59,25 +59,31 @@ fn behind_run(text: &[u8], from: usize, b: u8) -> usize
     i
 }
 
-// The same for the rest of a long run. Eight bytes are all b where none is above it and none is below. Fewer than eight of the run may be left.
+// The same for the rest of a long run. Fewer than four of it may be left.
 fn long_run(text: &[u8], from: usize, b: u8) -> usize
     requires { ⌜ from ≤ length (now text) ⌝ }
     ensures { λ r. ⌜ runEnd b (now (text .entry)) r ≡ runEnd b (now (text .entry)) from ⌝ }
 {
     let mut i = from;
-    while text.len() - i >= 8 {
-        if eights::top_of_eight(text, i) > b {
+    while text.len() - i >= 4 {
+        if text[i] != b {
             return i;
         }
-        if eights::bottom_of_eight(text, i) < b {
+        if text[i + 1] != b {
             return i;
         }
-        i += 8;
+        if text[i + 2] != b {
+            return i;
+        }
+        if text[i + 3] != b {
+            return i;
+        }
+        i += 4;
     }
     i
 }
 
-// The place behind the blanks that stand from a place on. Most are a run of one, which is passed first with one test for each byte, or for eight.
+// The place behind the blanks that stand from a place on. Most are a run of one, which is passed first with one test for each byte.
 // These loops stand here, and not in `ascii::search`, because they are run for each text line.
 fn behind_blanks(text: &[u8], from: usize) -> usize
     ensures { λ r. ⌜ r ≡ from + front isBlank (drop from (now (text .entry))) ⌝ }

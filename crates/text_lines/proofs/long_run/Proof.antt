@@ -4,7 +4,7 @@ use Prim.Native.Nat.{_-_, _≤_}
 use lib.ListN.{length}
 use Rattle.ascii.specs.Search.{equals, front}
 use Rattle.ascii.proofs.Searching.{Onward, onward-start}
-use Rattle.eights.proofs.Eights.{run-eight}
+use Rattle.text_lines.proofs.Blanks.{run-four}
 use borrow.Author.Needs.{needs}
 use Rattle.text_lines.proofs.long_run.Statement.{statement}
 use Rattle.text_lines.proofs.long_run.Tie as tie
@@ -19,7 +19,7 @@ loop-holds : tie.Need-loop-holds Inv-loop μ-loop
 loop-holds c = search (needs, onward-start)
 
 loop-again : tie.Need-loop-again Inv-loop μ-loop
-loop-again c = search (needs, run-eight)
+loop-again c = search (needs, run-four)
 
 pub long-run-spec : {M : Type 1} → statement M
 long-run-spec =
@@ -29,9 +29,16 @@ long-run-spec =
     μ-loop
     loop-holds
     (λ c. search needs)
-    (λ c κs. search needs)
     (λ c. search needs)
-    (λ c κs. search needs)
+    (λ c. search needs)
+    (λ c. search needs)
+    (λ c. search needs)
+    (λ c. search needs)
+    (λ c. search needs)
+    (λ c. search needs)
+    (λ c. search needs)
+    (λ c. search needs)
+    (λ c. search needs)
     (λ c. search needs)
     (λ c. search needs)
     (λ c. search needs)
