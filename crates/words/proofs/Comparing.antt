@@ -78,37 +78,28 @@ known-agrees (x ∷ w) (y ∷ t) (suc n) h e = go (eqb (upper x) (upper y)) e (k
     go true g f = f g
     go false g f = absurd (false≢true g)
 
-pub begins-short : (w t : List ℕ) → length t < length w → false ≡ begins w t
-unfolding begins
-begins-short [] t h = absurd (omega arith)
-begins-short (x ∷ w) [] h = refl
-begins-short (x ∷ w) (y ∷ t) h = go (eqb (upper x) (upper y)) (begins-short w t (le-of-suc-le-suc h))
-  where
-    go : (b : Bool) → false ≡ begins w t → false ≡ elim b [ true ↦ begins w t | false ↦ false ]
-    go true e = e
-    go false e = refl
-
--- such a word, no longer than the text, of which i bytes were compared
+-- such a word, of which i bytes were compared
 pub record Going (w t : List ℕ) (i : ℕ) : Type 0 where
   pub compared : Compared w t i
   pub capital : T (raised w)
-  pub fits : length w ≤ length t
 
 module _ {w t : List ℕ} where
-  pub going-start : {known : ℕ} → length w ≤ length t → Ready w t known → Going w t known
-  going-start {known} l r =
-      record { compared = record { within = r .long; gives = known-agrees w t known (r .long) (r .agrees) }; capital = r .capital; fits = l }
+  pub going-start : {known : ℕ} → Ready w t known → Going w t known
+  going-start {known} r = record { compared = record { within = r .long; gives = known-agrees w t known (r .long) (r .agrees) }; capital = r .capital }
 
-  module _ {i b : ℕ} where
-    pub going-turn : getD w i 0 ≡ b → b ≡ upper (getD t i 0) → i < length w → Going w t i → Going w t (i + 1)
-    going-turn e q h g =
-        record { compared = agree (raised-at w (g .capital) i h ∙ e ∙ q) (omega (arith, g .fits)) h (g .compared); capital = g .capital; fits = g .fits }
+  module _ {i : ℕ} where
+    pub going-short : length t ≤ i → i < length w → Going w t i → false ≡ begins w t
+    going-short l h g = compared-short l h (g .compared)
 
-    pub going-other : (getD w i 0 ≡ b → ⊥) → b ≡ upper (getD t i 0) → i < length w → Going w t i → false ≡ begins w t
-    going-other n q h g = differ (λ e. n (sym (raised-at w (g .capital) i h) ∙ e ∙ sym q)) (omega (arith, g .fits)) h (g .compared)
+    pub going-end : length w ≤ i → Going w t i → true ≡ begins w t
+    going-end h g = compared-end h (g .compared)
 
-  pub going-end : {i : ℕ} → length w ≤ i → Going w t i → true ≡ begins w t
-  going-end h g = compared-end h (g .compared)
+    module _ {b : ℕ} where
+      pub going-turn : getD w i 0 ≡ b → b ≡ upper (getD t i 0) → i < length t → i < length w → Going w t i → Going w t (i + 1)
+      going-turn e q l h g = record { compared = agree (raised-at w (g .capital) i h ∙ e ∙ q) l h (g .compared); capital = g .capital }
+
+      pub going-other : (getD w i 0 ≡ b → ⊥) → b ≡ upper (getD t i 0) → i < length t → i < length w → Going w t i → false ≡ begins w t
+      going-other n q l h g = differ (λ e. n (sym (raised-at w (g .capital) i h) ∙ e ∙ sym q)) l h (g .compared)
 
 -- ---- a word and its capitals
 

@@ -81,16 +81,17 @@ fn shortens(word: &[u8], text: &[u8]) -> bool
     begins(text, word)
 }
 
-// Whether the text begins with a word that is stored in capitals, where so many bytes of the two are known to agree.
+// Whether the text begins with a word that is stored in capitals, where so many bytes of the two are known to agree. The lengths are not
+// compared first: most words differ in the next byte.
 fn goes_on(word: &[u8], text: &[u8], known: usize) -> bool
     requires { ⌜ Ready (now word) (now text) known ⌝ }
     ensures { λ r. ⌜ r ≡ beginsOf (now (word .entry)) (now (text .entry)) ⌝ }
 {
-    if text.len() < word.len() {
-        return false;
-    }
     let mut i = known;
     while i < word.len() {
+        if i >= text.len() {
+            return false;
+        }
         if word[i] != ascii::upper(text[i]) {
             return false;
         }

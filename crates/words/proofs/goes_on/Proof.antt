@@ -2,7 +2,7 @@
 -- Assumes nothing.
 use Prim.Native.Nat.{_-_}
 use lib.ListN.{length}
-use Rattle.words.proofs.Comparing.{Going, begins-short, going-start, going-turn, going-other, going-end}
+use Rattle.words.proofs.Comparing.{Going, going-start, going-short, going-turn, going-other, going-end}
 use Rattle.steps.proofs.The.{the}
 use borrow.Author.Needs.{needs}
 use Rattle.words.proofs.goes_on.Statement.{statement}
@@ -14,18 +14,18 @@ Inv-loop word text known i₀ i = Going word text i
 abbrev μ-loop : tie.MeasureT-loop
 μ-loop word text known i₀ i = length word - i
 
-returns : tie.Need-returns Inv-loop μ-loop
-returns c = search begins-short
-
 loop-holds : tie.Need-loop-holds Inv-loop μ-loop
 loop-holds c = search going-start
+
+returns : tie.Need-returns Inv-loop μ-loop
+returns c = search going-short
 
 returns-2 : tie.Need-returns-2 Inv-loop μ-loop
 returns-2 c = search (going-other, c .if2 .taken)
 
 loop-again : tie.Need-loop-again Inv-loop μ-loop
 loop-again c =
-    going-turn (c .if2 .left) (c .before .upper .ensures) (the (tie.In-loop Inv-loop μ-loop) (search) .loop-test .taken)
+    going-turn (c .if2 .left) (c .before .upper .ensures) (search) (the (tie.In-loop Inv-loop μ-loop) (search) .loop-test .taken)
     (the (tie.At-loop Inv-loop μ-loop) (search) .loop .inv)
 
 returns-3 : tie.Need-returns-3 Inv-loop μ-loop
@@ -37,8 +37,8 @@ goes-on-spec =
     (tie.spec
     Inv-loop
     μ-loop
-    returns
     loop-holds
+    returns
     (λ c. search needs)
     (λ c. search needs)
     (λ c κs. search needs)
