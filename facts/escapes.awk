@@ -49,7 +49,7 @@ FILENAME ~ /Escapes/ {
 }
 $2 !~ /^[0-9A-F][0-9A-F]$/ { next }
 ++rows <= names {
-    if ($1 != defined[rows]) print "crates/codes/stdin names " $1 " where the definitions have " defined[rows]
+    if ($1 != defined[rows]) print "crates/judge_codes/stdin names " $1 " where the definitions have " defined[rows]
     if (!($1 in keys)) print "escape-keys.tsv has no keys for " $1
     if (table != "keys") name_row($1, $2)
     next

@@ -11,31 +11,31 @@ use lib.Dec.{T, eqb, ltb, leb, leb→le}
 use lib.ListN.{length, getD, take, drop, length-append, length-take, length-drop, drop-of-length-le}
 use lib.Seq.{drop-drop}
 use borrow.Author.Tests.{le-ltb, ltb-true, ltb-false}
-use Rattle.ascii.specs.Bytes.{upper}
-use Rattle.ascii.specs.Search.{equals, other, before, front}
-use Rattle.ascii.proofs.Searching.{tail, before-le, before-take, front-drop}
-use Rattle.words.specs.Find.{Entry, firstThat, wordIn, amongIn}
-use Rattle.words.specs.declared.Match.{Match}
-use Rattle.words.specs.declared.Match.the-variants.{Word, Nothing}
-use Rattle.words.proofs.Search.{and-left, and-right}
-use Rattle.tables.specs.Rom.{v2Words}
-use Rattle.tables.specs.Tsb.{tsbWords}
-use Rattle.matching.specs.Sets.{isDemoted, isLive, liveWord, plainWord}
-use Rattle.forms.specs.Forms.{formWord}
-use Rattle.forms.proofs.Standing.{form-takes}
-use Rattle.matching.specs.declared.sets.Sets.{Sets}
+use Rattle.base_ascii.specs.Bytes.{upper}
+use Rattle.base_ascii.specs.Search.{equals, other, before, front}
+use Rattle.base_ascii.proofs.Searching.{tail, before-le, before-take, front-drop}
+use Rattle.word_search.specs.Find.{Entry, firstThat, wordIn, amongIn}
+use Rattle.word_search.specs.declared.Match.{Match}
+use Rattle.word_search.specs.declared.Match.the-variants.{Word, Nothing}
+use Rattle.word_search.proofs.Search.{and-left, and-right}
+use Rattle.word_tables.specs.Rom.{v2Words}
+use Rattle.word_tables.specs.Tsb.{tsbWords}
+use Rattle.word_match.specs.Sets.{isDemoted, isLive, liveWord, plainWord}
+use Rattle.body_short_forms.specs.Forms.{formWord}
+use Rattle.body_short_forms.proofs.Standing.{form-takes}
+use Rattle.word_match.specs.declared.sets.Sets.{Sets}
 use Rattle.escape_bytes.specs.Escape.{escapeOf}
 use Rattle.escape_bytes.specs.declared.Escape.{Escape}
 use Rattle.escape_bytes.specs.declared.Escape.the-variants.{Byte, Unknown}
 use Rattle.escape_bytes.proofs.Once.{Often, given-once}
 use Rattle.body.specs.Body.{written, crunchedFrom, crunchedBody}
 use Rattle.body.specs.BoundHelpers.{mayRepeat}
-use Rattle.moves.specs.Lexicon.{lexicon}
-use Rattle.moves.specs.Steps.{first, one, token, opened, otherStep, signStep, formStep, plainStep, lettered, stringByte, escaped, braced, stringStep, dataStep, dataQuoteStep, crunchStep}
-use Rattle.moves.specs.declared.Mode.{Mode}
-use Rattle.moves.specs.declared.Mode.the-variants.{Plain, String, Remark, Data, DataQuote}
-use Rattle.moves.specs.declared.Move.{Move}
-use Rattle.moves.proofs.Beginnings.{Takes, document-proper, word-takes, plain-word-takes, operators-start}
+use Rattle.body_rules.specs.Lexicon.{lexicon}
+use Rattle.body_rules.specs.Steps.{first, one, token, opened, otherStep, signStep, formStep, plainStep, lettered, stringByte, escaped, braced, stringStep, dataStep, dataQuoteStep, crunchStep}
+use Rattle.body_rules.specs.declared.Mode.{Mode}
+use Rattle.body_rules.specs.declared.Mode.the-variants.{Plain, String, Remark, Data, DataQuote}
+use Rattle.body_rules.specs.declared.Move.{Move}
+use Rattle.body_rules.proofs.Beginnings.{Takes, document-proper, word-takes, plain-word-takes, operators-start}
 use Rattle.body.proofs.Progress.{step-takes}
 use Rattle.body.proofs.Run.{length-written, body-end, body-step}
 

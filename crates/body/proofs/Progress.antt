@@ -9,23 +9,23 @@ use native.Mathlib.Omega.{arith}
 use lib.Dec.{T, eqb, ltb}
 use lib.ListN.{length, getD, take, List·getD-eq-default}
 use borrow.Author.Tests.{eqb-true, ltb-true}
-use Rattle.ascii.specs.Bytes.{upper}
-use Rattle.words.specs.Find.{wordIn}
-use Rattle.words.specs.declared.Match.{Match}
-use Rattle.words.specs.declared.Match.the-variants.{Word, Nothing}
+use Rattle.base_ascii.specs.Bytes.{upper}
+use Rattle.word_search.specs.Find.{wordIn}
+use Rattle.word_search.specs.declared.Match.{Match}
+use Rattle.word_search.specs.declared.Match.the-variants.{Word, Nothing}
 use Rattle.escape_bytes.specs.Escape.{escapeOf}
-use Rattle.ascii.specs.Search.{equals, before}
+use Rattle.base_ascii.specs.Search.{equals, before}
 use Rattle.escape_bytes.specs.declared.Escape.{Escape}
 use Rattle.escape_bytes.specs.declared.Escape.the-variants.{Byte, Unknown}
-use Rattle.matching.specs.Sets.{liveWord, plainWord}
-use Rattle.forms.specs.Forms.{formWord}
-use Rattle.forms.proofs.Standing.{form-takes}
-use Rattle.moves.specs.Lexicon.{Lexicon}
-use Rattle.moves.specs.Steps.{first, one, token, opened, otherStep, signStep, formStep, plainStep, lettered, stringByte, escaped, braced, stringStep, dataStep, dataQuoteStep, crunchStep}
-use Rattle.moves.specs.declared.Mode.{Mode}
-use Rattle.moves.specs.declared.Mode.the-variants.{Plain, String, Remark, Data, DataQuote}
-use Rattle.moves.specs.declared.Move.{Move}
-use Rattle.moves.proofs.Beginnings.{proper, Takes, word-takes, live-takes, tsb-start, plain-word-takes, operators-start}
+use Rattle.word_match.specs.Sets.{liveWord, plainWord}
+use Rattle.body_short_forms.specs.Forms.{formWord}
+use Rattle.body_short_forms.proofs.Standing.{form-takes}
+use Rattle.body_rules.specs.Lexicon.{Lexicon}
+use Rattle.body_rules.specs.Steps.{first, one, token, opened, otherStep, signStep, formStep, plainStep, lettered, stringByte, escaped, braced, stringStep, dataStep, dataQuoteStep, crunchStep}
+use Rattle.body_rules.specs.declared.Mode.{Mode}
+use Rattle.body_rules.specs.declared.Mode.the-variants.{Plain, String, Remark, Data, DataQuote}
+use Rattle.body_rules.specs.declared.Move.{Move}
+use Rattle.body_rules.proofs.Beginnings.{proper, Takes, word-takes, live-takes, tsb-start, plain-word-takes, operators-start}
 
 -- the move takes text
 abbrev Moves : List ℕ → Move → Type 0

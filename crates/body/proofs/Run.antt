@@ -8,14 +8,14 @@ use mathlib.Core.List.{List, [], _∷_, _++_}
 use native.Mathlib.Omega.{arith}
 use lib.Dec.{T}
 use lib.ListN.{length, drop, replicate, length-append, length-drop, length-replicate}
-use Rattle.steps.specs.Again.{again}
-use Rattle.steps.proofs.Nearer.{Nearer, again-on}
+use Rattle.base_steps.specs.Again.{again}
+use Rattle.base_steps.proofs.Nearer.{Nearer, again-on}
 use Rattle.body.specs.Body.{prefixOf, written, moveThen, crunchOn, crunchedFrom}
-use Rattle.moves.specs.Lexicon.{Lexicon}
-use Rattle.moves.specs.Steps.{crunchStep}
-use Rattle.moves.specs.declared.Mode.{Mode}
-use Rattle.moves.specs.declared.Move.{Move}
-use Rattle.moves.proofs.Beginnings.{proper, Takes}
+use Rattle.body_rules.specs.Lexicon.{Lexicon}
+use Rattle.body_rules.specs.Steps.{crunchStep}
+use Rattle.body_rules.specs.declared.Mode.{Mode}
+use Rattle.body_rules.specs.declared.Move.{Move}
+use Rattle.body_rules.proofs.Beginnings.{proper, Takes}
 use Rattle.body.proofs.Progress.{step-takes}
 
 pub length-prefix : (prefixed : Bool) → length (prefixOf prefixed) ≤ 1

@@ -5,25 +5,25 @@ use Prim.Native.String.{String}
 use mathlib.Core.Path.{_≡_, refl}
 use mathlib.Core.Bool.{Bool, true, false}
 use mathlib.Core.List.{List, [], _∷_, _++_, map}
-use Rattle.ascii.specs.Bytes.{between, upper}
-use Rattle.ascii.specs.Search.{before, last, front}
-use Rattle.ascii.specs.Trim.{trim}
-use Rattle.words.specs.Compare.{same}
-use Rattle.words.specs.Find.{nameIn, meaning}
-use Rattle.words.specs.Spelling.{bytesOf}
-use Rattle.tables.specs.Escapes.{escapeNames}
-use Rattle.keyboard.specs.KeyCodes.{cbmLetters, ctrlDigits}
-use Rattle.tables.specs.Rom.{v2Words, operators}
-use Rattle.matching.specs.Sets.{liveWord, plainWord}
-use Rattle.tables.specs.Basic35.{basic35Words}
-use Rattle.matching.specs.declared.sets.Sets.{Sets}
-use Rattle.tables.specs.Tsb.{tsbWords}
+use Rattle.base_ascii.specs.Bytes.{between, upper}
+use Rattle.base_ascii.specs.Search.{before, last, front}
+use Rattle.base_ascii.specs.Trim.{trim}
+use Rattle.word_search.specs.Compare.{same}
+use Rattle.word_search.specs.Find.{nameIn, meaning}
+use Rattle.word_search.specs.Spelling.{bytesOf}
+use Rattle.word_tables.specs.Escapes.{escapeNames}
+use Rattle.escape_keys.specs.KeyCodes.{cbmLetters, ctrlDigits}
+use Rattle.word_tables.specs.Rom.{v2Words, operators}
+use Rattle.word_match.specs.Sets.{liveWord, plainWord}
+use Rattle.word_tables.specs.Basic35.{basic35Words}
+use Rattle.word_match.specs.declared.sets.Sets.{Sets}
+use Rattle.word_tables.specs.Tsb.{tsbWords}
 use Rattle.escape_numbers.specs.Numbers.{digitOf, numberAfter, numberOf, hexOf, unsigned, countOf}
 use Rattle.escape_bytes.specs.Keys.{keyNames, controlByte, keyWith, keyed, keyEscape}
 use Rattle.escape_bytes.specs.Escape.{nameEscape, repeated, starred, countedName, escapeOf}
-use Rattle.forms.specs.Forms.{formWord}
+use Rattle.body_short_forms.specs.Forms.{formWord}
 use Rattle.body.specs.Body.{crunchedFrom, crunchedBody}
-use Rattle.moves.specs.Lexicon.{Lexicon, lexicon}
+use Rattle.body_rules.specs.Lexicon.{Lexicon, lexicon}
 
 -- no TSB word is live
 abbrev pub v2Lexicon : Lexicon

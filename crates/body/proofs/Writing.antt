@@ -11,19 +11,19 @@ use lib.ListN.{length, getD, drop, set, replicate, length-append, length-set, le
 use lib.Seq.{sets, drop-drop}
 use mir.Syntax.{w64}
 use mir.Val.{Fits}
-use Rattle.lent.specs.Stores.{Room, Put}
-use Rattle.lent.proofs.Storing.{put-long, put-as, room-as, room-first, room-second, put-both, put-none}
+use Rattle.base_lent.specs.Stores.{Room, Put}
+use Rattle.base_lent.proofs.Storing.{put-long, put-as, room-as, room-first, room-second, put-both, put-none}
 use Rattle.body.specs.Body.{prefixOf, written, crunchedFrom, crunchedBody}
-use Rattle.matching.specs.declared.sets.Sets.{Sets}
-use Rattle.moves.specs.Lexicon.{Lexicon, lexicon}
-use Rattle.moves.specs.ShortHelpers.{isShort, shortByte, shortMode, isLong, longStep}
-use Rattle.moves.specs.Steps.{first, one, crunchStep}
-use Rattle.moves.specs.declared.Mode.{Mode}
-use Rattle.moves.specs.declared.Mode.the-variants.{Plain}
-use Rattle.moves.specs.declared.Move.{Move}
-use Rattle.moves.proofs.Beginnings.{proper, Takes, document-proper}
+use Rattle.word_match.specs.declared.sets.Sets.{Sets}
+use Rattle.body_rules.specs.Lexicon.{Lexicon, lexicon}
+use Rattle.body_rules.specs.ShortHelpers.{isShort, shortByte, shortMode, isLong, longStep}
+use Rattle.body_rules.specs.Steps.{first, one, crunchStep}
+use Rattle.body_rules.specs.declared.Mode.{Mode}
+use Rattle.body_rules.specs.declared.Mode.the-variants.{Plain}
+use Rattle.body_rules.specs.declared.Move.{Move}
+use Rattle.body_rules.proofs.Beginnings.{proper, Takes, document-proper}
 use Rattle.body.proofs.Progress.{step-takes}
-use Rattle.moves.proofs.ShortSteps.{short-step, long-known, long-step, first-at}
+use Rattle.body_rules.proofs.ShortSteps.{short-step, long-known, long-step, first-at}
 use Rattle.body.proofs.Run.{length-prefix, length-written, body-end, body-step}
 
 -- ---- a step at a place of a body

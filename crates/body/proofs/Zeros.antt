@@ -10,26 +10,26 @@ use lib.ListN.{length, getD, drop, replicate, drop-of-length-le}
 use borrow.Author.Tests.{eq-eqb, ne-eqb, eqb-true, not-true}
 use mir.Syntax.{w64}
 use mir.Val.{Fits}
-use Rattle.ascii.specs.Bytes.{between, upper}
-use Rattle.ascii.proofs.Ranges.{between-in}
-use Rattle.words.specs.Compare.{passes}
-use Rattle.words.specs.Find.{Entry, firstThat, wordIn}
-use Rattle.words.specs.declared.Match.{Match}
-use Rattle.words.specs.declared.Match.the-variants.{Word, Nothing}
-use Rattle.words.specs.declared.Test.the-variants.{Begins}
-use Rattle.words.proofs.Search.{and-left, and-right}
-use Rattle.words.proofs.Sameness.{T-true}
-use Rattle.tables.specs.Rom.{operators}
-use Rattle.matching.specs.declared.sets.Sets.{Sets}
+use Rattle.base_ascii.specs.Bytes.{between, upper}
+use Rattle.base_ascii.proofs.Ranges.{between-in}
+use Rattle.word_search.specs.Compare.{passes}
+use Rattle.word_search.specs.Find.{Entry, firstThat, wordIn}
+use Rattle.word_search.specs.declared.Match.{Match}
+use Rattle.word_search.specs.declared.Match.the-variants.{Word, Nothing}
+use Rattle.word_search.specs.declared.Test.the-variants.{Begins}
+use Rattle.word_search.proofs.Search.{and-left, and-right}
+use Rattle.word_search.proofs.Sameness.{T-true}
+use Rattle.word_tables.specs.Rom.{operators}
+use Rattle.word_match.specs.declared.sets.Sets.{Sets}
 use Rattle.body.specs.Body.{prefixOf, written, crunchedFrom, crunchedBody}
-use Rattle.moves.specs.Lexicon.{Lexicon, lexicon}
-use Rattle.moves.specs.ShortHelpers.{isShort, plainByte, shortByte, shortMode}
-use Rattle.moves.specs.Steps.{one, lettered, crunchStep}
+use Rattle.body_rules.specs.Lexicon.{Lexicon, lexicon}
+use Rattle.body_rules.specs.ShortHelpers.{isShort, plainByte, shortByte, shortMode}
+use Rattle.body_rules.specs.Steps.{one, lettered, crunchStep}
 use Rattle.body.specs.Zero.{holdsZero}
-use Rattle.moves.specs.declared.Mode.{Mode}
-use Rattle.moves.specs.declared.Mode.the-variants.{Plain, String, Remark, Data, DataQuote}
-use Rattle.moves.specs.declared.Move.{Move}
-use Rattle.moves.proofs.Beginnings.{proper, document-proper}
+use Rattle.body_rules.specs.declared.Mode.{Mode}
+use Rattle.body_rules.specs.declared.Mode.the-variants.{Plain, String, Remark, Data, DataQuote}
+use Rattle.body_rules.specs.declared.Move.{Move}
+use Rattle.body_rules.proofs.Beginnings.{proper, document-proper}
 use Rattle.body.proofs.Run.{body-end}
 use Rattle.body.proofs.Writing.{body-at, step-within, step-less, step-fits, short-here}
 

@@ -5,12 +5,12 @@ use Prim.Native.Nat.{ℕ, suc}
 use mathlib.Core.Bool.{Bool, true, false}
 use mathlib.Core.List.{List, [], _∷_, _++_}
 use lib.ListN.{length, drop, replicate}
-use Rattle.steps.specs.Again.{again}
-use Rattle.moves.specs.Lexicon.{Lexicon}
-use Rattle.moves.specs.Steps.{crunchStep}
-use Rattle.moves.specs.declared.Mode.{Mode}
-use Rattle.moves.specs.declared.Mode.the-variants.{Plain}
-use Rattle.moves.specs.declared.Move.{Move}
+use Rattle.base_steps.specs.Again.{again}
+use Rattle.body_rules.specs.Lexicon.{Lexicon}
+use Rattle.body_rules.specs.Steps.{crunchStep}
+use Rattle.body_rules.specs.declared.Mode.{Mode}
+use Rattle.body_rules.specs.declared.Mode.the-variants.{Plain}
+use Rattle.body_rules.specs.declared.Move.{Move}
 
 -- the 64 in front of a TSB token
 abbrev pub prefixOf : Bool → List ℕ

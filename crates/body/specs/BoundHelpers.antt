@@ -5,7 +5,7 @@ use mathlib.Core.Bool.{Bool}
 use mathlib.Core.List.{List}
 use lib.Dec.{ltb}
 use lib.ListN.{length, drop}
-use Rattle.ascii.specs.Search.{equals, before}
+use Rattle.base_ascii.specs.Search.{equals, before}
 
 -- a } stands behind a *
 unfoldable pub mayRepeat : List ℕ → Bool

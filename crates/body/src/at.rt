@@ -1,18 +1,18 @@
 // One step of crunching a body, at any place: for whoever walks over a body without crunching it.
+use body_rules::Mode;
+use body_rules::Move;
+use body_rules::short;
 use body_steps::step;
 use body_steps::string;
 use body_steps::string::Span;
-use matching::sets::Sets;
-use moves::Mode;
-use moves::Move;
-use moves::short;
+use word_match::sets::Sets;
 ghost use mathlib.Core.Path.{_≡_};
 ghost use Prim.Native.Nat.{_<_};
 ghost use lib.ListN.{length, drop};
-ghost use Rattle.tables.specs.WordsHelpers.{SpellsWords};
+ghost use Rattle.word_tables.specs.WordsHelpers.{SpellsWords};
 ghost use Rattle.body_steps.specs.BraceHelpers.{Spans};
-ghost use Rattle.moves.specs.Lexicon.{lexicon};
-ghost use Rattle.moves.specs.Steps.{crunchStep};
+ghost use Rattle.body_rules.specs.Lexicon.{lexicon};
+ghost use Rattle.body_rules.specs.Steps.{crunchStep};
 
 // Where a walk over a body stands: a place, the mode there, and the span that is known there.
 pub struct Stand {
@@ -50,7 +50,7 @@ pub fn step_at(text: &[u8], from: Stand, bytes: &[u8], index: &[u16], sets: Sets
     if short::is_short(mode, b) {
         let next = short::mode_behind(mode, b);
         return Stepped {
-            step: moves::one(short::short_byte(mode, b), next),
+            step: body_rules::one(short::short_byte(mode, b), next),
             span: known,
         };
     }

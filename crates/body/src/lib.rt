@@ -1,19 +1,19 @@
 // One body, crunched: its length, and its bytes written into a lent buffer from that buffer's first byte on.
-use ascii::search;
-use ascii::search::Kind;
+use base_ascii::search;
+use base_ascii::search::Kind;
+use body_rules::Mode;
+use body_rules::Move;
+use body_rules::short;
 use body_steps::step;
 use body_steps::string;
-use matching::sets::Sets;
-use moves::Mode;
-use moves::Move;
-use moves::short;
+use word_match::sets::Sets;
 ghost use mathlib.Core.Path.{_≡_};
 ghost use Prim.Native.Nat.{_+_, _≤_, _<_, min};
 ghost use lib.ListN.{length, replicate};
-ghost use Rattle.lent.specs.Stores.{Room, Put};
-ghost use Rattle.tables.specs.WordsHelpers.{SpellsWords};
+ghost use Rattle.base_lent.specs.Stores.{Room, Put};
+ghost use Rattle.word_tables.specs.WordsHelpers.{SpellsWords};
 ghost use Rattle.body.specs.Body.{prefixOf, written, crunchedBody};
-ghost use Rattle.moves.specs.Lexicon.{lexicon};
+ghost use Rattle.body_rules.specs.Lexicon.{lexicon};
 ghost use Rattle.body.specs.BoundHelpers.{mayRepeat};
 
 pub mod at;

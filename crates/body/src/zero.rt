@@ -1,14 +1,14 @@
 // Whether a crunched body holds a zero, at which the machine would end its line.
+use body_rules::Mode;
+use body_rules::Move;
+use body_rules::short;
 use body_steps::step;
 use body_steps::string;
-use matching::sets::Sets;
-use moves::Mode;
-use moves::Move;
-use moves::short;
+use word_match::sets::Sets;
 ghost use mathlib.Core.Path.{_≡_};
-ghost use Rattle.tables.specs.WordsHelpers.{SpellsWords};
+ghost use Rattle.word_tables.specs.WordsHelpers.{SpellsWords};
 ghost use Rattle.body.specs.Body.{written, crunchedBody};
-ghost use Rattle.moves.specs.Lexicon.{lexicon};
+ghost use Rattle.body_rules.specs.Lexicon.{lexicon};
 ghost use Rattle.body.specs.Zero.{holdsZero};
 
 // Looks to the body's end, however long it is; a byte that an escape repeats is looked at once. A short byte gives a zero just where it is one.

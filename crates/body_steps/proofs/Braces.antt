@@ -10,8 +10,8 @@ use lib.Seq.{drop-drop}
 use borrow.Author.Tests.{eq-eqb, lt-ltb, le-ltb}
 use mir.Syntax.{w64}
 use mir.Val.{Fits}
-use Rattle.ascii.specs.Search.{equals, other, before}
-use Rattle.ascii.proofs.Searching.{tail, here, before-le, front-drop}
+use Rattle.base_ascii.specs.Search.{equals, other, before}
+use Rattle.base_ascii.proofs.Searching.{tail, here, before-le, front-drop}
 use Rattle.escape_bytes.specs.Escape.{escapeOf}
 use Rattle.escapes.specs.TailHelpers.{TailOf}
 use Rattle.escape_bytes.specs.declared.Escape.{Escape}
@@ -19,10 +19,10 @@ use Rattle.escape_bytes.specs.declared.Escape.the-variants.{Byte, Unknown}
 use Rattle.escapes.specs.declared.Tail.{Tail}
 use Rattle.escapes.proofs.Tails.{drop-take}
 use Rattle.body_steps.specs.BraceHelpers.{SpanOf, Spans, Reaches}
-use Rattle.moves.specs.Steps.{one, escaped, braced, stringStep}
-use Rattle.moves.specs.declared.Mode.the-variants.{String}
-use Rattle.moves.specs.declared.Move.{Move}
-use Rattle.moves.proofs.StringSteps.{escaped-known, escaped-unknown}
+use Rattle.body_rules.specs.Steps.{one, escaped, braced, stringStep}
+use Rattle.body_rules.specs.declared.Mode.the-variants.{String}
+use Rattle.body_rules.specs.declared.Move.{Move}
+use Rattle.body_rules.proofs.StringSteps.{escaped-known, escaped-unknown}
 use Rattle.body_steps.specs.declared.string.Span.{Span}
 
 -- ---- a span that is known

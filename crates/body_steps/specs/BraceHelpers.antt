@@ -4,7 +4,7 @@ use Prim.Native.Nat.{ℕ, _+_, _-_, _≤_, _<_}
 use mathlib.Core.Path.{_≡_}
 use mathlib.Core.List.{List}
 use lib.ListN.{length, getD, take, drop}
-use Rattle.ascii.specs.Search.{equals, before}
+use Rattle.base_ascii.specs.Search.{equals, before}
 use Rattle.escapes.specs.TailHelpers.{TailOf}
 use Rattle.body_steps.specs.declared.string.Span.{Span}
 

@@ -1,18 +1,18 @@
 // A step in plain mode at a letter or at the first byte of pi. The functions are lent the text from the step's place on.
-use matching::sets::Sets;
-use moves::Mode;
-use moves::Move;
-use words::Match;
+use body_rules::Mode;
+use body_rules::Move;
+use word_match::sets::Sets;
+use word_search::Match;
 ghost use mathlib.Core.Path.{_≡_};
 ghost use mathlib.Core.Bool.{true, false};
 ghost use Prim.Native.Nat.{_<_};
 ghost use lib.ListN.{length};
-ghost use Rattle.ascii.specs.Bytes.{isLetter};
-ghost use Rattle.tables.specs.Tsb.{tsbWords};
-ghost use Rattle.tables.specs.WordsHelpers.{SpellsWords};
-ghost use Rattle.matching.specs.Sets.{liveWord};
-ghost use Rattle.moves.specs.Lexicon.{lexicon};
-ghost use Rattle.moves.specs.Steps.{first, otherStep, formStep, plainStep};
+ghost use Rattle.base_ascii.specs.Bytes.{isLetter};
+ghost use Rattle.word_tables.specs.Tsb.{tsbWords};
+ghost use Rattle.word_tables.specs.WordsHelpers.{SpellsWords};
+ghost use Rattle.word_match.specs.Sets.{liveWord};
+ghost use Rattle.body_rules.specs.Lexicon.{lexicon};
+ghost use Rattle.body_rules.specs.Steps.{first, otherStep, formStep, plainStep};
 
 // A letter: a TSB word, a V2 word or one of BASIC 3.5, a short form of a V2 word, or the letter.
 pub fn letter_step(rest: &[u8], bytes: &[u8], index: &[u16], sets: Sets) -> Move
@@ -24,13 +24,13 @@ pub fn letter_step(rest: &[u8], bytes: &[u8], index: &[u16], sets: Sets) -> Move
             index: _,
             used,
             token,
-        } => moves::token(true, token, Mode::Plain, used),
-        Match::Nothing => match matching::match_plain(rest, bytes, index, sets) {
+        } => body_rules::token(true, token, Mode::Plain, used),
+        Match::Nothing => match word_match::match_plain(rest, bytes, index, sets) {
             Match::Word {
                 index: _,
                 used,
                 token,
-            } => moves::token(false, token, moves::opened(token), used),
+            } => body_rules::token(false, token, body_rules::opened(token), used),
             Match::Nothing => form_step(rest, bytes, index, sets),
         },
     }
@@ -44,7 +44,7 @@ fn live_word(rest: &[u8], bytes: &[u8], index: &[u16], sets: Sets) -> Match
     if !sets.tsb {
         return Match::Nothing;
     }
-    matching::match_live(rest, bytes, index, sets)
+    word_match::match_live(rest, bytes, index, sets)
 }
 
 // Where no whole word stands: a short form, or the letter.
@@ -53,15 +53,15 @@ fn form_step(rest: &[u8], bytes: &[u8], index: &[u16], sets: Sets) -> Move
     ensures { λ r. ⌜ r ≡ formStep (lexicon sets) (now (rest .entry)) ⌝ }
 {
     if !sets.forms {
-        return moves::one(ascii::upper(rest[0]), Mode::Plain);
+        return body_rules::one(base_ascii::upper(rest[0]), Mode::Plain);
     }
-    match forms::match_form(rest, bytes, index, sets) {
+    match body_short_forms::match_form(rest, bytes, index, sets) {
         Match::Word {
             index: _,
             used,
             token,
-        } => moves::token(false, token, moves::opened(token), used),
-        Match::Nothing => moves::one(ascii::upper(rest[0]), Mode::Plain),
+        } => body_rules::token(false, token, body_rules::opened(token), used),
+        Match::Nothing => body_rules::one(base_ascii::upper(rest[0]), Mode::Plain),
     }
 }
 
@@ -71,10 +71,10 @@ pub fn from_pi(rest: &[u8]) -> Move
     ensures { λ r. ⌜ r ≡ otherStep (now (rest .entry)) ⌝ }
 {
     if rest.len() <= 1 {
-        return moves::one(0xCF, Mode::Plain);
+        return body_rules::one(0xCF, Mode::Plain);
     }
     if rest[1] != 0x80 {
-        return moves::one(0xCF, Mode::Plain);
+        return body_rules::one(0xCF, Mode::Plain);
     }
-    moves::token(false, 0xFF, Mode::Plain, 2)
+    body_rules::token(false, 0xFF, Mode::Plain, 2)
 }

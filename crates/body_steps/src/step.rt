@@ -2,16 +2,16 @@
 use crate::plain;
 use crate::string;
 use crate::string::Span;
-use matching::sets::Sets;
-use moves::Move;
+use body_rules::Move;
+use word_match::sets::Sets;
 ghost use mathlib.Core.Path.{_≡_};
 ghost use mathlib.Core.Bool.{true};
 ghost use Prim.Native.Nat.{_<_};
 ghost use lib.ListN.{length, getD, drop};
-ghost use Rattle.tables.specs.WordsHelpers.{SpellsWords};
+ghost use Rattle.word_tables.specs.WordsHelpers.{SpellsWords};
 ghost use Rattle.body_steps.specs.BraceHelpers.{Reaches};
-ghost use Rattle.moves.specs.Lexicon.{lexicon};
-ghost use Rattle.moves.specs.ShortHelpers.{isLong, longStep};
+ghost use Rattle.body_rules.specs.Lexicon.{lexicon};
+ghost use Rattle.body_rules.specs.ShortHelpers.{isLong, longStep};
 
 // A step at a place of a text. At a { the span is that of its }.
 pub fn step(text: &[u8], at: usize, span: Span, bytes: &[u8], index: &[u16], sets: Sets) -> Move

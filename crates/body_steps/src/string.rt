@@ -1,16 +1,16 @@
 // A step at a { in a string.
-use ascii::search;
-use ascii::search::Kind;
+use base_ascii::search;
+use base_ascii::search::Kind;
+use body_rules::Mode;
+use body_rules::Move;
 use escape_bytes::Escape;
 use escapes::Tail;
-use moves::Mode;
-use moves::Move;
 ghost use mathlib.Core.Path.{_≡_};
 ghost use Prim.Native.Nat.{_<_};
 ghost use lib.ListN.{length, getD, drop};
-ghost use Rattle.tables.specs.WordsHelpers.{SpellsWords};
+ghost use Rattle.word_tables.specs.WordsHelpers.{SpellsWords};
 ghost use Rattle.body_steps.specs.BraceHelpers.{SpanOf, Spans, Reaches};
-ghost use Rattle.moves.specs.Steps.{stringStep};
+ghost use Rattle.body_rules.specs.Steps.{stringStep};
 
 // What the { in front of one } share: a place behind the first of them, the place of the }, or the text's end where none follows, and
 // the tail of the bytes between.
@@ -60,7 +60,7 @@ pub fn brace_step(text: &[u8], at: usize, span: Span, bytes: &[u8], index: &[u16
     let from = span.from;
     let close = span.close;
     if text.len() <= close {
-        return moves::one(0x7B, Mode::String);
+        return body_rules::one(0x7B, Mode::String);
     }
     let tail = span.tail;
     match escapes::escape_from(&text[from..close], at + 1 - from, tail, bytes, index) {
@@ -71,6 +71,6 @@ pub fn brace_step(text: &[u8], at: usize, span: Span, bytes: &[u8], index: &[u16
             mode: Mode::String,
             used: close + 1 - at,
         },
-        Escape::Unknown => moves::one(0x7B, Mode::String),
+        Escape::Unknown => body_rules::one(0x7B, Mode::String),
     }
 }

@@ -1,9 +1,9 @@
 // Ops 20 to 24: the calls on disks. A disk is the rest of the payload, and every answer ends with its bytes as the call left them.
-use d64::Changed;
-use d64::DiskCheck;
-use frames::Answer;
-use frames::rooms;
-use lent::Outcome;
+use base_lent::Outcome;
+use disk_rules::Changed;
+use disk_rules::DiskCheck;
+use judge_frames::Answer;
+use judge_frames::rooms;
 ghost use Prim.Native.Nat.{_≤_};
 ghost use lib.ListN.{length};
 
@@ -14,7 +14,7 @@ fn name_end(bytes: &[u8]) -> usize
     if bytes.len() < 2 {
         return 2;
     }
-    2 + frames::u16_at(bytes, 0) as usize
+    2 + judge_frames::u16_at(bytes, 0) as usize
 }
 
 // The same for a file.
@@ -24,7 +24,7 @@ fn file_end(bytes: &[u8]) -> usize
     if bytes.len() < 4 {
         return 4;
     }
-    4 + frames::u32_at(bytes, 0) as usize
+    4 + judge_frames::u32_at(bytes, 0) as usize
 }
 
 // Formats a disk, saves a file on it or scratches one.
@@ -42,7 +42,7 @@ fn format(payload: &[u8], disk: &mut [u8]) -> bool
     requires { ⌜ length (now payload) ≤ length (now disk) ⌝ }
 {
     let size = bytes::copy(payload, disk);
-    let changed = formats::format(&mut disk[0..size]);
+    let changed = disk_formats::format(&mut disk[0..size]);
     send_changed(changed, &disk[0..size])
 }
 
@@ -51,7 +51,7 @@ fn save(payload: &[u8], disk: &mut [u8]) -> bool
 {
     let end = name_end(payload);
     if end > payload.len() {
-        return frames::reject();
+        return judge_frames::reject();
     }
     save_named(&payload[2..end], &payload[end..], disk)
 }
@@ -61,7 +61,7 @@ fn save_named(name: &[u8], left: &[u8], disk: &mut [u8]) -> bool
 {
     let end = file_end(left);
     if end > left.len() {
-        return frames::reject();
+        return judge_frames::reject();
     }
     save_file(name, &left[4..end], &left[end..], disk)
 }
@@ -79,7 +79,7 @@ fn scratch(payload: &[u8], disk: &mut [u8]) -> bool
 {
     let end = name_end(payload);
     if end > payload.len() {
-        return frames::reject();
+        return judge_frames::reject();
     }
     scratch_named(&payload[2..end], &payload[end..], disk)
 }
@@ -94,11 +94,11 @@ fn scratch_named(name: &[u8], given: &[u8], disk: &mut [u8]) -> bool
 
 pub fn read(payload: &[u8], room: &mut [u8]) -> bool {
     if payload.len() < 4 {
-        return frames::reject();
+        return judge_frames::reject();
     }
-    let size = frames::u32_at(payload, 0) as usize;
+    let size = judge_frames::u32_at(payload, 0) as usize;
     if size > room.len() {
-        return frames::reject();
+        return judge_frames::reject();
     }
     read_named(&payload[4..], &mut room[0..size])
 }
@@ -106,7 +106,7 @@ pub fn read(payload: &[u8], room: &mut [u8]) -> bool {
 fn read_named(left: &[u8], room: &mut [u8]) -> bool {
     let end = name_end(left);
     if end > left.len() {
-        return frames::reject();
+        return judge_frames::reject();
     }
     rooms::fill(room);
     let outcome = disk::read(&left[end..], &left[2..end], room);
@@ -114,7 +114,7 @@ fn read_named(left: &[u8], room: &mut [u8]) -> bool {
 }
 
 fn send_read(outcome: Outcome, room: &[u8], disk: &[u8]) -> bool {
-    frames::length_of(outcome).send_with_both(room, disk)
+    judge_frames::length_of(outcome).send_with_both(room, disk)
 }
 
 pub fn check(disk: &[u8]) -> bool {

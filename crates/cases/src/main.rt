@@ -2,19 +2,19 @@
 // a frame, calls one function and writes what came back.
 mod disks;
 
-use framed_calls::counted;
-use framed_calls::dialects;
-use framed_calls::found;
-use framed_calls::images;
-use framed_calls::indexes;
-use framed_calls::measured;
-use framed_calls::relinked;
-use framed_calls::rooms;
-use framed_calls::texts;
-use framed_calls::words;
-use inputs::Part;
+use desk_inputs::Part;
+use image_readers::By;
+use judge_calls::counted;
+use judge_calls::dialects;
+use judge_calls::found;
+use judge_calls::images;
+use judge_calls::indexes;
+use judge_calls::measured;
+use judge_calls::relinked;
+use judge_calls::rooms;
+use judge_calls::texts;
+use judge_calls::words;
 use libc::STDIN_FILENO;
-use readers::By;
 ghost use Prim.Native.Nat.{_≤_};
 ghost use lib.ListN.{length};
 
@@ -52,7 +52,7 @@ fn answer_plain(op: u8, payload: &[u8]) -> bool {
         0x1E => indexes::entry(payload),
         0x24 => disks::check(payload),
         0x34 => relinked::relink(payload),
-        _ => frames::reject(),
+        _ => judge_frames::reject(),
     }
 }
 
@@ -62,10 +62,10 @@ fn serve_op(op: u8, size: usize, payload: &mut [u8], room: &mut [u8], disk: &mut
     requires { ⌜ length (now payload) ≤ length (now disk) ⌝ }
 {
     if size > payload.len() {
-        frames::reject();
+        judge_frames::reject();
         return false;
     }
-    let Part::Whole = inputs::read_part(STDIN_FILENO, &mut payload[0..size]) else {
+    let Part::Whole = desk_inputs::read_part(STDIN_FILENO, &mut payload[0..size]) else {
         return false;
     };
     answer_request(op, &payload[0..size], room, disk)
@@ -76,10 +76,10 @@ fn serve(payload: &mut [u8], room: &mut [u8], disk: &mut [u8]) -> bool
     requires { ⌜ length (now payload) ≤ length (now disk) ⌝ }
 {
     let mut head = [0u8; 5];
-    let Part::Whole = inputs::read_part(STDIN_FILENO, &mut head) else {
+    let Part::Whole = desk_inputs::read_part(STDIN_FILENO, &mut head) else {
         return false;
     };
-    let size = frames::u32_at(&head, 1) as usize;
+    let size = judge_frames::u32_at(&head, 1) as usize;
     serve_op(head[0], size, payload, room, disk)
 }
 

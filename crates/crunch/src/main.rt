@@ -1,14 +1,14 @@
 // Crunches a text: standard input to standard output, or the files that it was given. Behind their names ./moldthatch puts the dialect's word, a word
 // for each option, which is empty where it was not asked for, and the load address where one was asked for.
+use base_refusals::Refusal;
+use crunch_rules::Options;
 use desk::input;
 use desk::names;
 use desk::output;
-use dialect::Dialect;
-use inputs::Input;
-use options::AskedDialect;
-use options::AskedNumber;
-use refusals::Refusal;
-use text_image::Options;
+use desk_inputs::Input;
+use desk_options::AskedDialect;
+use desk_options::AskedNumber;
+use word_dialects::Dialect;
 ghost use Prim.Native.Nat.{_≤_};
 ghost use lib.ListN.{length};
 
@@ -25,7 +25,7 @@ fn crunch_text(text: &[u8], options: Options)
 {
     // No image is longer: its last link is at most 0xFFFF.
     let mut image = [0u8; 65_536];
-    let outcome = image::crunch(text, options, &mut image);
+    let outcome = crunch_image::crunch(text, options, &mut image);
     output::answer(outcome, &image, text);
 }
 
@@ -39,9 +39,9 @@ fn crunch_given(options: Options) {
 }
 
 fn crunch_under(dialect: Dialect) {
-    let profile = options::is_set(PROFILE);
-    let forms = options::is_set(FORMS);
-    match options::load(LOAD, dialect) {
+    let profile = desk_options::is_set(PROFILE);
+    let forms = desk_options::is_set(FORMS);
+    match desk_options::load(LOAD, dialect) {
         AskedNumber::Known(load) => crunch_given(Options {
             load,
             dialect,
@@ -53,7 +53,7 @@ fn crunch_under(dialect: Dialect) {
 }
 
 fn main() {
-    match options::dialect(DIALECT) {
+    match desk_options::dialect(DIALECT) {
         AskedDialect::Known(dialect) => crunch_under(dialect),
         AskedDialect::Ended => {}
     }

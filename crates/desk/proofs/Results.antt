@@ -9,11 +9,11 @@ use lib.Dec.{leb}
 use lib.ListN.{length}
 use lib.Seq.{sets, length-sets}
 use borrow.Author.Tests.{leb-true}
-use Rattle.refusals.specs.Answer.{Answer, done, refused}
-use Rattle.refusals.specs.Numbers.{noRoom}
-use Rattle.lent.specs.Lent.{Lent, intoBuffer, left}
-use Rattle.lent.specs.declared.Outcome.{Outcome}
-use Rattle.lent.specs.declared.Outcome.the-variants.{Done, Refused}
+use Rattle.base_refusals.specs.Answer.{Answer, done, refused}
+use Rattle.base_refusals.specs.Numbers.{noRoom}
+use Rattle.base_lent.specs.Lent.{Lent, intoBuffer, left}
+use Rattle.base_lent.specs.declared.Outcome.{Outcome}
+use Rattle.base_lent.specs.declared.Outcome.the-variants.{Done, Refused}
 use Rattle.desk.specs.ResultHelpers.{Holds}
 
 -- a length that was answered, and none that was refused

@@ -3,8 +3,8 @@
 use Prim.Native.Nat.{ℕ, _≤_}
 use mathlib.Core.List.{List}
 use lib.ListN.{length}
-use Rattle.lent.specs.declared.Outcome.{Outcome}
-use Rattle.lent.specs.declared.Outcome.the-variants.{Done, Refused}
+use Rattle.base_lent.specs.declared.Outcome.{Outcome}
+use Rattle.base_lent.specs.declared.Outcome.the-variants.{Done, Refused}
 
 -- a result of so many bytes stands in a buffer
 abbrev pub Holds : Outcome → List ℕ → Type 0

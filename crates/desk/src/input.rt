@@ -1,14 +1,14 @@
 // What is read of the input that a program was given, or of a file by its name. Standard error names what could not be read.
 use crate::names;
-use inputs::Input;
+use desk_inputs::Input;
 use libc::STDIN_FILENO;
-ghost use Rattle.inputs.specs.CountedHelpers.{InputWithin};
+ghost use Rattle.desk_inputs.specs.CountedHelpers.{InputWithin};
 
 // What was read, after standard error has named what could not be.
 fn read_from(fd: i32, name: &[u8], buf: &mut [u8]) -> Input
     ensures { λ r. ⌜ InputWithin r (now (buf .exit)) ⌝ }
 {
-    let input = inputs::read_input(fd, buf);
+    let input = desk_inputs::read_input(fd, buf);
     if let Input::Failed = input {
         os::fail(name);
     }

@@ -1,11 +1,11 @@
 // What is written. Every write's answer is looked at, and standard error names what failed.
 use crate::names;
 use crate::result;
-use lent::Outcome;
+use base_lent::Outcome;
+use base_refusals::Code;
+use base_refusals::Refusal;
 use libc::STDERR_FILENO;
 use libc::STDOUT_FILENO;
-use refusals::Code;
-use refusals::Refusal;
 ghost use Prim.Native.Nat.{_≤_};
 ghost use lib.ListN.{length};
 ghost use Rattle.desk.specs.ResultHelpers.{Holds};
@@ -24,13 +24,13 @@ fn write_line(name: &[u8], text: &[u8], code: Code) -> bool
     requires { ⌜ length (now text) ≤ 1048576 ⌝ }
 {
     let mut line = [0u8; 4352];
-    let n = sentences::message(name, text, code, &mut line);
+    let n = say_sentences::message(name, text, code, &mut line);
     io::write_all(STDERR_FILENO, &line[..n])
 }
 
 // Writes the sentence of a refusal that speaks of a file to standard error, behind the file's name.
 pub fn tell(name: &[u8], refusal: Refusal) -> bool {
-    write_line(name, b"", refusals::refusal_code(refusal))
+    write_line(name, b"", base_refusals::refusal_code(refusal))
 }
 
 // Writes the sentence of a refusal to standard error. Where that fails, the status tells.
@@ -66,7 +66,7 @@ fn end(status: u8, written: bool) {
 
 // Ends a program that was refused a result for what this name stands for.
 pub fn refuse_for(name: &[u8], refusal: Refusal) {
-    let code = refusals::refusal_code(refusal);
+    let code = base_refusals::refusal_code(refusal);
     let is_told = write_line(name, b"", code);
     let is_numbered = write_number(code.number);
     end(REFUSED, is_told && is_numbered);
@@ -76,7 +76,7 @@ pub fn refuse_for(name: &[u8], refusal: Refusal) {
 pub fn refuse(refusal: Refusal, text: &[u8])
     requires { ⌜ length (now text) ≤ 1048576 ⌝ }
 {
-    let code = refusals::refusal_code(refusal);
+    let code = base_refusals::refusal_code(refusal);
     let is_told = write_sentence(code, text);
     let is_numbered = write_number(code.number);
     end(REFUSED, is_told && is_numbered);

@@ -7,22 +7,22 @@ use mathlib.Core.List.{List}
 use lib.ListN.{length, take, set, replicate, length-take, length-set}
 use lib.Seq.{sets}
 use native.Mathlib.Omega.{arith}
-use Rattle.refusals.specs.Numbers.{badDisk, noRoom}
-use Rattle.refusals.specs.Answer.{Answer, done, refused, numbered, andThen}
-use Rattle.refusals.specs.declared.Refusal.{Refusal}
-use Rattle.lent.specs.Lent.{Lent, intoBuffer}
-use Rattle.lent.proofs.Outcomes.{into-none, into-done}
-use Rattle.d64.specs.Chains.{Chain}
-use Rattle.d64.specs.Entries.{listed, chainOf}
-use Rattle.d64.specs.Free.{freeSectors, markedAll}
-use Rattle.d64.specs.Check.{sound}
-use Rattle.d64.specs.Calls.{diskHolding, chainBytes, fileBytes, scratched, After, ontoDisk}
-use Rattle.chains.specs.ChainHelpers.{Sectors, Traces, Lists}
-use Rattle.chains.specs.declared.Traced.{Traced}
-use Rattle.chains.proofs.Marking.{marked-all-long}
-use Rattle.sound.specs.SoundHelpers.{Looks}
-use Rattle.sound.specs.declared.Seen.{Seen}
-use Rattle.sound.proofs.Looking.{entry-sectors, logged-start}
+use Rattle.base_refusals.specs.Numbers.{badDisk, noRoom}
+use Rattle.base_refusals.specs.Answer.{Answer, done, refused, numbered, andThen}
+use Rattle.base_refusals.specs.declared.Refusal.{Refusal}
+use Rattle.base_lent.specs.Lent.{Lent, intoBuffer}
+use Rattle.base_lent.proofs.Outcomes.{into-none, into-done}
+use Rattle.disk_rules.specs.Chains.{Chain}
+use Rattle.disk_rules.specs.Entries.{listed, chainOf}
+use Rattle.disk_rules.specs.Free.{freeSectors, markedAll}
+use Rattle.disk_rules.specs.Check.{sound}
+use Rattle.disk_rules.specs.Calls.{diskHolding, chainBytes, fileBytes, scratched, After, ontoDisk}
+use Rattle.disk_chains.specs.ChainHelpers.{Sectors, Traces, Lists}
+use Rattle.disk_chains.specs.declared.Traced.{Traced}
+use Rattle.disk_chains.proofs.Marking.{marked-all-long}
+use Rattle.disk_check.specs.SoundHelpers.{Looks}
+use Rattle.disk_check.specs.declared.Seen.{Seen}
+use Rattle.disk_check.proofs.Looking.{entry-sectors, logged-start}
 use Rattle.disk.specs.LocateHelpers.{located, locatedAnswer, Locates}
 use Rattle.disk.specs.declared.Located.{Located}
 use Rattle.disk.specs.declared.Located.the-variants.{At, Refused}

@@ -11,18 +11,18 @@ use native.Mathlib.Omega.{arith}
 use mir.Val.{Fits}
 use mir.Syntax.{w64}
 use borrow.Author.Tests.{ne-eqb, le-leb, lt-leb, leb-true, not-true, not-false}
-use Rattle.refusals.specs.Numbers.{badDisk, badName, noSuchFile}
-use Rattle.refusals.specs.Answer.{Answer, done, refused, numbered, andThen}
-use Rattle.refusals.specs.declared.Refusal.{Refusal}
-use Rattle.refusals.specs.declared.Refusal.the-variants.{BadDisk, BadName, NoSuchFile}
-use Rattle.d64.specs.Lists.{those, isIn}
-use Rattle.d64.specs.Entries.{directory, listed, isNamed}
-use Rattle.d64.specs.Check.{sound}
-use Rattle.d64.specs.Calls.{isFileName, onSound, ofFile, entriesNamed}
-use Rattle.entries.specs.EntryHelpers.{Entries, firstEntry}
-use Rattle.sound.specs.SoundHelpers.{Looks}
-use Rattle.sound.specs.declared.Seen.{Seen}
-use Rattle.sound.proofs.Looking.{known-entries}
+use Rattle.base_refusals.specs.Numbers.{badDisk, badName, noSuchFile}
+use Rattle.base_refusals.specs.Answer.{Answer, done, refused, numbered, andThen}
+use Rattle.base_refusals.specs.declared.Refusal.{Refusal}
+use Rattle.base_refusals.specs.declared.Refusal.the-variants.{BadDisk, BadName, NoSuchFile}
+use Rattle.disk_rules.specs.Lists.{those, isIn}
+use Rattle.disk_rules.specs.Entries.{directory, listed, isNamed}
+use Rattle.disk_rules.specs.Check.{sound}
+use Rattle.disk_rules.specs.Calls.{isFileName, onSound, ofFile, entriesNamed}
+use Rattle.disk_entries.specs.EntryHelpers.{Entries, firstEntry}
+use Rattle.disk_check.specs.SoundHelpers.{Looks}
+use Rattle.disk_check.specs.declared.Seen.{Seen}
+use Rattle.disk_check.proofs.Looking.{known-entries}
 use Rattle.disk.specs.LocateHelpers.{admitted, seekAnswer, Known, Seeks, located, Locates}
 use Rattle.disk.specs.declared.Sought.{Sought}
 use Rattle.disk.specs.declared.Sought.the-variants.{On, Refused as RefusedSought}

@@ -8,14 +8,14 @@ use lib.Dec.{leb}
 use lib.ListN.{length}
 use native.Mathlib.Omega.{arith}
 use borrow.Author.Tests.{le-leb, lt-leb}
-use Rattle.refusals.specs.Numbers.{nameTaken, directoryFull}
-use Rattle.refusals.specs.Answer.{Answer, refused, numbered}
-use Rattle.refusals.specs.declared.Refusal.{Refusal}
-use Rattle.d64.specs.Lists.{some}
-use Rattle.d64.specs.Entries.{listed, isNamed}
-use Rattle.d64.specs.Calls.{onSound, saved, After, ontoDisk}
-use Rattle.entries.proofs.Finding.{first-in, first-out}
-use Rattle.saves.specs.SaveHelpers.{savedNew}
+use Rattle.base_refusals.specs.Numbers.{nameTaken, directoryFull}
+use Rattle.base_refusals.specs.Answer.{Answer, refused, numbered}
+use Rattle.base_refusals.specs.declared.Refusal.{Refusal}
+use Rattle.disk_rules.specs.Lists.{some}
+use Rattle.disk_rules.specs.Entries.{listed, isNamed}
+use Rattle.disk_rules.specs.Calls.{onSound, saved, After, ontoDisk}
+use Rattle.disk_entries.proofs.Finding.{first-in, first-out}
+use Rattle.disk_saves.specs.SaveHelpers.{savedNew}
 use Rattle.disk.specs.LocateHelpers.{Known, Seeks}
 use Rattle.disk.specs.declared.Sought.{Sought}
 use Rattle.disk.specs.declared.Sought.the-variants.{On, Refused as RefusedSought}

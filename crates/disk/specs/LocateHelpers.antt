@@ -4,10 +4,10 @@ use Prim.Native.Nat.{ℕ, _+_, _≤_}
 use mathlib.Core.Path.{_≡_}
 use mathlib.Core.List.{List}
 use lib.ListN.{length, take}
-use Rattle.refusals.specs.Answer.{Answer, done, refused, numbered}
-use Rattle.d64.specs.Entries.{directory, listed, isNamed}
-use Rattle.d64.specs.Calls.{onSound, ofFile, entriesNamed}
-use Rattle.entries.specs.EntryHelpers.{firstEntry}
+use Rattle.base_refusals.specs.Answer.{Answer, done, refused, numbered}
+use Rattle.disk_rules.specs.Entries.{directory, listed, isNamed}
+use Rattle.disk_rules.specs.Calls.{onSound, ofFile, entriesNamed}
+use Rattle.disk_entries.specs.EntryHelpers.{firstEntry}
 use Rattle.disk.specs.declared.Located.{Located}
 use Rattle.disk.specs.declared.Located.the-variants.{At, Refused}
 use Rattle.disk.specs.declared.Sought.{Sought}

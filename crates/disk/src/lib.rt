@@ -1,26 +1,26 @@
 // The calls over a lent disk: the check, reading, scratching and saving.
-use chains::free_sectors;
-use chains::mark_all;
-use d64::Changed;
-use d64::DiskCheck;
-use entries::find;
-use entries::trace_entry;
-use file_bytes::measure;
-use file_bytes::take_out;
-use lent::Outcome;
-use refusals::Refusal;
-use saves::save_new;
-use sound::look;
+use base_lent::Outcome;
+use base_refusals::Refusal;
+use disk_bytes::measure;
+use disk_bytes::take_out;
+use disk_chains::free_sectors;
+use disk_chains::mark_all;
+use disk_check::look;
+use disk_entries::find;
+use disk_entries::trace_entry;
+use disk_rules::Changed;
+use disk_rules::DiskCheck;
+use disk_saves::save_new;
 ghost use mathlib.Core.Path.{_≡_};
 ghost use mathlib.Core.Bool.{true};
 ghost use Prim.Native.Nat.{_+_, _≤_};
 ghost use lib.ListN.{length, set};
-ghost use Rattle.refusals.specs.Answer.{done};
-ghost use Rattle.lent.specs.Lent.{intoBuffer, left};
-ghost use Rattle.d64.specs.Lists.{isIn};
-ghost use Rattle.d64.specs.Entries.{chainOf};
-ghost use Rattle.d64.specs.Free.{markedAll};
-ghost use Rattle.d64.specs.Calls.{isFileName, diskAnswer, diskHolding, chainBytes, fileBytes, scratched, saved, ontoDisk, leaving};
+ghost use Rattle.base_refusals.specs.Answer.{done};
+ghost use Rattle.base_lent.specs.Lent.{intoBuffer, left};
+ghost use Rattle.disk_rules.specs.Lists.{isIn};
+ghost use Rattle.disk_rules.specs.Entries.{chainOf};
+ghost use Rattle.disk_rules.specs.Free.{markedAll};
+ghost use Rattle.disk_rules.specs.Calls.{isFileName, diskAnswer, diskHolding, chainBytes, fileBytes, scratched, saved, ontoDisk, leaving};
 ghost use Rattle.disk.specs.LocateHelpers.{Locates, Seeks};
 
 // What is known of a sound disk and a name: how many sectors the directory has, how many files are listed, and the place of the first

@@ -9,17 +9,17 @@ use lib.ListN.{length, getD, take, drop, replicate, length-append, length-replic
 use lib.Seq.{ext-getD, getD-take, getD-drop}
 use native.Mathlib.Omega.{arith}
 use borrow.Author.Tests.{eqb-true, eq-eqb, not-true, ltb-true}
-use Rattle.refusals.specs.Answer.{Answer, done}
-use Rattle.d64.specs.Places.{trackOf, sectorOf, offTrack18}
-use Rattle.d64.specs.Lists.{some, isIn, noneTwice}
-use Rattle.d64.specs.Links.{linkTo, linkAt}
-use Rattle.d64.specs.declared.Link.{Link}
-use Rattle.d64.specs.declared.Link.the-variants.{To}
-use Rattle.d64.specs.Map.{bitAt}
-use Rattle.d64.specs.Free.{markedAll}
-use Rattle.d64.specs.Chains.{Chain}
-use Rattle.d64.specs.Entries.{directory, listed, nameAt, beforeA0, isNamed, chainBy, chainOf}
-use Rattle.d64.specs.Calls.{isFileName, taken, laid, entryBytes, saved, ontoDisk}
+use Rattle.base_refusals.specs.Answer.{Answer, done}
+use Rattle.disk_rules.specs.Places.{trackOf, sectorOf, offTrack18}
+use Rattle.disk_rules.specs.Lists.{some, isIn, noneTwice}
+use Rattle.disk_rules.specs.Links.{linkTo, linkAt}
+use Rattle.disk_rules.specs.declared.Link.{Link}
+use Rattle.disk_rules.specs.declared.Link.the-variants.{To}
+use Rattle.disk_rules.specs.Map.{bitAt}
+use Rattle.disk_rules.specs.Free.{markedAll}
+use Rattle.disk_rules.specs.Chains.{Chain}
+use Rattle.disk_rules.specs.Entries.{directory, listed, nameAt, beforeA0, isNamed, chainBy, chainOf}
+use Rattle.disk_rules.specs.Calls.{isFileName, taken, laid, entryBytes, saved, ontoDisk}
 use Rattle.disk_laws.specs.Runs.{Save}
 use Rattle.disk_laws.proofs.Counting.{and-right, or-right, in-append}
 use Rattle.disk_laws.proofs.Geometry.{link-back}

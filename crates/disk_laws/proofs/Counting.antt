@@ -9,7 +9,7 @@ use lib.ListN.{length}
 use native.Mathlib.Decide.{decLt}
 use native.Mathlib.Omega.{arith}
 use borrow.Author.Tests.{eqb-true, eq-eqb, ne-eqb, not-true}
-use Rattle.d64.specs.Lists.{numbersFrom, those, every, some, isIn, noneTwice}
+use Rattle.disk_rules.specs.Lists.{numbersFrom, those, every, some, isIn, noneTwice}
 
 -- ---- tests
 

@@ -10,11 +10,11 @@ use lib.Seq.{sets, getD-set-other}
 use native.Mathlib.Decide.{decLt}
 use native.Mathlib.Omega.{arith}
 use borrow.Author.Tests.{eqb-false, eq-eqb}
-use Rattle.d64.specs.Places.{trackOf, sectorOf}
-use Rattle.d64.specs.Lists.{some, isIn}
-use Rattle.d64.specs.Map.{marked, mapAt}
-use Rattle.d64.specs.Free.{markedAll}
-use Rattle.d64.specs.Calls.{sectorBytes, linkBytes, laid}
+use Rattle.disk_rules.specs.Places.{trackOf, sectorOf}
+use Rattle.disk_rules.specs.Lists.{some, isIn}
+use Rattle.disk_rules.specs.Map.{marked, mapAt}
+use Rattle.disk_rules.specs.Free.{markedAll}
+use Rattle.disk_rules.specs.Calls.{sectorBytes, linkBytes, laid}
 use Rattle.disk_laws.proofs.Counting.{or-right}
 use Rattle.disk_laws.proofs.Geometry.{Placed, place}
 

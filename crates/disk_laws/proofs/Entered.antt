@@ -10,14 +10,14 @@ use lib.Seq.{sets, length-sets}
 use native.Mathlib.Decide.{decLt}
 use native.Mathlib.Omega.{arith}
 use borrow.Author.Tests.{not-true}
-use Rattle.d64.specs.Lists.{isIn, noneTwice}
-use Rattle.d64.specs.Links.{linkAt}
-use Rattle.d64.specs.Map.{bitOf}
-use Rattle.d64.specs.Free.{markedAll}
-use Rattle.d64.specs.Chains.{Chain}
-use Rattle.d64.specs.Entries.{directory, entryAt, entriesOf, isListed, isThat, entriesThat, listed}
-use Rattle.d64.specs.Calls.{isFileName, taken, laid, entryBytes}
-use Rattle.chains.proofs.Marking.{marked-all-long}
+use Rattle.disk_rules.specs.Lists.{isIn, noneTwice}
+use Rattle.disk_rules.specs.Links.{linkAt}
+use Rattle.disk_rules.specs.Map.{bitOf}
+use Rattle.disk_rules.specs.Free.{markedAll}
+use Rattle.disk_rules.specs.Chains.{Chain}
+use Rattle.disk_rules.specs.Entries.{directory, entryAt, entriesOf, isListed, isThat, entriesThat, listed}
+use Rattle.disk_rules.specs.Calls.{isFileName, taken, laid, entryBytes}
+use Rattle.disk_chains.proofs.Marking.{marked-all-long}
 use Rattle.disk_laws.proofs.Elsewhere.{Off, before, behind, sets-off, marked-all-off}
 use Rattle.disk_laws.proofs.Fresh.{sets-at}
 use Rattle.disk_laws.proofs.Kept.{never, in-those, taken-below, entry-long, name-short}

@@ -9,21 +9,21 @@ use lib.ListN.{length, getD, take, drop, set, length-take, length-drop, length-s
 use lib.Seq.{ext-getD, getD-take, getD-drop}
 use native.Mathlib.Omega.{arith}
 use borrow.Author.Tests.{eq-eqb}
-use Rattle.refusals.specs.Numbers.{Numbered, badDisk, badName}
-use Rattle.refusals.specs.Answer.{Answer, done, refused}
-use Rattle.d64.specs.Lists.{some, isIn}
-use Rattle.d64.specs.Links.{linkTo, linkAt}
-use Rattle.d64.specs.declared.Link.{Link}
-use Rattle.d64.specs.declared.Link.the-variants.{Last, To, Astray}
-use Rattle.d64.specs.Chains.{Chain, chain, brokenChain, mayHold, chainOnward}
-use Rattle.d64.specs.Entries.{chainOf}
-use Rattle.d64.specs.Free.{markedAll}
-use Rattle.d64.specs.Check.{files, sound}
-use Rattle.d64.specs.Calls.{isFileName, onSound, ofFile, entriesNamed, payload, chainBytes, saved, scratched, ontoDisk}
+use Rattle.base_refusals.specs.Numbers.{Numbered, badDisk, badName}
+use Rattle.base_refusals.specs.Answer.{Answer, done, refused}
+use Rattle.disk_rules.specs.Lists.{some, isIn}
+use Rattle.disk_rules.specs.Links.{linkTo, linkAt}
+use Rattle.disk_rules.specs.declared.Link.{Link}
+use Rattle.disk_rules.specs.declared.Link.the-variants.{Last, To, Astray}
+use Rattle.disk_rules.specs.Chains.{Chain, chain, brokenChain, mayHold, chainOnward}
+use Rattle.disk_rules.specs.Entries.{chainOf}
+use Rattle.disk_rules.specs.Free.{markedAll}
+use Rattle.disk_rules.specs.Check.{files, sound}
+use Rattle.disk_rules.specs.Calls.{isFileName, onSound, ofFile, entriesNamed, payload, chainBytes, saved, scratched, ontoDisk}
 use Rattle.disk_laws.specs.Runs.{Call, Format, Check, Read, Save, Scratch, isFormat, afterCall}
 use Rattle.disk_laws.proofs.Counting.{or-right}
 use Rattle.disk_laws.proofs.Elsewhere.{Within}
-use Rattle.chains.proofs.Marking.{marked-all-long}
+use Rattle.disk_chains.proofs.Marking.{marked-all-long}
 use Rattle.disk_laws.proofs.Kept.{never, kept-by-calls}
 use Rattle.disk_laws.proofs.Saved.{size, made-long}
 

@@ -9,17 +9,17 @@ use lib.ListN.{length, getD, set, replicate, length-set, length-replicate}
 use lib.Seq.{sets, length-sets, getD-set-same}
 use native.Mathlib.Omega.{arith}
 use borrow.Author.Tests.{eq-eqb}
-use Rattle.d64.specs.Places.{sectorsOn}
-use Rattle.d64.specs.Lists.{numbersFrom, those, every, some, isIn, noneTwice}
-use Rattle.d64.specs.Links.{linkTo, linkAt}
-use Rattle.d64.specs.declared.Link.{Link}
-use Rattle.d64.specs.declared.Link.the-variants.{Last}
-use Rattle.d64.specs.Map.{bitOf, mapAt}
-use Rattle.d64.specs.Free.{bitAgrees, mapAgrees}
-use Rattle.d64.specs.Chains.{Chain, chain, chainOnward}
-use Rattle.d64.specs.Entries.{directory, entryAt, isThat, entriesThat, listed, entriesGood, chains}
-use Rattle.d64.specs.Check.{files, sound}
-use Rattle.d64.specs.Calls.{repeatedBytes, freshHeader, fresh}
+use Rattle.disk_rules.specs.Places.{sectorsOn}
+use Rattle.disk_rules.specs.Lists.{numbersFrom, those, every, some, isIn, noneTwice}
+use Rattle.disk_rules.specs.Links.{linkTo, linkAt}
+use Rattle.disk_rules.specs.declared.Link.{Link}
+use Rattle.disk_rules.specs.declared.Link.the-variants.{Last}
+use Rattle.disk_rules.specs.Map.{bitOf, mapAt}
+use Rattle.disk_rules.specs.Free.{bitAgrees, mapAgrees}
+use Rattle.disk_rules.specs.Chains.{Chain, chain, chainOnward}
+use Rattle.disk_rules.specs.Entries.{directory, entryAt, isThat, entriesThat, listed, entriesGood, chains}
+use Rattle.disk_rules.specs.Check.{files, sound}
+use Rattle.disk_rules.specs.Calls.{repeatedBytes, freshHeader, fresh}
 use Rattle.disk_laws.proofs.Totals.{all-hold}
 use Rattle.disk_laws.proofs.Elsewhere.{before, behind, sets-off}
 

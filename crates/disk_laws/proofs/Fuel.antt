@@ -6,11 +6,11 @@ use mathlib.Core.Bool.{Bool, true, false, cond}
 use mathlib.Core.List.{List, [], _∷_, _++_}
 use lib.ListN.{length, length-append}
 use native.Mathlib.Omega.{arith}
-use Rattle.d64.specs.Links.{linkAt}
-use Rattle.d64.specs.declared.Link.{Link}
-use Rattle.d64.specs.declared.Link.the-variants.{Last, To, Astray}
-use Rattle.d64.specs.Chains.{Chain, chain, brokenChain, mayHold, chainOnward}
-use Rattle.d64.specs.Entries.{chainBy, chainOf, chainsBehind, chains}
+use Rattle.disk_rules.specs.Links.{linkAt}
+use Rattle.disk_rules.specs.declared.Link.{Link}
+use Rattle.disk_rules.specs.declared.Link.the-variants.{Last, To, Astray}
+use Rattle.disk_rules.specs.Chains.{Chain, chain, brokenChain, mayHold, chainOnward}
+use Rattle.disk_rules.specs.Entries.{chainBy, chainOf, chainsBehind, chains}
 use Rattle.disk_laws.proofs.Kept.{never}
 
 -- a chain that ends is the same wherever it is let have its sectors

@@ -4,10 +4,10 @@ use Prim.Native.Nat.{ℕ, _+_, _-_, _*_, _/_, _%_, _≤_, _<_}
 use mathlib.Core.Path.{_≡_, refl, sym, ap, _∙_}
 use native.Mathlib.Decide.{decLt}
 use native.Mathlib.Omega.{arith}
-use Rattle.d64.specs.Places.{sectorsOn, sectorsBefore, sectorAt, trackOf, sectorOf}
-use Rattle.d64.specs.Links.{linkTo}
-use Rattle.d64.specs.declared.Link.the-variants.{To}
-use Rattle.sectors.proofs.Geometry.{zone-1, zone-2, zone-3, zone-4, link-on}
+use Rattle.disk_rules.specs.Places.{sectorsOn, sectorsBefore, sectorAt, trackOf, sectorOf}
+use Rattle.disk_rules.specs.Links.{linkTo}
+use Rattle.disk_rules.specs.declared.Link.the-variants.{To}
+use Rattle.disk_sectors.proofs.Geometry.{zone-1, zone-2, zone-3, zone-4, link-on}
 
 pub record Placed (n : ℕ) : Type 0 where
   pub low : 1 ≤ trackOf n

@@ -10,18 +10,18 @@ use lib.Seq.{sets, length-sets}
 use native.Mathlib.Decide.{decLt}
 use native.Mathlib.Omega.{arith}
 use borrow.Author.Tests.{eqb-true, eq-eqb, ne-eqb, le-leb, leb-true}
-use Rattle.d64.specs.Places.{trackOf, sectorOf}
-use Rattle.d64.specs.Lists.{numbersFrom, those, some, isIn, noneTwice}
-use Rattle.d64.specs.Links.{linkTo, linkAt}
-use Rattle.d64.specs.declared.Link.{Link}
-use Rattle.d64.specs.declared.Link.the-variants.{Last, To, Astray}
-use Rattle.d64.specs.Map.{bitOf, bitAt, marked}
-use Rattle.d64.specs.Chains.{Chain, chain, brokenChain, mayHold, chainOnward}
-use Rattle.d64.specs.Entries.{directory, entryAt, isListed, isThat, entriesThat, listed}
-use Rattle.d64.specs.Calls.{isFileName, taken, entryBytes, sectorBytes, grown}
-use Rattle.chains.proofs.Marking.{marked-long}
-use Rattle.sound.proofs.Looking.{numbers-long}
-use Rattle.saves.proofs.Placing.{directory-some}
+use Rattle.disk_rules.specs.Places.{trackOf, sectorOf}
+use Rattle.disk_rules.specs.Lists.{numbersFrom, those, some, isIn, noneTwice}
+use Rattle.disk_rules.specs.Links.{linkTo, linkAt}
+use Rattle.disk_rules.specs.declared.Link.{Link}
+use Rattle.disk_rules.specs.declared.Link.the-variants.{Last, To, Astray}
+use Rattle.disk_rules.specs.Map.{bitOf, bitAt, marked}
+use Rattle.disk_rules.specs.Chains.{Chain, chain, brokenChain, mayHold, chainOnward}
+use Rattle.disk_rules.specs.Entries.{directory, entryAt, isListed, isThat, entriesThat, listed}
+use Rattle.disk_rules.specs.Calls.{isFileName, taken, entryBytes, sectorBytes, grown}
+use Rattle.disk_chains.proofs.Marking.{marked-long}
+use Rattle.disk_check.proofs.Looking.{numbers-long}
+use Rattle.disk_saves.proofs.Placing.{directory-some}
 use Rattle.disk_laws.proofs.Counting.{and-left, and-right, or-right, count-not, stand-all}
 use Rattle.disk_laws.proofs.Geometry.{link-back, track-2}
 use Rattle.disk_laws.proofs.Marks.{bit-marked}

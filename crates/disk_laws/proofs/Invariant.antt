@@ -10,14 +10,14 @@ use lib.ListN.{length, getD}
 use lib.Seq.{sets}
 use native.Mathlib.Omega.{arith}
 use borrow.Author.Tests.{eq-eqb, not-true}
-use Rattle.refusals.specs.Numbers.{badDisk}
-use Rattle.refusals.specs.Answer.{Answer, done, refused}
-use Rattle.d64.specs.Lists.{numbersFrom, some, isIn, noneTwice}
-use Rattle.d64.specs.Entries.{directory, entriesThat}
-use Rattle.d64.specs.Free.{freeSectors}
-use Rattle.d64.specs.Check.{files, sound}
-use Rattle.d64.specs.Calls.{taken, entryBytes, outside, grown, withEntry, saved, scratched, fresh, ontoDisk}
-use Rattle.sound.proofs.Looking.{Each}
+use Rattle.base_refusals.specs.Numbers.{badDisk}
+use Rattle.base_refusals.specs.Answer.{Answer, done, refused}
+use Rattle.disk_rules.specs.Lists.{numbersFrom, some, isIn, noneTwice}
+use Rattle.disk_rules.specs.Entries.{directory, entriesThat}
+use Rattle.disk_rules.specs.Free.{freeSectors}
+use Rattle.disk_rules.specs.Check.{files, sound}
+use Rattle.disk_rules.specs.Calls.{taken, entryBytes, outside, grown, withEntry, saved, scratched, fresh, ontoDisk}
+use Rattle.disk_check.proofs.Looking.{Each}
 use Rattle.disk_laws.specs.Runs.{Call, Format, Check, Read, Save, Scratch, afterCall, afterCalls}
 use Rattle.disk_laws.proofs.Totals.{all-accounted-for, in-one-chain}
 use Rattle.disk_laws.proofs.Fresh.{fresh-sound}

@@ -10,19 +10,19 @@ use lib.Seq.{sets}
 use native.Mathlib.Decide.{decLt}
 use native.Mathlib.Omega.{arith}
 use borrow.Author.Tests.{eqb-true, eq-eqb, leb-true, ltb-true, le-ltb}
-use Rattle.refusals.specs.Numbers.{nameTaken, directoryFull, diskFull}
-use Rattle.refusals.specs.Answer.{Answer, done, refused}
-use Rattle.d64.specs.Places.{trackOf, sectorOf, offTrack18}
-use Rattle.d64.specs.Lists.{numbersFrom, those, some, isIn}
-use Rattle.d64.specs.Links.{linkAt}
-use Rattle.d64.specs.Map.{isFree}
-use Rattle.d64.specs.Entries.{directory, entryAt, entriesOf, isThat, entriesThat, listed, isNamed, chainOf}
-use Rattle.d64.specs.Free.{freeSectors, markedAll}
-use Rattle.d64.specs.Check.{files, sound}
-use Rattle.d64.specs.Calls.{isFileName, onSound, ofFile, entriesNamed, sectorsFor, taken, laid, sectorBytes, entryBytes, outside, grown, withEntry, withFile, saved, scratched, ontoDisk}
-use Rattle.sound.proofs.Looking.{Each, each-none, each-one, each-those}
-use Rattle.saves.specs.SaveHelpers.{savedNew}
-use Rattle.saves.proofs.Placing.{directory-some}
+use Rattle.base_refusals.specs.Numbers.{nameTaken, directoryFull, diskFull}
+use Rattle.base_refusals.specs.Answer.{Answer, done, refused}
+use Rattle.disk_rules.specs.Places.{trackOf, sectorOf, offTrack18}
+use Rattle.disk_rules.specs.Lists.{numbersFrom, those, some, isIn}
+use Rattle.disk_rules.specs.Links.{linkAt}
+use Rattle.disk_rules.specs.Map.{isFree}
+use Rattle.disk_rules.specs.Entries.{directory, entryAt, entriesOf, isThat, entriesThat, listed, isNamed, chainOf}
+use Rattle.disk_rules.specs.Free.{freeSectors, markedAll}
+use Rattle.disk_rules.specs.Check.{files, sound}
+use Rattle.disk_rules.specs.Calls.{isFileName, onSound, ofFile, entriesNamed, sectorsFor, taken, laid, sectorBytes, entryBytes, outside, grown, withEntry, withFile, saved, scratched, ontoDisk}
+use Rattle.disk_check.proofs.Looking.{Each, each-none, each-one, each-those}
+use Rattle.disk_saves.specs.SaveHelpers.{savedNew}
+use Rattle.disk_saves.proofs.Placing.{directory-some}
 use Rattle.disk_laws.specs.Runs.{Call, Format, Check, Read, Save, Scratch, isFormat, afterCall}
 use Rattle.disk_laws.proofs.Counting.{and-left, and-right, or-right}
 use Rattle.disk_laws.proofs.Totals.{chain-held, chains-held, by-held, free-is}

@@ -9,12 +9,12 @@ use lib.ListN.{length, getD, take, drop, replicate, length-take, length-drop, ta
 use lib.Seq.{sets, length-sets, ext-getD, getD-take, getD-drop, take-all, length-take-le}
 use native.Mathlib.Omega.{arith}
 use borrow.Author.Tests.{eq-eqb, ne-eqb, ltb-true, not-true}
-use Rattle.d64.specs.Places.{trackOf, offTrack18}
-use Rattle.d64.specs.Lists.{some, isIn, noneTwice}
-use Rattle.d64.specs.Links.{linkTo, linkAt}
-use Rattle.d64.specs.declared.Link.the-variants.{Last, To}
-use Rattle.d64.specs.Chains.{Chain, chain, brokenChain, mayHold, chainOnward}
-use Rattle.d64.specs.Calls.{linkBytes, laid, payload, chainBytes}
+use Rattle.disk_rules.specs.Places.{trackOf, offTrack18}
+use Rattle.disk_rules.specs.Lists.{some, isIn, noneTwice}
+use Rattle.disk_rules.specs.Links.{linkTo, linkAt}
+use Rattle.disk_rules.specs.declared.Link.the-variants.{Last, To}
+use Rattle.disk_rules.specs.Chains.{Chain, chain, brokenChain, mayHold, chainOnward}
+use Rattle.disk_rules.specs.Calls.{linkBytes, laid, payload, chainBytes}
 use Rattle.disk_laws.proofs.Counting.{and-left, and-right, or-right}
 use Rattle.disk_laws.proofs.Geometry.{place, link-back}
 use Rattle.disk_laws.proofs.Elsewhere.{Within, laid-off, link-long}

@@ -8,11 +8,11 @@ use lib.Dec.{eqb, ltb}
 use lib.ListN.{length}
 use native.Mathlib.Omega.{arith}
 use borrow.Author.Tests.{eqb-true, eqb-false, eq-eqb, lt-ltb, ltb-true}
-use Rattle.d64.specs.Places.{sectorsOn, sectorsBefore, sectorAt, trackOf, sectorOf}
-use Rattle.d64.specs.Lists.{numbersFrom, every, some, isIn}
-use Rattle.d64.specs.Map.{bitAt, marked}
-use Rattle.d64.specs.Free.{bitAgrees, mapAgrees, markedAll}
-use Rattle.chains.proofs.Marking.{marked-long}
+use Rattle.disk_rules.specs.Places.{sectorsOn, sectorsBefore, sectorAt, trackOf, sectorOf}
+use Rattle.disk_rules.specs.Lists.{numbersFrom, every, some, isIn}
+use Rattle.disk_rules.specs.Map.{bitAt, marked}
+use Rattle.disk_rules.specs.Free.{bitAgrees, mapAgrees, markedAll}
+use Rattle.disk_chains.proofs.Marking.{marked-long}
 use Rattle.disk_laws.proofs.Counting.{one, and-left, and-right, or-right, every-at}
 use Rattle.disk_laws.proofs.Geometry.{Placed, place, Stands, stands}
 use Rattle.disk_laws.proofs.Marks.{same-test, bit-marked}

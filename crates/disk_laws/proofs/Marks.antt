@@ -11,8 +11,8 @@ use native.Mathlib.Nat.{div-one, div-div-eq-div-mul, pow-succ', div-eq-of-lt}
 use native.Mathlib.Decide.{decLt}
 use native.Mathlib.Omega.{arith}
 use borrow.Author.Tests.{eqb-true, eqb-false, eq-eqb, ne-eqb}
-use Rattle.d64.specs.Places.{trackOf, sectorOf}
-use Rattle.d64.specs.Map.{bitOf, withBit, mapAt, bitAt, marked}
+use Rattle.disk_rules.specs.Places.{trackOf, sectorOf}
+use Rattle.disk_rules.specs.Map.{bitOf, withBit, mapAt, bitAt, marked}
 use Rattle.disk_laws.proofs.Counting.{one, and-left, and-right}
 use Rattle.disk_laws.proofs.Geometry.{Placed, place}
 

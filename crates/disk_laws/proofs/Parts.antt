@@ -8,17 +8,17 @@ use lib.Dec.{eqb, leb, ltb}
 use lib.ListN.{length, getD}
 use native.Mathlib.Omega.{arith}
 use borrow.Author.Tests.{eqb-true, eq-eqb, ltb-true, leb-true}
-use Rattle.d64.specs.Places.{offTrack18}
-use Rattle.d64.specs.Lists.{numbersFrom, some, isIn, noneTwice}
-use Rattle.d64.specs.Links.{linkTo, linkAt}
-use Rattle.d64.specs.declared.Link.{Link}
-use Rattle.d64.specs.declared.Link.the-variants.{Last, To, Astray}
-use Rattle.d64.specs.Map.{bitAt}
-use Rattle.d64.specs.Free.{mapAgrees, markedAll}
-use Rattle.d64.specs.Chains.{Chain, chain, mayHold}
-use Rattle.d64.specs.Entries.{directory, entryAt, entriesOf, isThat, entriesThat, listed, nameAt, beforeA0, entriesGood, chainBy, chainOf}
-use Rattle.d64.specs.Check.{files, sound}
-use Rattle.sound.proofs.Looking.{numbers-long}
+use Rattle.disk_rules.specs.Places.{offTrack18}
+use Rattle.disk_rules.specs.Lists.{numbersFrom, some, isIn, noneTwice}
+use Rattle.disk_rules.specs.Links.{linkTo, linkAt}
+use Rattle.disk_rules.specs.declared.Link.{Link}
+use Rattle.disk_rules.specs.declared.Link.the-variants.{Last, To, Astray}
+use Rattle.disk_rules.specs.Map.{bitAt}
+use Rattle.disk_rules.specs.Free.{mapAgrees, markedAll}
+use Rattle.disk_rules.specs.Chains.{Chain, chain, mayHold}
+use Rattle.disk_rules.specs.Entries.{directory, entryAt, entriesOf, isThat, entriesThat, listed, nameAt, beforeA0, entriesGood, chainBy, chainOf}
+use Rattle.disk_rules.specs.Check.{files, sound}
+use Rattle.disk_check.proofs.Looking.{numbers-long}
 use Rattle.disk_laws.proofs.Counting.{and-left, and-right, count-not, stand-all, in-append}
 use Rattle.disk_laws.proofs.Totals.{Holds, holds, all-hold, chain-held, by-held}
 use Rattle.disk_laws.proofs.Kept.{never, in-at, in-those-list, dir-sector}

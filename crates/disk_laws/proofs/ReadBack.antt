@@ -8,13 +8,13 @@ use lib.Dec.{eqb, ltb}
 use lib.ListN.{length, getD, drop, set}
 use native.Mathlib.Omega.{arith}
 use borrow.Author.Tests.{eqb-true, eq-eqb, not-true, ltb-true}
-use Rattle.refusals.specs.Answer.{Answer, done, refused}
-use Rattle.refusals.specs.Numbers.{badDisk, badName}
-use Rattle.d64.specs.Lists.{those, some, isIn}
-use Rattle.d64.specs.Chains.{Chain}
-use Rattle.d64.specs.Entries.{listed, isNamed, nameAt, sameName, chainOf}
-use Rattle.d64.specs.Check.{files, sound}
-use Rattle.d64.specs.Calls.{isFileName, ofFile, entriesNamed, taken, sectorsFor, chainBytes, fileBytes, saved, scratched, ontoDisk}
+use Rattle.base_refusals.specs.Answer.{Answer, done, refused}
+use Rattle.base_refusals.specs.Numbers.{badDisk, badName}
+use Rattle.disk_rules.specs.Lists.{those, some, isIn}
+use Rattle.disk_rules.specs.Chains.{Chain}
+use Rattle.disk_rules.specs.Entries.{listed, isNamed, nameAt, sameName, chainOf}
+use Rattle.disk_rules.specs.Check.{files, sound}
+use Rattle.disk_rules.specs.Calls.{isFileName, ofFile, entriesNamed, taken, sectorsFor, chainBytes, fileBytes, saved, scratched, ontoDisk}
 use Rattle.disk_laws.proofs.Counting.{and-left, and-right, or-right}
 use Rattle.disk_laws.proofs.Kept.{never, in-those, in-those-list, kept-by-calls}
 use Rattle.disk_laws.proofs.Saved.{Tested, was-tested, passes, taken-long, all-lie, saved-bytes}
@@ -23,12 +23,12 @@ use Rattle.disk_laws.proofs.Added.{in-own, same, chain-new, name-new}
 use Rattle.disk_laws.proofs.Invariant.{AddedAt, save-adds, saved-sound, sound-kept}
 use Rattle.disk_laws.proofs.Parts.{Parts, parts, files-all}
 use Rattle.disk_laws.proofs.Scratched.{left, left-is, fewer, same as same-left}
-use Rattle.d64.specs.Free.{markedAll}
+use Rattle.disk_rules.specs.Free.{markedAll}
 use Rattle.disk_laws.proofs.Laid.{LieAll, lies-bytes}
 use Rattle.disk_laws.proofs.Elsewhere.{Within}
 use Rattle.disk_laws.proofs.Totals.{by-held}
-use Rattle.d64.specs.Places.{offTrack18}
-use Rattle.d64.specs.Links.{linkAt}
+use Rattle.disk_rules.specs.Places.{offTrack18}
+use Rattle.disk_rules.specs.Links.{linkAt}
 use Rattle.disk_laws.specs.Runs.{Call, Format, Check, Read, Save, Scratch, isFormat, afterCall, afterCalls, spares, allSpare}
 
 -- ---- those of a list with one more

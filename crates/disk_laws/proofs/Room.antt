@@ -8,15 +8,15 @@ use lib.Dec.{leb}
 use lib.ListN.{length, length-map}
 use native.Mathlib.Omega.{arith}
 use borrow.Author.Tests.{lt-ltb, le-ltb, lt-leb}
-use Rattle.refusals.specs.Numbers.{badDisk, badName, nameTaken, directoryFull, diskFull}
-use Rattle.refusals.specs.Answer.{Answer, done, refused}
-use Rattle.d64.specs.Lists.{numbersFrom, some, isIn}
-use Rattle.d64.specs.Entries.{directory, entriesOf, entryAt, isListed, entriesThat, listed, isNamed}
-use Rattle.d64.specs.Free.{freeSectors}
-use Rattle.d64.specs.Check.{sound}
-use Rattle.d64.specs.Calls.{isFileName, onSound, sectorsFor, taken, outside, withEntry, withFile, saved}
-use Rattle.sound.proofs.Looking.{numbers-long}
-use Rattle.saves.specs.SaveHelpers.{savedNew}
+use Rattle.base_refusals.specs.Numbers.{badDisk, badName, nameTaken, directoryFull, diskFull}
+use Rattle.base_refusals.specs.Answer.{Answer, done, refused}
+use Rattle.disk_rules.specs.Lists.{numbersFrom, some, isIn}
+use Rattle.disk_rules.specs.Entries.{directory, entriesOf, entryAt, isListed, entriesThat, listed, isNamed}
+use Rattle.disk_rules.specs.Free.{freeSectors}
+use Rattle.disk_rules.specs.Check.{sound}
+use Rattle.disk_rules.specs.Calls.{isFileName, onSound, sectorsFor, taken, outside, withEntry, withFile, saved}
+use Rattle.disk_check.proofs.Looking.{numbers-long}
+use Rattle.disk_saves.specs.SaveHelpers.{savedNew}
 use Rattle.disk_laws.proofs.Counting.{count, count-not, stand-few}
 
 -- an answer is no refusal

@@ -10,19 +10,19 @@ use lib.ListN.{length, getD, take, drop}
 use lib.Seq.{sets, length-sets, length-take-le}
 use native.Mathlib.Omega.{arith}
 use borrow.Author.Tests.{eqb-true, ltb-true, ltb-false, lt-ltb}
-use Rattle.refusals.specs.Numbers.{Numbered, badDisk, badName, nameTaken, directoryFull, diskFull}
-use Rattle.refusals.specs.Answer.{Answer, done, refused}
-use Rattle.d64.specs.Places.{trackOf, sectorOf, offTrack18}
-use Rattle.d64.specs.Lists.{numbersFrom, those, some, isIn, noneTwice}
-use Rattle.d64.specs.Map.{bitAt, isFree}
-use Rattle.d64.specs.Chains.{chain, mayHold}
-use Rattle.d64.specs.Entries.{directory, entriesThat, listed, isNamed}
-use Rattle.d64.specs.Free.{freeSectors, markedAll}
-use Rattle.d64.specs.Check.{sound}
-use Rattle.d64.specs.Calls.{isFileName, sectorsFor, taken, sectorBytes, linkBytes, laid, entryBytes, outside, grown, withEntry, withFile, saved, chainBytes, ontoDisk}
-use Rattle.chains.proofs.Marking.{marked-long, marked-all-long}
-use Rattle.saves.specs.SaveHelpers.{savedNew}
-use Rattle.saves.proofs.Choosing.{free-few}
+use Rattle.base_refusals.specs.Numbers.{Numbered, badDisk, badName, nameTaken, directoryFull, diskFull}
+use Rattle.base_refusals.specs.Answer.{Answer, done, refused}
+use Rattle.disk_rules.specs.Places.{trackOf, sectorOf, offTrack18}
+use Rattle.disk_rules.specs.Lists.{numbersFrom, those, some, isIn, noneTwice}
+use Rattle.disk_rules.specs.Map.{bitAt, isFree}
+use Rattle.disk_rules.specs.Chains.{chain, mayHold}
+use Rattle.disk_rules.specs.Entries.{directory, entriesThat, listed, isNamed}
+use Rattle.disk_rules.specs.Free.{freeSectors, markedAll}
+use Rattle.disk_rules.specs.Check.{sound}
+use Rattle.disk_rules.specs.Calls.{isFileName, sectorsFor, taken, sectorBytes, linkBytes, laid, entryBytes, outside, grown, withEntry, withFile, saved, chainBytes, ontoDisk}
+use Rattle.disk_chains.proofs.Marking.{marked-long, marked-all-long}
+use Rattle.disk_saves.specs.SaveHelpers.{savedNew}
+use Rattle.disk_saves.proofs.Choosing.{free-few}
 use Rattle.disk_laws.proofs.Counting.{and-left, and-right}
 use Rattle.disk_laws.proofs.Totals.{holds}
 use Rattle.disk_laws.proofs.Elsewhere.{Within}

@@ -10,17 +10,17 @@ use lib.Seq.{getD-set-same}
 use native.Mathlib.Decide.{decLt}
 use native.Mathlib.Omega.{arith}
 use borrow.Author.Tests.{eq-eqb, ltb-true}
-use Rattle.refusals.specs.Numbers.{badDisk, badName}
-use Rattle.refusals.specs.Answer.{Answer, done, refused}
-use Rattle.d64.specs.Places.{offTrack18}
-use Rattle.d64.specs.Lists.{some, isIn, noneTwice}
-use Rattle.d64.specs.Links.{linkAt}
-use Rattle.d64.specs.Free.{mapAgrees, markedAll}
-use Rattle.d64.specs.Chains.{Chain, mayHold}
-use Rattle.d64.specs.Entries.{directory, entryAt, entriesOf, isThat, entriesThat, listed, isNamed, entriesGood, chainOf}
-use Rattle.d64.specs.Check.{sound}
-use Rattle.d64.specs.Calls.{isFileName, ofFile, entriesNamed, scratched}
-use Rattle.chains.proofs.Marking.{marked-all-long}
+use Rattle.base_refusals.specs.Numbers.{badDisk, badName}
+use Rattle.base_refusals.specs.Answer.{Answer, done, refused}
+use Rattle.disk_rules.specs.Places.{offTrack18}
+use Rattle.disk_rules.specs.Lists.{some, isIn, noneTwice}
+use Rattle.disk_rules.specs.Links.{linkAt}
+use Rattle.disk_rules.specs.Free.{mapAgrees, markedAll}
+use Rattle.disk_rules.specs.Chains.{Chain, mayHold}
+use Rattle.disk_rules.specs.Entries.{directory, entryAt, entriesOf, isThat, entriesThat, listed, isNamed, entriesGood, chainOf}
+use Rattle.disk_rules.specs.Check.{sound}
+use Rattle.disk_rules.specs.Calls.{isFileName, ofFile, entriesNamed, scratched}
+use Rattle.disk_chains.proofs.Marking.{marked-all-long}
 use Rattle.disk_laws.proofs.Counting.{and-left, and-right}
 use Rattle.disk_laws.proofs.Totals.{by-held}
 use Rattle.disk_laws.proofs.Elsewhere.{Off, before, behind, set-off, marked-all-off}

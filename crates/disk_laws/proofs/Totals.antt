@@ -9,16 +9,16 @@ use lib.ListN.{length, getD}
 use native.Mathlib.Decide.{decLt}
 use native.Mathlib.Omega.{arith}
 use borrow.Author.Tests.{eqb-true, lt-ltb, le-ltb, ltb-true, ne-eqb}
-use Rattle.d64.specs.Places.{trackOf, sectorOf, sectorsOn, sectorAt, offTrack18}
-use Rattle.d64.specs.Lists.{numbersFrom, those, some, isIn, noneTwice}
-use Rattle.d64.specs.Links.{linkAt}
-use Rattle.d64.specs.declared.Link.{Link}
-use Rattle.d64.specs.declared.Link.the-variants.{Last, To, Astray}
-use Rattle.d64.specs.Map.{bitAt, isFree}
-use Rattle.d64.specs.Free.{bitAgrees, mapAgrees, freeSectors}
-use Rattle.d64.specs.Chains.{Chain, chain, brokenChain, mayHold, chainOnward}
-use Rattle.d64.specs.Entries.{directory, listed, entriesGood, chainBy, chainOf, chainsBehind, chains}
-use Rattle.d64.specs.Check.{files, sound}
+use Rattle.disk_rules.specs.Places.{trackOf, sectorOf, sectorsOn, sectorAt, offTrack18}
+use Rattle.disk_rules.specs.Lists.{numbersFrom, those, some, isIn, noneTwice}
+use Rattle.disk_rules.specs.Links.{linkAt}
+use Rattle.disk_rules.specs.declared.Link.{Link}
+use Rattle.disk_rules.specs.declared.Link.the-variants.{Last, To, Astray}
+use Rattle.disk_rules.specs.Map.{bitAt, isFree}
+use Rattle.disk_rules.specs.Free.{bitAgrees, mapAgrees, freeSectors}
+use Rattle.disk_rules.specs.Chains.{Chain, chain, brokenChain, mayHold, chainOnward}
+use Rattle.disk_rules.specs.Entries.{directory, listed, entriesGood, chainBy, chainOf, chainsBehind, chains}
+use Rattle.disk_rules.specs.Check.{files, sound}
 use Rattle.disk_laws.proofs.Counting.{and-left, and-right, one, count, count-three, stand-all, in-append, every-at}
 use Rattle.disk_laws.proofs.Geometry.{Placed, place}
 

@@ -9,9 +9,9 @@ use lib.ListN.{getD}
 use native.Mathlib.Decide.{decLt}
 use native.Mathlib.Omega.{arith}
 use borrow.Author.Tests.{eqb-true, eqb-false, eq-eqb, ne-eqb, not-true}
-use Rattle.d64.specs.Lists.{numbersFrom, those, some, isIn, noneTwice}
-use Rattle.d64.specs.Chains.{Chain}
-use Rattle.d64.specs.Entries.{isNamed, nameAt, sameName, entriesGood, chainOf}
+use Rattle.disk_rules.specs.Lists.{numbersFrom, those, some, isIn, noneTwice}
+use Rattle.disk_rules.specs.Chains.{Chain}
+use Rattle.disk_rules.specs.Entries.{isNamed, nameAt, sameName, entriesGood, chainOf}
 use Rattle.disk_laws.proofs.Counting.{and-left, and-right, or-right, in-append}
 use Rattle.disk_laws.proofs.Kept.{never}
 use Rattle.disk_laws.proofs.Fuel.{allSectors, AllEnd}

@@ -3,8 +3,8 @@
 use Prim.Native.Nat.{ℕ}
 use mathlib.Core.Bool.{Bool, true, false, not, _&&_}
 use mathlib.Core.List.{List, [], _∷_}
-use Rattle.d64.specs.Entries.{sameName}
-use Rattle.d64.specs.Calls.{formatted, saved, scratched, ontoDisk}
+use Rattle.disk_rules.specs.Entries.{sameName}
+use Rattle.disk_rules.specs.Calls.{formatted, saved, scratched, ontoDisk}
 
 -- a call, with the name and the image that it is given
 pub data Call : Type 0 where

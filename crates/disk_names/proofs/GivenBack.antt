@@ -10,10 +10,10 @@ use native.Mathlib.Omega.{arith}
 use lib.Dec.{T, eqb, leb, eqb→eq}
 use lib.ListN.{length, getD}
 use borrow.Author.Tests.{lt-leb, leb-true, leb-false}
-use Rattle.ascii.specs.Bytes.{between, upper}
-use Rattle.ascii.proofs.Ranges.{between-in}
-use Rattle.words.proofs.Search.{and-left, and-right}
-use Rattle.petscii.specs.ByteTexts.{hexDigits, hexByte}
+use Rattle.base_ascii.specs.Bytes.{between, upper}
+use Rattle.base_ascii.proofs.Ranges.{between-in}
+use Rattle.word_search.proofs.Search.{and-left, and-right}
+use Rattle.list_bytes.specs.ByteTexts.{hexDigits, hexByte}
 use Rattle.disk_names.specs.Names.{digitValue, byteForm, characterByte, nameBehind, nameGiven, isShown, byteShown, nameShown}
 use Rattle.disk_names.specs.declared.Form.{Form}
 use Rattle.disk_names.specs.declared.Form.the-variants.{Byte, Nothing}

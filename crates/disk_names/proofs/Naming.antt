@@ -10,11 +10,11 @@ use lib.Dec.{leb, eqb}
 use lib.ListN.{length, getD, take, drop, length-drop, drop-of-length-le}
 use lib.Seq.{drop-drop}
 use borrow.Author.Tests.{eq-eqb, ne-eqb, le-leb, lt-leb, leb-true}
-use Rattle.ascii.specs.Bytes.{between, upper, isDigit}
-use Rattle.ascii.proofs.Ranges.{between-in}
-use Rattle.ascii.proofs.Searching.{tail, here}
-use Rattle.sentences.specs.Clipped.{Clipped}
-use Rattle.sentences.proofs.Clipping.{Owes, owes-all, owes-less, owes-none}
+use Rattle.base_ascii.specs.Bytes.{between, upper, isDigit}
+use Rattle.base_ascii.proofs.Ranges.{between-in}
+use Rattle.base_ascii.proofs.Searching.{tail, here}
+use Rattle.say_sentences.specs.Clipped.{Clipped}
+use Rattle.say_sentences.proofs.Clipping.{Owes, owes-all, owes-less, owes-none}
 use Rattle.disk_names.specs.Names.{digitValue, byteForm, characterByte, nameBehind, nameGiven}
 use Rattle.disk_names.specs.declared.Form.{Form}
 use Rattle.disk_names.specs.declared.Form.the-variants.{Byte, Nothing}

@@ -10,12 +10,12 @@ use lib.ListN.{length, getD, drop, drop-of-length-le}
 use mir.Val.{Fits}
 use mir.Syntax.{w8}
 use borrow.Author.Tests.{eq-eqb, ne-eqb}
-use Rattle.ascii.specs.Bytes.{between}
-use Rattle.ascii.proofs.Searching.{here}
-use Rattle.petscii.specs.ByteTexts.{hexDigits, hexByte}
-use Rattle.petscii.proofs.ByteTexts.{hex-digits}
-use Rattle.sentences.specs.Clipped.{Clipped}
-use Rattle.sentences.proofs.Clipping.{Owes, owes-all, owes-less, owes-none, clip-as}
+use Rattle.base_ascii.specs.Bytes.{between}
+use Rattle.base_ascii.proofs.Searching.{here}
+use Rattle.list_bytes.specs.ByteTexts.{hexDigits, hexByte}
+use Rattle.list_bytes.proofs.ByteTexts.{hex-digits}
+use Rattle.say_sentences.specs.Clipped.{Clipped}
+use Rattle.say_sentences.proofs.Clipping.{Owes, owes-all, owes-less, owes-none, clip-as}
 use Rattle.disk_names.specs.Names.{isShown, byteShown, nameShown}
 
 -- ---- a byte

@@ -6,10 +6,10 @@ use mathlib.Core.List.{List}
 use native.Mathlib.Omega.{arith}
 use lib.ListN.{length, take, drop}
 use lib.Seq.{length-take-le}
-use Rattle.ascii.specs.Search.{equals, last}
-use Rattle.ascii.specs.declared.search.Found.{Found}
-use Rattle.ascii.specs.declared.search.Found.the-variants.{At, Nowhere}
-use Rattle.ascii.proofs.Searching.{last-within, tail}
+use Rattle.base_ascii.specs.Search.{equals, last}
+use Rattle.base_ascii.specs.declared.search.Found.{Found}
+use Rattle.base_ascii.specs.declared.search.Found.the-variants.{At, Nowhere}
+use Rattle.base_ascii.proofs.Searching.{last-within, tail}
 use Rattle.disk_names.specs.Words.{behindLast, beforeLast, givenText}
 
 pub part-behind : (word : List ℕ) (n : ℕ) → take (length word - (n + 1)) (drop (n + 1) word) ≡ drop (n + 1) word

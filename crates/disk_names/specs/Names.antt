@@ -7,8 +7,8 @@ use mathlib.Core.Bool.{Bool, true, false, cond, not, _&&_}
 use mathlib.Core.List.{List, [], _∷_, _++_}
 use lib.Dec.{leb, ltb, eqb}
 use lib.ListN.{length, getD}
-use Rattle.ascii.specs.Bytes.{between, upper, isDigit}
-use Rattle.petscii.specs.ByteTexts.{hexByte}
+use Rattle.base_ascii.specs.Bytes.{between, upper, isDigit}
+use Rattle.list_bytes.specs.ByteTexts.{hexByte}
 use Rattle.disk_names.specs.declared.Form.{Form}
 use Rattle.disk_names.specs.declared.Form.the-variants.{Byte, Nothing}
 

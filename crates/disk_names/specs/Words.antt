@@ -4,8 +4,8 @@
 use Prim.Native.Nat.{ℕ, _+_}
 use mathlib.Core.List.{List}
 use lib.ListN.{take, drop}
-use Rattle.ascii.specs.Search.{equals, last}
-use Rattle.ascii.specs.declared.search.Found.the-variants.{At, Nowhere}
+use Rattle.base_ascii.specs.Search.{equals, last}
+use Rattle.base_ascii.specs.declared.search.Found.the-variants.{At, Nowhere}
 
 -- what stands behind a word's last mark, or before it; the word where it has none
 unfoldable pub behindLast : ℕ → List ℕ → List ℕ

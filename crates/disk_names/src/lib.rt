@@ -1,13 +1,13 @@
 // Names of files on a disk as they are given on a command line, and as they are shown there.
-use ascii::search;
-use ascii::search::Found;
-use ascii::search::Kind;
-use petscii::hex_digit;
-use sentences::put::put_text;
+use base_ascii::search;
+use base_ascii::search::Found;
+use base_ascii::search::Kind;
+use list_bytes::hex_digit;
+use say_sentences::put::put_text;
 ghost use mathlib.Core.Path.{_≡_};
 ghost use Prim.Native.Nat.{_+_, _≤_, _<_};
 ghost use lib.ListN.{length, drop};
-ghost use Rattle.sentences.specs.Clipped.{Clipped};
+ghost use Rattle.say_sentences.specs.Clipped.{Clipped};
 ghost use Rattle.disk_names.specs.Names.{digitValue, byteForm, characterByte, nameGiven, isShown, byteShown, nameShown};
 ghost use Rattle.disk_names.specs.Words.{behindLast, beforeLast, givenFile, givenText};
 
@@ -21,11 +21,11 @@ pub enum Form {
 fn digit_value(b: u8) -> u8
     ensures { λ r. ⌜ r ≡ digitValue b ⌝ }
 {
-    if ascii::is_digit(b) {
+    if base_ascii::is_digit(b) {
         return b - 48;
     }
-    let capital = ascii::upper(b);
-    if ascii::between(65, 70, capital) {
+    let capital = base_ascii::upper(b);
+    if base_ascii::between(65, 70, capital) {
         return capital - 55;
     }
     16
@@ -58,8 +58,8 @@ fn byte_form(s: &[u8]) -> Form
 fn character(b: u8) -> u8
     ensures { λ r. ⌜ r ≡ characterByte b ⌝ }
 {
-    let capital = ascii::upper(b);
-    if ascii::between(0x20, 0x5F, capital) {
+    let capital = base_ascii::upper(b);
+    if base_ascii::between(0x20, 0x5F, capital) {
         return capital;
     }
     0xA0
@@ -93,7 +93,7 @@ fn is_shown(b: u8) -> bool
     if b == 0x3D {
         return false;
     }
-    ascii::between(0x20, 0x5F, b)
+    base_ascii::between(0x20, 0x5F, b)
 }
 
 // Stores a byte of a name as it is shown.

@@ -7,16 +7,16 @@ use mathlib.Core.List.{List, [], _∷_}
 use mathlib.Core.Option.{Option, none, some}
 use native.Mathlib.Omega.{arith}
 use lib.ListN.{length, length-take, length-drop}
-use Rattle.ascii.specs.Bytes.{isLetter, isSpace}
-use Rattle.ascii.specs.Search.{equals, other, front, before, past, last, pastEnd}
-use Rattle.ascii.specs.declared.search.Found.{Found}
-use Rattle.ascii.specs.declared.search.Found.the-variants.{At, Nowhere}
-use Rattle.ascii.proofs.Searching.{front-le, front-drop, before-take, end-take}
-use Rattle.ascii.specs.Trim.{trim}
-use Rattle.words.specs.Find.{nameIn, meaning}
-use Rattle.words.specs.declared.Match.{Match}
-use Rattle.words.specs.declared.Match.the-variants.{Word, Nothing}
-use Rattle.tables.specs.Escapes.{escapeNames}
+use Rattle.base_ascii.specs.Bytes.{isLetter, isSpace}
+use Rattle.base_ascii.specs.Search.{equals, other, front, before, past, last, pastEnd}
+use Rattle.base_ascii.specs.declared.search.Found.{Found}
+use Rattle.base_ascii.specs.declared.search.Found.the-variants.{At, Nowhere}
+use Rattle.base_ascii.proofs.Searching.{front-le, front-drop, before-take, end-take}
+use Rattle.base_ascii.specs.Trim.{trim}
+use Rattle.word_search.specs.Find.{nameIn, meaning}
+use Rattle.word_search.specs.declared.Match.{Match}
+use Rattle.word_search.specs.declared.Match.the-variants.{Word, Nothing}
+use Rattle.word_tables.specs.Escapes.{escapeNames}
 use Rattle.escape_numbers.specs.Numbers.{numberOf, hexOf}
 use Rattle.escape_bytes.specs.Keys.{keyNames, keyWith, keyed, keyEscape}
 use Rattle.escape_bytes.specs.Escape.{nameEscape, starred, countedName, countedEscape, escapeOf}

@@ -8,17 +8,17 @@ use native.Mathlib.Omega.{arith}
 use lib.Dec.{eqb, ltb}
 use lib.ListN.{length}
 use borrow.Author.Tests.{eq-eqb, ne-eqb, eqb-true, le-ltb}
-use Rattle.ascii.specs.Bytes.{between, isDigit, upper}
-use Rattle.ascii.specs.Trim.{trim}
-use Rattle.ascii.proofs.Ranges.{between-in}
-use Rattle.words.specs.Compare.{begins, alike, same, passes}
-use Rattle.words.specs.Find.{Entry, firstThat, nameIn}
-use Rattle.words.specs.declared.Match.{Match}
-use Rattle.words.specs.declared.Match.the-variants.{Word, Nothing}
-use Rattle.words.specs.declared.Test.the-variants.{Alike}
-use Rattle.words.proofs.Sameness.{same-eq}
-use Rattle.tables.specs.Escapes.{escapeNames, recoded, rustNames}
-use Rattle.words.specs.Spelling.{bytesOf}
+use Rattle.base_ascii.specs.Bytes.{between, isDigit, upper}
+use Rattle.base_ascii.specs.Trim.{trim}
+use Rattle.base_ascii.proofs.Ranges.{between-in}
+use Rattle.word_search.specs.Compare.{begins, alike, same, passes}
+use Rattle.word_search.specs.Find.{Entry, firstThat, nameIn}
+use Rattle.word_search.specs.declared.Match.{Match}
+use Rattle.word_search.specs.declared.Match.the-variants.{Word, Nothing}
+use Rattle.word_search.specs.declared.Test.the-variants.{Alike}
+use Rattle.word_search.proofs.Sameness.{same-eq}
+use Rattle.word_tables.specs.Escapes.{escapeNames, recoded, rustNames}
+use Rattle.word_search.specs.Spelling.{bytesOf}
 use Rattle.escape_numbers.specs.Numbers.{numberAfter, numberOf, hexOf}
 use Rattle.escape_bytes.specs.Keys.{keyEscape}
 use Rattle.escape_bytes.specs.Escape.{nameEscapeIn, nameEscape, Counted, countedName, escapeIn, escapeOf}

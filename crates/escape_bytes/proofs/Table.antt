@@ -2,14 +2,14 @@
 -- Assumes nothing.
 use Prim.Native.String.{String}
 use mathlib.Core.Path.{_≡_, refl}
-use Rattle.ascii.specs.Bytes.{between, upper}
-use Rattle.ascii.specs.Search.{before, last}
-use Rattle.ascii.specs.Trim.{trim}
-use Rattle.words.specs.Compare.{begins, alike}
-use Rattle.words.specs.Find.{firstThat, nameIn, meaning}
-use Rattle.words.specs.Spelling.{bytesOf}
-use Rattle.tables.specs.Escapes.{escapeNames}
-use Rattle.keyboard.specs.KeyCodes.{cbmLetters, ctrlDigits}
+use Rattle.base_ascii.specs.Bytes.{between, upper}
+use Rattle.base_ascii.specs.Search.{before, last}
+use Rattle.base_ascii.specs.Trim.{trim}
+use Rattle.word_search.specs.Compare.{begins, alike}
+use Rattle.word_search.specs.Find.{firstThat, nameIn, meaning}
+use Rattle.word_search.specs.Spelling.{bytesOf}
+use Rattle.word_tables.specs.Escapes.{escapeNames}
+use Rattle.escape_keys.specs.KeyCodes.{cbmLetters, ctrlDigits}
 use Rattle.escape_numbers.specs.Numbers.{digitOf, numberAfter, numberOf, hexOf, unsigned, countOf}
 use Rattle.escape_bytes.specs.Keys.{keyNames, controlByte, keyWith, keyed, keyEscape}
 use Rattle.escape_bytes.specs.Escape.{nameEscape, repeated, starred, countedName, escapeOf}

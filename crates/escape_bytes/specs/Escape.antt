@@ -3,12 +3,12 @@
 use Prim.Native.Nat.{ℕ, zero, suc}
 use mathlib.Core.List.{List, [], _∷_}
 use lib.ListN.{take, drop}
-use Rattle.ascii.specs.Trim.{trim}
-use Rattle.ascii.specs.Search.{equals, last}
-use Rattle.ascii.specs.declared.search.Found.the-variants.{At, Nowhere}
-use Rattle.words.specs.Find.{Entry, nameIn}
-use Rattle.words.specs.declared.Match.the-variants.{Word, Nothing}
-use Rattle.tables.specs.Escapes.{escapeNames}
+use Rattle.base_ascii.specs.Trim.{trim}
+use Rattle.base_ascii.specs.Search.{equals, last}
+use Rattle.base_ascii.specs.declared.search.Found.the-variants.{At, Nowhere}
+use Rattle.word_search.specs.Find.{Entry, nameIn}
+use Rattle.word_search.specs.declared.Match.the-variants.{Word, Nothing}
+use Rattle.word_tables.specs.Escapes.{escapeNames}
 use Rattle.escape_numbers.specs.Numbers.{numberOf, hexOf, countOf}
 use Rattle.escape_bytes.specs.Keys.{keyEscape}
 use Rattle.escape_numbers.specs.declared.Number.{Number}

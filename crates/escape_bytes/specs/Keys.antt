@@ -6,12 +6,12 @@ use mathlib.Core.Bool.{true, false, cond}
 use mathlib.Core.List.{List, [], _∷_}
 use mathlib.Core.Option.{none, some}
 use lib.ListN.{take, drop, getD}
-use Rattle.ascii.specs.Bytes.{isDigit, isLetter, upper}
-use Rattle.ascii.specs.Search.{isMark, before}
-use Rattle.ascii.specs.Trim.{trim}
-use Rattle.words.specs.Find.{Name, meaning}
-use Rattle.words.specs.Spelling.{_means_}
-use Rattle.keyboard.specs.KeyCodes.{cbmLetters, ctrlDigits}
+use Rattle.base_ascii.specs.Bytes.{isDigit, isLetter, upper}
+use Rattle.base_ascii.specs.Search.{isMark, before}
+use Rattle.base_ascii.specs.Trim.{trim}
+use Rattle.word_search.specs.Find.{Name, meaning}
+use Rattle.word_search.specs.Spelling.{_means_}
+use Rattle.escape_keys.specs.KeyCodes.{cbmLetters, ctrlDigits}
 use Rattle.escape_bytes.specs.declared.Key.{Key}
 use Rattle.escape_bytes.specs.declared.Key.the-variants.{Control, Commodore, Shift}
 use Rattle.escape_bytes.specs.declared.Escape.{Escape}

@@ -19,11 +19,11 @@ pub enum Key {
 fn control_byte(b: u8) -> u8
     ensures { λ r. ⌜ r ≡ controlByte b ⌝ }
 {
-    if ascii::is_digit(b) {
-        return keyboard::ctrl_digit_byte(ascii::wide(b - 48));
+    if base_ascii::is_digit(b) {
+        return escape_keys::ctrl_digit_byte(base_ascii::wide(b - 48));
     }
-    if ascii::is_letter(b) {
-        return ascii::upper(b) - 64;
+    if base_ascii::is_letter(b) {
+        return base_ascii::upper(b) - 64;
     }
     b % 32
 }
@@ -32,11 +32,11 @@ fn control_byte(b: u8) -> u8
 fn commodore_with(b: u8, count: u64) -> Escape
     ensures { λ r. ⌜ r ≡ keyWith Commodore b count ⌝ }
 {
-    if !ascii::is_letter(b) {
+    if !base_ascii::is_letter(b) {
         return Escape::Unknown;
     }
     Escape::Byte {
-        byte: keyboard::cbm_letter_byte(ascii::wide(ascii::upper(b) - 65)),
+        byte: escape_keys::cbm_letter_byte(base_ascii::wide(base_ascii::upper(b) - 65)),
         count,
     }
 }
@@ -45,11 +45,11 @@ fn commodore_with(b: u8, count: u64) -> Escape
 fn shift_with(b: u8, count: u64) -> Escape
     ensures { λ r. ⌜ r ≡ keyWith Shift b count ⌝ }
 {
-    if !ascii::is_letter(b) {
+    if !base_ascii::is_letter(b) {
         return Escape::Unknown;
     }
     Escape::Byte {
-        byte: 0xC0 + (ascii::upper(b) - 64),
+        byte: 0xC0 + (base_ascii::upper(b) - 64),
         count,
     }
 }

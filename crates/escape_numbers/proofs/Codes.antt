@@ -7,8 +7,8 @@ use native.Mathlib.Omega.{arith}
 use borrow.Author.Tests.{not-false}
 use mir.Syntax.{w8}
 use mir.Val.{Fits}
-use Rattle.ascii.specs.Bytes.{isDigit, isLetter, upper}
-use Rattle.ascii.proofs.Ranges.{between-in}
+use Rattle.base_ascii.specs.Bytes.{isDigit, isLetter, upper}
+use Rattle.base_ascii.proofs.Ranges.{between-in}
 
 module _ (b : ℕ) {r : Bool} where
   pub digit-low : r ≡ true → r ≡ isDigit b → 48 ≤ b

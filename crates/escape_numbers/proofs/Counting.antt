@@ -8,11 +8,11 @@ use native.Mathlib.Omega.{arith}
 use lib.ListN.{length, getD, take, drop}
 use lib.Dec.{ltb, eqb}
 use borrow.Author.Tests.{le-ltb}
-use Rattle.ascii.specs.Bytes.{between, isDigit, isLetter, isSpace, upper}
-use Rattle.ascii.specs.Search.{front, past}
-use Rattle.ascii.specs.Trim.{trim}
-use Rattle.ascii.proofs.Ranges.{between-in}
-use Rattle.ascii.proofs.Searching.{end-whole}
+use Rattle.base_ascii.specs.Bytes.{between, isDigit, isLetter, isSpace, upper}
+use Rattle.base_ascii.specs.Search.{front, past}
+use Rattle.base_ascii.specs.Trim.{trim}
+use Rattle.base_ascii.proofs.Ranges.{between-in}
+use Rattle.base_ascii.proofs.Searching.{end-whole}
 use Rattle.escape_numbers.specs.Numbers.{digitOf, numberAfter, numberOf, unsigned, countOf}
 use Rattle.escape_numbers.specs.NumbersHelpers.{lastFrom, lastOf, countable}
 use Rattle.escape_numbers.specs.declared.Number.the-variants.{Missing}

@@ -13,8 +13,8 @@ use lib.Dec.{leb, ltb, eqb}
 use borrow.Author.Tests.{lt-ltb, le-ltb, le-leb, lt-leb, leb-true, eq-eqb, ne-eqb}
 use mir.Syntax.{w8}
 use mir.Val.{Fits}
-use Rattle.ascii.specs.Bytes.{isDigit, isLetter, upper}
-use Rattle.ascii.proofs.Searching.{tail}
+use Rattle.base_ascii.specs.Bytes.{isDigit, isLetter, upper}
+use Rattle.base_ascii.proofs.Searching.{tail}
 use Rattle.escape_numbers.specs.Numbers.{digitOf, numberAfter, numberOf, hexOf, unsigned, countOf}
 use Rattle.escape_numbers.specs.declared.Number.{Number}
 use Rattle.escape_numbers.specs.declared.Number.the-variants.{Value, Missing}

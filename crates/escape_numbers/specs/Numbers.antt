@@ -5,7 +5,7 @@ use Prim.Native.Nat.{ℕ, _+_, _-_, _*_, _^_}
 use mathlib.Core.Bool.{true, false, cond}
 use mathlib.Core.List.{List, [], _∷_}
 use lib.Dec.{leb, ltb, eqb}
-use Rattle.ascii.specs.Bytes.{isDigit, isLetter, upper}
+use Rattle.base_ascii.specs.Bytes.{isDigit, isLetter, upper}
 use Rattle.escape_numbers.specs.declared.Number.{Number}
 use Rattle.escape_numbers.specs.declared.Number.the-variants.{Value, Missing}
 

@@ -3,7 +3,7 @@
 use Prim.Native.Nat.{ℕ}
 use mathlib.Core.Bool.{Bool, _||_}
 use mathlib.Core.List.{List, [], _∷_}
-use Rattle.ascii.specs.Bytes.{isDigit, isSpace}
+use Rattle.base_ascii.specs.Bytes.{isDigit, isSpace}
 
 -- the last byte of one and those that follow it
 unfoldable pub lastFrom : ℕ → List ℕ → ℕ

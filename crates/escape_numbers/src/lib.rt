@@ -13,11 +13,11 @@ pub enum Number {
 fn digit_of(b: u8) -> u64
     ensures { λ r. ⌜ r ≡ digitOf b ⌝ }
 {
-    if ascii::is_digit(b) {
+    if base_ascii::is_digit(b) {
         return (b - 48) as u64;
     }
-    if ascii::is_letter(b) {
-        return (ascii::upper(b) - 55) as u64;
+    if base_ascii::is_letter(b) {
+        return (base_ascii::upper(b) - 55) as u64;
     }
     36
 }
@@ -85,8 +85,8 @@ pub fn may_end_in_count(text: &[u8]) -> bool
         return false;
     }
     let last = text[n - 1];
-    if ascii::is_digit(last) {
+    if base_ascii::is_digit(last) {
         return true;
     }
-    ascii::is_space(last)
+    base_ascii::is_space(last)
 }

@@ -12,18 +12,18 @@ use lib.ListN.{length, getD, take, drop, drop-of-length-le}
 use lib.Seq.{length-take-le}
 use lib.Dec.{T, eqb, ltb, ltb→lt}
 use borrow.Author.Tests.{eq-eqb, ne-eqb, not-true}
-use Rattle.ascii.specs.Bytes.{upper}
-use Rattle.ascii.proofs.Choice.{left}
-use Rattle.ascii.specs.Search.{isMark, before}
-use Rattle.ascii.proofs.Searching.{before-le, before-take, tail}
-use Rattle.ascii.specs.Trim.{trim}
-use Rattle.words.specs.Compare.{begins, alike}
-use Rattle.words.specs.Find.{Name, meaning}
-use Rattle.words.specs.RunHelpers.{passesAt, firstFrom}
-use Rattle.words.specs.declared.Test.the-variants.{Alike}
-use Rattle.words.proofs.Storing.{spellsNames, name-means, name-unknown}
-use Rattle.words.proofs.Search.{and-left, and-right}
-use Rattle.words.proofs.Sameness.{T-true}
+use Rattle.base_ascii.specs.Bytes.{upper}
+use Rattle.base_ascii.proofs.Choice.{left}
+use Rattle.base_ascii.specs.Search.{isMark, before}
+use Rattle.base_ascii.proofs.Searching.{before-le, before-take, tail}
+use Rattle.base_ascii.specs.Trim.{trim}
+use Rattle.word_search.specs.Compare.{begins, alike}
+use Rattle.word_search.specs.Find.{Name, meaning}
+use Rattle.word_search.specs.RunHelpers.{passesAt, firstFrom}
+use Rattle.word_search.specs.declared.Test.the-variants.{Alike}
+use Rattle.word_search.proofs.Storing.{spellsNames, name-means, name-unknown}
+use Rattle.word_search.proofs.Search.{and-left, and-right}
+use Rattle.word_search.proofs.Sameness.{T-true}
 use Rattle.escape_bytes.specs.Keys.{keyNames, keyWith, keyed, keyEscape}
 use Rattle.escape_bytes.specs.declared.Key.{Key}
 use Rattle.escape_bytes.specs.declared.Key.the-variants.{Control}

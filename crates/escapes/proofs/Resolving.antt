@@ -6,14 +6,14 @@ use mathlib.Core.List.{List, [], _∷_}
 use native.Mathlib.Omega.{arith}
 use lib.ListN.{length, take}
 use lib.Seq.{length-take-le}
-use Rattle.ascii.specs.Search.{equals, last}
-use Rattle.ascii.specs.declared.search.Found.{Found}
-use Rattle.ascii.specs.declared.search.Found.the-variants.{At}
-use Rattle.ascii.proofs.Searching.{last-within}
-use Rattle.words.specs.Find.{nameIn}
-use Rattle.words.specs.declared.Match.{Match}
-use Rattle.words.specs.declared.Match.the-variants.{Word, Nothing}
-use Rattle.tables.specs.Escapes.{escapeNames}
+use Rattle.base_ascii.specs.Search.{equals, last}
+use Rattle.base_ascii.specs.declared.search.Found.{Found}
+use Rattle.base_ascii.specs.declared.search.Found.the-variants.{At}
+use Rattle.base_ascii.proofs.Searching.{last-within}
+use Rattle.word_search.specs.Find.{nameIn}
+use Rattle.word_search.specs.declared.Match.{Match}
+use Rattle.word_search.specs.declared.Match.the-variants.{Word, Nothing}
+use Rattle.word_tables.specs.Escapes.{escapeNames}
 use Rattle.escape_numbers.specs.Numbers.{numberOf, hexOf}
 use Rattle.escape_bytes.specs.Keys.{keyEscape}
 use Rattle.escape_bytes.specs.Escape.{nameEscape}

@@ -11,13 +11,13 @@ use lib.Dec.{eqb, ltb}
 use lib.ListN.{length, take, drop, length-take, drop-of-length-le}
 use lib.Seq.{take-all, take-take, length-take-le, drop-drop}
 use borrow.Author.Tests.{eqb-true, lt-ltb, le-ltb, not-true}
-use Rattle.ascii.specs.Bytes.{between, isSpace}
-use Rattle.ascii.specs.Search.{equals, front, past, last, pastEnd}
-use Rattle.ascii.specs.Trim.{trim}
-use Rattle.ascii.specs.declared.search.Found.{Found}
-use Rattle.ascii.specs.declared.search.Found.the-variants.{At, Nowhere}
-use Rattle.ascii.proofs.Laws.{trim-space}
-use Rattle.ascii.proofs.Searching.{tail, front-more, front-none, front-le, front-take, end-take, end-le, last-within, Behind}
+use Rattle.base_ascii.specs.Bytes.{between, isSpace}
+use Rattle.base_ascii.specs.Search.{equals, front, past, last, pastEnd}
+use Rattle.base_ascii.specs.Trim.{trim}
+use Rattle.base_ascii.specs.declared.search.Found.{Found}
+use Rattle.base_ascii.specs.declared.search.Found.the-variants.{At, Nowhere}
+use Rattle.base_ascii.proofs.Laws.{trim-space}
+use Rattle.base_ascii.proofs.Searching.{tail, front-more, front-none, front-le, front-take, end-take, end-le, last-within, Behind}
 use Rattle.escape_numbers.specs.Numbers.{countOf}
 use Rattle.escape_numbers.specs.NumbersHelpers.{countable}
 use Rattle.escape_bytes.specs.Escape.{Counted, nameEscape, repeated, starred, countedName, countedEscape, escapeOf}

@@ -4,7 +4,7 @@ use Prim.Native.Nat.{ℕ}
 use mathlib.Core.Bool.{Bool, false, _||_}
 use mathlib.Core.List.{List, [], _∷_}
 use lib.Dec.{eqb}
-use Rattle.ascii.specs.Bytes.{upper}
+use Rattle.base_ascii.specs.Bytes.{upper}
 
 abbrev pub isKeyLetter : ℕ → Bool
 isKeyLetter b = eqb b 0x43 || eqb b 0x53

@@ -7,9 +7,9 @@ use mathlib.Core.Bool.{true, false}
 use mathlib.Core.List.{List}
 use lib.Dec.{ltb}
 use lib.ListN.{length, take, drop}
-use Rattle.ascii.specs.Bytes.{isSpace}
-use Rattle.ascii.specs.Search.{past, pastEnd}
-use Rattle.ascii.specs.Trim.{trim}
+use Rattle.base_ascii.specs.Bytes.{isSpace}
+use Rattle.base_ascii.specs.Search.{past, pastEnd}
+use Rattle.base_ascii.specs.Trim.{trim}
 use Rattle.escape_bytes.specs.Escape.{escapeOf, nameEscape}
 use Rattle.escape_numbers.specs.Numbers.{countOf}
 use Rattle.escape_bytes.specs.declared.Escape.{Escape}

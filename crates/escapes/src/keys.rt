@@ -1,10 +1,10 @@
 // Escapes that name a key to be held, and one byte.
-use ascii::search;
-use ascii::search::Kind;
+use base_ascii::search;
+use base_ascii::search::Kind;
 use escape_bytes::Escape;
 use escape_bytes::Key;
-use words::Section;
-use words::Test;
+use word_search::Section;
+use word_search::Test;
 ghost use mathlib.Core.Path.{_≡_};
 ghost use mathlib.Core.List.{[], _∷_};
 ghost use Prim.Native.Nat.{_<_, min};
@@ -38,7 +38,7 @@ fn at_most_eight(n: usize) -> usize
 fn prefixed(prefix: &[u8], b: u8, count: u64) -> Escape
     ensures { λ r. ⌜ r ≡ keyed (now (prefix .entry)) (b ∷ []) count ⌝ }
 {
-    let k = words::first_passing(
+    let k = word_search::first_passing(
         Test::Alike,
         prefix,
         &KEY_BYTES,
@@ -59,7 +59,7 @@ fn begins_key(name: &[u8]) -> bool
     if name.len() == 0 {
         return false;
     }
-    let first = ascii::upper(name[0]);
+    let first = base_ascii::upper(name[0]);
     if first == b'C' {
         return true;
     }
@@ -80,7 +80,7 @@ pub fn key_escape(name: &[u8], count: u64) -> Escape
         return Escape::Unknown;
     }
     let from = mark + 1;
-    let argument = ascii::trim(&name[from..]);
+    let argument = base_ascii::trim(&name[from..]);
     if argument.len() != 1 {
         return Escape::Unknown;
     }

@@ -1,17 +1,17 @@
 // What stands between braces in a string: a byte and how often it is repeated, or nothing known.
-use ascii::search;
-use ascii::search::Found;
-use ascii::search::Kind;
+use base_ascii::search;
+use base_ascii::search::Found;
+use base_ascii::search::Kind;
 use escape_bytes::Escape;
 use escape_numbers::Number;
-use tables::spellings;
-use words::Match;
+use word_search::Match;
+use word_tables::spellings;
 ghost use mathlib.Core.Path.{_≡_};
 ghost use Prim.Native.Nat.{_≤_, _<_};
 ghost use lib.ListN.{length, take, drop};
-ghost use Rattle.ascii.specs.Bytes.{isSpace};
-ghost use Rattle.ascii.specs.Search.{past};
-ghost use Rattle.tables.specs.WordsHelpers.{SpellsWords};
+ghost use Rattle.base_ascii.specs.Bytes.{isSpace};
+ghost use Rattle.base_ascii.specs.Search.{past};
+ghost use Rattle.word_tables.specs.WordsHelpers.{SpellsWords};
 ghost use Rattle.escape_bytes.specs.Escape.{escapeOf, nameEscape};
 ghost use Rattle.escapes.specs.TailHelpers.{TailOf, wholeTail, starredTail};
 
@@ -47,7 +47,7 @@ pub fn resolve_petscii_escape(inside: &[u8], bytes: &[u8], index: &[u16]) -> Esc
 pub fn tail_of(inside: &[u8]) -> Tail
     ensures { λ r. ⌜ TailOf (now (inside .entry)) r ⌝ }
 {
-    let end = ascii::solid_length(inside);
+    let end = base_ascii::solid_length(inside);
     let text = &inside[..end];
     // A count ends in a digit: most escapes have none, and no `*` is looked for.
     if !escape_numbers::may_end_in_count(text) {
@@ -77,7 +77,7 @@ fn starred_tail(text: &[u8], star: usize) -> Tail
     ensures { λ r. ⌜ r ≡ starredTail (now (text .entry)) star ⌝ }
 {
     let from = star + 1;
-    match escape_numbers::count_of(ascii::trim(&text[from..])) {
+    match escape_numbers::count_of(base_ascii::trim(&text[from..])) {
         Number::Value(count) => {
             if count == 0 {
                 return whole(text.len());
@@ -85,7 +85,7 @@ fn starred_tail(text: &[u8], star: usize) -> Tail
             Tail {
                 end: text.len(),
                 star: from,
-                name: ascii::solid_length(&text[..star]),
+                name: base_ascii::solid_length(&text[..star]),
                 count,
             }
         }
@@ -113,7 +113,7 @@ fn part(text: &[u8], from: usize, to: usize) -> &[u8]
         return &text[..0];
     }
     let rest = &text[from..to];
-    let blanks = ascii::leading_space(rest);
+    let blanks = base_ascii::leading_space(rest);
     &rest[blanks..]
 }
 
@@ -135,7 +135,7 @@ fn resolve_name(name: &[u8], count: u64, bytes: &[u8], index: &[u16]) -> Escape
                 byte: v as u8,
                 count,
             },
-            Number::Missing => match matching::match_escape(name, bytes, index) {
+            Number::Missing => match word_match::match_escape(name, bytes, index) {
                 Match::Word {
                     index: _,
                     used: _,

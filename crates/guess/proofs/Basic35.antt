@@ -6,12 +6,12 @@ use mathlib.Core.Path.{_≡_, refl}
 use mathlib.Core.Bool.{Bool, true, false}
 use mathlib.Core.List.{List}
 use native.Mathlib.Omega.{arith}
-use Rattle.refusals.specs.Answer.{Answer, done, refused, andThen}
-use Rattle.dialect.specs.Dialects.{isBasic35}
-use Rattle.dialect.specs.declared.Dialect.{Dialect}
-use Rattle.dialect.specs.declared.Dialect.the-variants.{Auto, BasicV2, Tsb, Basic35}
-use Rattle.matching.specs.declared.sets.Sets.{Sets}
-use Rattle.domain.specs.Domain.{checkedText}
+use Rattle.base_refusals.specs.Answer.{Answer, done, refused, andThen}
+use Rattle.word_dialects.specs.Dialects.{isBasic35}
+use Rattle.word_dialects.specs.declared.Dialect.{Dialect}
+use Rattle.word_dialects.specs.declared.Dialect.the-variants.{Auto, BasicV2, Tsb, Basic35}
+use Rattle.word_match.specs.declared.sets.Sets.{Sets}
+use Rattle.text_domain.specs.Domain.{checkedText}
 use Rattle.text_lines.specs.declared.LineRule.the-variants.{AsGiven, AfterCr}
 use Rattle.guess.specs.Guess.{evidence, noneDemoted, guessedDialect, resolved, wordSets}
 

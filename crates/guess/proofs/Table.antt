@@ -4,13 +4,13 @@ use Prim.Native.Nat.{ℕ}
 use mathlib.Core.Path.{_≡_, refl}
 use mathlib.Core.Bool.{Bool, true, false}
 use mathlib.Core.List.{List, [], _∷_, _++_}
-use Rattle.ascii.specs.Bytes.{between, upper}
-use Rattle.words.specs.Find.{Entry}
-use Rattle.refusals.specs.Answer.{Answer, done}
-use Rattle.words.specs.Spelling.{bytesOf}
-use Rattle.tables.specs.Tsb.{tsbWords}
-use Rattle.dialect.specs.declared.Dialect.{Dialect}
-use Rattle.dialect.specs.declared.Dialect.the-variants.{Auto, BasicV2, Tsb}
+use Rattle.base_ascii.specs.Bytes.{between, upper}
+use Rattle.word_search.specs.Find.{Entry}
+use Rattle.base_refusals.specs.Answer.{Answer, done}
+use Rattle.word_search.specs.Spelling.{bytesOf}
+use Rattle.word_tables.specs.Tsb.{tsbWords}
+use Rattle.word_dialects.specs.declared.Dialect.{Dialect}
+use Rattle.word_dialects.specs.declared.Dialect.the-variants.{Auto, BasicV2, Tsb}
 use Rattle.text_lines.specs.declared.LineRule.the-variants.{AsGiven, AfterCr}
 use Rattle.guess.specs.Guess.{evidence, names, resolved, wordSets}
 

@@ -6,25 +6,25 @@ use mathlib.Core.Bool.{Bool, true, false}
 use mathlib.Core.List.{List, [], _∷_}
 use native.Mathlib.Omega.{arith}
 use lib.ListN.{length, take, drop}
-use Rattle.refusals.specs.Answer.{Answer, done, refused, numbered}
-use Rattle.refusals.specs.declared.Refusal.{Refusal}
-use Rattle.dialect.specs.Dialects.{isBasic35}
-use Rattle.dialect.specs.declared.Dialect.{Dialect}
-use Rattle.dialect.specs.declared.Dialect.the-variants.{Auto, BasicV2, Tsb, Basic35}
-use Rattle.domain.specs.Domain.{checkedText, textCheckAnswer}
+use Rattle.base_refusals.specs.Answer.{Answer, done, refused, numbered}
+use Rattle.base_refusals.specs.declared.Refusal.{Refusal}
+use Rattle.word_dialects.specs.Dialects.{isBasic35}
+use Rattle.word_dialects.specs.declared.Dialect.{Dialect}
+use Rattle.word_dialects.specs.declared.Dialect.the-variants.{Auto, BasicV2, Tsb, Basic35}
+use Rattle.text_domain.specs.Domain.{checkedText, textCheckAnswer}
 use Rattle.text_lines.specs.SplitHelpers.{lineFrom}
 use Rattle.text_lines.specs.TextLines.{textLines}
-use Rattle.domain.specs.declared.TextCheck.{TextCheck}
-use Rattle.domain.specs.declared.TextCheck.the-variants.{Fine, Refused}
+use Rattle.text_domain.specs.declared.TextCheck.{TextCheck}
+use Rattle.text_domain.specs.declared.TextCheck.the-variants.{Fine, Refused}
 use Rattle.text_lines.specs.declared.LineRule.{LineRule}
 use Rattle.text_lines.specs.declared.LineRule.the-variants.{AsGiven, AfterCr}
 use Rattle.text_lines.specs.declared.TextLine.{TextLine}
 use Rattle.text_lines.proofs.Splitting.{line-step, lines-end, line-behind}
-use Rattle.ascii.proofs.Choice.{taken, left}
-use Rattle.evidence_scan.specs.Evidence.{lineEvidence}
-use Rattle.variable_scan.specs.Variables.{lineNames}
+use Rattle.base_ascii.proofs.Choice.{taken, left}
+use Rattle.guess_evidence.specs.Evidence.{lineEvidence}
+use Rattle.guess_variables.specs.Variables.{lineNames}
 use Rattle.guess.specs.Guess.{anyEvidence, evidence, allNames, noneDemoted, names, guessedDialect, resolved, wordSets}
-use Rattle.evidence_scan.proofs.Steps.{evidence-blank}
+use Rattle.guess_evidence.proofs.Steps.{evidence-blank}
 
 -- ---- evidence
 

@@ -3,9 +3,9 @@
 use Prim.Native.Nat.{ℕ}
 use mathlib.Core.Path.{_≡_, refl, sym, ap, _∙_}
 use mathlib.Core.List.{List}
-use Rattle.refusals.specs.Answer.{Answer, done, refused}
-use Rattle.refusals.proofs.Tight.{named, named-numbered, tells-apart}
-use Rattle.dialect.specs.declared.Dialect.{Dialect}
+use Rattle.base_refusals.specs.Answer.{Answer, done, refused}
+use Rattle.base_refusals.proofs.Tight.{named, named-numbered, tells-apart}
+use Rattle.word_dialects.specs.declared.Dialect.{Dialect}
 use Rattle.guess.specs.Guess.{resolved, resolvedAnswer}
 use Rattle.guess.specs.declared.resolve.Resolved.{Resolved}
 use Rattle.guess.specs.declared.resolve.Resolved.the-variants.{Is, Refused}

@@ -6,16 +6,16 @@ use mathlib.Core.Path.{_≡_}
 use mathlib.Core.Bool.{Bool, true, false}
 use mathlib.Core.List.{List, [], _∷_}
 use lib.ListN.{replicate}
-use Rattle.refusals.specs.Answer.{Answer, done, refused, numbered, andThen}
-use Rattle.dialect.specs.declared.Dialect.{Dialect}
-use Rattle.dialect.specs.declared.Dialect.the-variants.{Auto, BasicV2, Tsb, Basic35}
-use Rattle.matching.specs.declared.sets.Sets.{Sets}
-use Rattle.domain.specs.Domain.{checkedText}
+use Rattle.base_refusals.specs.Answer.{Answer, done, refused, numbered, andThen}
+use Rattle.word_dialects.specs.declared.Dialect.{Dialect}
+use Rattle.word_dialects.specs.declared.Dialect.the-variants.{Auto, BasicV2, Tsb, Basic35}
+use Rattle.word_match.specs.declared.sets.Sets.{Sets}
+use Rattle.text_domain.specs.Domain.{checkedText}
 use Rattle.text_lines.specs.TextLines.{textLines}
 use Rattle.text_lines.specs.declared.LineRule.{LineRule}
 use Rattle.text_lines.specs.declared.LineRule.the-variants.{AsGiven, AfterCr}
-use Rattle.evidence_scan.specs.Evidence.{lineEvidence}
-use Rattle.variable_scan.specs.Variables.{lineNames}
+use Rattle.guess_evidence.specs.Evidence.{lineEvidence}
+use Rattle.guess_variables.specs.Variables.{lineNames}
 use Rattle.guess.specs.declared.resolve.Resolved.{Resolved}
 use Rattle.guess.specs.declared.resolve.Resolved.the-variants.{Is, Refused}
 

@@ -1,14 +1,14 @@
 // The dialect of a text, and the TSB words that are live in it.
-use dialect::Dialect;
-use domain::TextCheck;
-use matching::sets::Sets;
-use refusals::Refusal;
-use tables::spellings;
+use base_refusals::Refusal;
+use text_domain::TextCheck;
 use text_lines::LineRule;
+use word_dialects::Dialect;
+use word_match::sets::Sets;
+use word_tables::spellings;
 ghost use mathlib.Core.Path.{_≡_};
 ghost use Prim.Native.Nat.{_≤_};
 ghost use lib.ListN.{length};
-ghost use Rattle.tables.specs.WordsHelpers.{SpellsWords};
+ghost use Rattle.word_tables.specs.WordsHelpers.{SpellsWords};
 ghost use Rattle.text_lines.specs.TextLines.{textLines};
 ghost use Rattle.guess.specs.Guess.{evidence as evidenceOf, allNames, guessedDialect, resolved, resolvedAnswer, wordSets};
 
@@ -28,7 +28,7 @@ pub fn text_evidence(text: &[u8], rule: LineRule, bytes: &[u8], index: &[u16]) -
         // The blanks in front of a line prove nothing.
         let begin = line.begin;
         let end = line.end;
-        if evidence_scan::line_evidence(&text[begin..end], bytes, index) {
+        if guess_evidence::line_evidence(&text[begin..end], bytes, index) {
             return true;
         }
         at = line.next;
@@ -45,7 +45,7 @@ fn text_names(text: &[u8], rule: LineRule, bytes: &[u8], index: &[u16], found: &
     while at < text.len() {
         let line = text_lines::next_line(text, at, rule);
         let end = line.end;
-        variable_scan::line_names(&text[at..end], bytes, index, found);
+        guess_variables::line_names(&text[at..end], bytes, index, found);
         at = line.next;
     }
 }
@@ -77,7 +77,7 @@ fn guessed(text: &[u8], dialect: Dialect) -> Dialect
 pub fn resolved_dialect(text: &[u8], dialect: Dialect) -> Resolved
     ensures { λ r. ⌜ resolvedAnswer r ≡ resolved dialect (now (text .entry)) ⌝ }
 {
-    match domain::check_text(text) {
+    match text_domain::check_text(text) {
         TextCheck::Fine => Resolved::Is(guessed(text, dialect)),
         TextCheck::Refused(refusal) => Resolved::Refused(refusal),
     }
@@ -89,7 +89,7 @@ pub fn word_sets(text: &[u8], dialect: Dialect, bytes: &[u8], index: &[u16]) -> 
     requires { ⌜ SpellsWords (now bytes) (now index) ⌝ }
     ensures { λ r. ⌜ r ≡ wordSets dialect (now (text .entry)) ⌝ }
 {
-    let basic35 = dialect::is_basic35(dialect);
+    let basic35 = word_dialects::is_basic35(dialect);
     let mut demoted = [false; 123];
     match dialect {
         Dialect::BasicV2 => Sets {

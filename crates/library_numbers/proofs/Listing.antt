@@ -1,8 +1,8 @@
 -- How an image is listed, from the reader that was chosen.
 -- Assumes nothing.
 use mathlib.Core.Path.{_≡_, ap}
-use Rattle.dialect.specs.declared.Dialect.{Dialect}
-use Rattle.readers.specs.declared.By.{By}
+use Rattle.word_dialects.specs.declared.Dialect.{Dialect}
+use Rattle.image_readers.specs.declared.By.{By}
 use Rattle.library_numbers.specs.declared.ListNumbers.{ListNumbers}
 use Rattle.library_numbers.specs.Choices.{isYes, readerBy, listOptions}
 

@@ -3,11 +3,11 @@
 use Prim.Native.Nat.{ℕ}
 use mathlib.Core.Bool.{Bool, not, cond}
 use lib.Dec.{eqb}
-use Rattle.dialect.specs.declared.Dialect.{Dialect}
-use Rattle.readers.specs.declared.By.{By}
-use Rattle.readers.specs.declared.By.the-variants.{Terminators, Links}
+use Rattle.word_dialects.specs.declared.Dialect.{Dialect}
+use Rattle.image_readers.specs.declared.By.{By}
+use Rattle.image_readers.specs.declared.By.the-variants.{Terminators, Links}
 use Rattle.list_options.specs.declared.ListOptions.{ListOptions}
-use Rattle.text_image.specs.declared.Options.{Options}
+use Rattle.crunch_rules.specs.declared.Options.{Options}
 use Rattle.library_numbers.specs.declared.CrunchNumbers.{CrunchNumbers}
 use Rattle.library_numbers.specs.declared.ListNumbers.{ListNumbers}
 

@@ -1,12 +1,12 @@
 // Numbers of the library for C and Rust (crates/moldthatch): the options that a caller gives in them, and what an image's check is told in.
-use dialect::Dialect;
+use base_refusals::Code;
+use crunch_rules::Options;
+use image_readers::By;
+use image_readers::Checked;
 use list_options::ListOptions;
-use readers::By;
-use readers::Checked;
-use refusals::Code;
-use text_image::Options;
+use word_dialects::Dialect;
 ghost use mathlib.Core.Path.{_≡_};
-ghost use Rattle.readers.specs.Answers.{checkedAnswer};
+ghost use Rattle.image_readers.specs.Answers.{checkedAnswer};
 ghost use Rattle.library_numbers.specs.Choices.{crunchOptions, readerBy, listOptions};
 ghost use Rattle.library_numbers.specs.Overview.{overviewCode};
 
@@ -62,9 +62,9 @@ pub fn checked_code(checked: Checked) -> Code
         Checked::Image { load, lines } => Code {
             number: 0,
             count: 2,
-            first: ascii::wide16(load),
+            first: base_ascii::wide16(load),
             second: lines,
         },
-        Checked::Refused(refusal) => refusals::refusal_code(refusal),
+        Checked::Refused(refusal) => base_refusals::refusal_code(refusal),
     }
 }

@@ -1,16 +1,16 @@
 // Lists an image: standard input to standard output, or the files that it was given. The listing is written line by line, a long line in
 // stretches. Behind the names ./moldthatch puts the dialect's word and two flags: remarks as text, and the reader by links.
+use base_refusals::Refusal;
 use desk::input;
 use desk::names;
 use desk::output;
 use desk::result;
-use dialect::Dialect;
-use inputs::Input;
+use desk_inputs::Input;
+use desk_options::AskedDialect;
+use image_readers::By;
+use image_readers::Checked;
 use list_options::ListOptions;
-use options::AskedDialect;
-use readers::By;
-use readers::Checked;
-use refusals::Refusal;
+use word_dialects::Dialect;
 
 const DIALECT: usize = names::WORDS;
 
@@ -26,14 +26,14 @@ fn write_listing(image: &[u8], options: ListOptions) -> bool {
         return false;
     }
     let mut out = [0u8; 8192];
-    let written = stretches::write_lines(fd, &name[..n], image, options, &mut out);
+    let written = desk_lines::write_lines(fd, &name[..n], image, options, &mut out);
     result::finish(fd, &name[..n], written)
 }
 
 // Nothing is written before the whole image is known to have a listing.
 fn list_image(image: &[u8], options: ListOptions) {
     let by = options.by;
-    match readers::check_by(image, by) {
+    match image_readers::check_by(image, by) {
         Checked::Image { load: _, lines: _ } => output::done(write_listing(image, options)),
         Checked::Refused(refusal) => output::refuse(refusal, b""),
     }
@@ -50,20 +50,20 @@ fn list_given(options: ListOptions) {
 
 // What the flags ask for; without any, what the original lists.
 fn list_options(dialect: Dialect) -> ListOptions {
-    let by = if options::is_set(LINKS) {
+    let by = if desk_options::is_set(LINKS) {
         By::Links
     } else {
         By::Terminators
     };
     ListOptions {
         dialect,
-        remarks: options::is_set(REMARKS),
+        remarks: desk_options::is_set(REMARKS),
         by,
     }
 }
 
 fn main() {
-    match options::dialect(DIALECT) {
+    match desk_options::dialect(DIALECT) {
         AskedDialect::Known(dialect) => list_given(list_options(dialect)),
         AskedDialect::Ended => {}
     }

@@ -2,8 +2,8 @@
 -- Assumes nothing.
 use mathlib.Core.Path.{_≡_}
 use mathlib.Core.Bool.{Bool, false}
-use Rattle.dialect.specs.Dialects.{isBasic35}
-use Rattle.units.specs.declared.Rules.{Rules}
+use Rattle.word_dialects.specs.Dialects.{isBasic35}
+use Rattle.image_units.specs.declared.Rules.{Rules}
 use Rattle.list_options.specs.Modes.{heedsPrefix, rulesUnder}
 use Rattle.list_options.specs.declared.ListOptions.{ListOptions}
 

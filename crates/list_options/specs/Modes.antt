@@ -5,11 +5,11 @@
 -- (document 02, No. 5: "The listing of an image under this dialect shows its words instead of `{CC}` to `{FD}`, and 64 is no prefix there").
 -- Assumes nothing.
 use mathlib.Core.Bool.{Bool, true, false, not}
-use Rattle.dialect.specs.Dialects.{isBasic35}
-use Rattle.dialect.specs.declared.Dialect.{Dialect}
-use Rattle.dialect.specs.declared.Dialect.the-variants.{Auto, BasicV2, Tsb, Basic35}
-use Rattle.readers.specs.declared.By.the-variants.{Terminators}
-use Rattle.units.specs.declared.Rules.{Rules}
+use Rattle.word_dialects.specs.Dialects.{isBasic35}
+use Rattle.word_dialects.specs.declared.Dialect.{Dialect}
+use Rattle.word_dialects.specs.declared.Dialect.the-variants.{Auto, BasicV2, Tsb, Basic35}
+use Rattle.image_readers.specs.declared.By.the-variants.{Terminators}
+use Rattle.image_units.specs.declared.Rules.{Rules}
 use Rattle.list_options.specs.declared.ListOptions.{ListOptions}
 
 -- whether 64 is a prefix, under a dialect and in the second mode or not
@@ -23,6 +23,6 @@ heedsPrefix Basic35 remarks = false
 abbrev pub rulesUnder : ListOptions → Rules
 rulesUnder o = record { prefix = heedsPrefix (o .dialect) (o .remarks); remarks = o .remarks; items = false; basic35 = isBasic35 (o .dialect) }
 
--- the old mode (`old-mode`, crates/listing/proofs/Agreeing.antt: under each dialect of document 01 it is `listing`)
+-- the old mode (`old-mode`, crates/list_image/proofs/Agreeing.antt: under each dialect of document 01 it is `listing`)
 abbrev pub originalOptions : ListOptions
 originalOptions = record { dialect = Auto; remarks = false; by = Terminators }

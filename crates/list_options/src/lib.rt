@@ -1,7 +1,7 @@
 // How an image is listed, and what a walk over a body then heeds.
-use dialect::Dialect;
-use readers::By;
-use units::Rules;
+use image_readers::By;
+use image_units::Rules;
+use word_dialects::Dialect;
 ghost use mathlib.Core.Path.{_≡_};
 ghost use Rattle.list_options.specs.Modes.{heedsPrefix, rulesUnder, originalOptions};
 
@@ -32,7 +32,7 @@ pub fn rules_under(options: ListOptions) -> Rules
         prefix: heeds_prefix(dialect, options.remarks),
         remarks: options.remarks,
         items: false,
-        basic35: dialect::is_basic35(dialect),
+        basic35: word_dialects::is_basic35(dialect),
     }
 }
 

@@ -5,25 +5,25 @@ use native.Mathlib.Omega.{arith}
 use mathlib.Core.Path.{_≡_, sym, ap, _∙_}
 use mathlib.Core.List.{List}
 use lib.ListN.{length}
-use Rattle.refusals.specs.Numbers.{badDisk}
-use Rattle.refusals.specs.Answer.{Answer, done, refused, numbered}
-use Rattle.refusals.specs.Code.{codeOf, lengthCode}
-use Rattle.lent.specs.Lent.{Lent, intoBuffer, roomFor, outcomeAnswer, left}
-use Rattle.refusals.specs.declared.Code.{Code}
-use Rattle.lent.specs.declared.Outcome.{Outcome}
-use Rattle.lent.specs.declared.Outcome.the-variants.{Done, Refused}
-use Rattle.refusals.specs.declared.Refusal.{Refusal}
-use Rattle.d64.specs.Calls.{Holding, After, changedAnswer, diskAnswer, leaving}
-use Rattle.d64.specs.declared.Changed.{Changed}
-use Rattle.directory.specs.Listing.{directoryText, Shows}
-use Rattle.d64.specs.declared.DiskCheck.{DiskCheck}
-use Rattle.index_entries.specs.declared.Held.{Held}
-use Rattle.relink.specs.Relinking.{Relinking, relinkedAnswer}
-use Rattle.relink.specs.declared.Relinked.{Relinked}
-use Rattle.relink.specs.declared.Relinked.the-variants.{Changed as Relinked·Changed}
-use Rattle.counting.specs.Carried.{Kept, carriedAnswer, carried}
-use Rattle.counting.specs.declared.Carried.{Carried}
-use Rattle.counting.specs.declared.Carried.the-variants.{Apart}
+use Rattle.base_refusals.specs.Numbers.{badDisk}
+use Rattle.base_refusals.specs.Answer.{Answer, done, refused, numbered}
+use Rattle.base_refusals.specs.Code.{codeOf, lengthCode}
+use Rattle.base_lent.specs.Lent.{Lent, intoBuffer, roomFor, outcomeAnswer, left}
+use Rattle.base_refusals.specs.declared.Code.{Code}
+use Rattle.base_lent.specs.declared.Outcome.{Outcome}
+use Rattle.base_lent.specs.declared.Outcome.the-variants.{Done, Refused}
+use Rattle.base_refusals.specs.declared.Refusal.{Refusal}
+use Rattle.disk_rules.specs.Calls.{Holding, After, changedAnswer, diskAnswer, leaving}
+use Rattle.disk_rules.specs.declared.Changed.{Changed}
+use Rattle.disk_directory.specs.Listing.{directoryText, Shows}
+use Rattle.disk_rules.specs.declared.DiskCheck.{DiskCheck}
+use Rattle.image_index_entries.specs.declared.Held.{Held}
+use Rattle.image_relink.specs.Relinking.{Relinking, relinkedAnswer}
+use Rattle.image_relink.specs.declared.Relinked.{Relinked}
+use Rattle.image_relink.specs.declared.Relinked.the-variants.{Changed as Relinked·Changed}
+use Rattle.count_images.specs.Carried.{Kept, carriedAnswer, carried}
+use Rattle.count_images.specs.declared.Carried.{Carried}
+use Rattle.count_images.specs.declared.Carried.the-variants.{Apart}
 use Rattle.moldthatch.specs.Told.{Told, toldCode, bareCode, toldDisk, holdingCode, shownDirectory, heldCode, relinkingCode, fateCode, toldTotals}
 
 module _ (o : Outcome) {c : Code} (code : c ≡ lengthCode (outcomeAnswer o)) where

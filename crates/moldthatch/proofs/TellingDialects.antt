@@ -3,15 +3,15 @@
 use Prim.Native.Nat.{ℕ}
 use mathlib.Core.Path.{_≡_, refl, sym, ap, _∙_}
 use mathlib.Core.List.{List}
-use Rattle.refusals.specs.Answer.{Answer, done, numbered}
-use Rattle.refusals.specs.Code.{codeOf}
-use Rattle.refusals.specs.declared.Code.{Code}
-use Rattle.refusals.specs.declared.Refusal.{Refusal}
-use Rattle.dialect.specs.Dialects.{byNumber, namedAnswer, defaultLoad}
-use Rattle.dialect.specs.declared.Dialect.{Dialect}
-use Rattle.dialect.specs.declared.Dialect.the-variants.{Auto, BasicV2, Tsb, Basic35}
-use Rattle.dialect.specs.declared.Named.{Named}
-use Rattle.dialect.specs.declared.Named.the-variants.{Known, Refused}
+use Rattle.base_refusals.specs.Answer.{Answer, done, numbered}
+use Rattle.base_refusals.specs.Code.{codeOf}
+use Rattle.base_refusals.specs.declared.Code.{Code}
+use Rattle.base_refusals.specs.declared.Refusal.{Refusal}
+use Rattle.word_dialects.specs.Dialects.{byNumber, namedAnswer, defaultLoad}
+use Rattle.word_dialects.specs.declared.Dialect.{Dialect}
+use Rattle.word_dialects.specs.declared.Dialect.the-variants.{Auto, BasicV2, Tsb, Basic35}
+use Rattle.word_dialects.specs.declared.Named.{Named}
+use Rattle.word_dialects.specs.declared.Named.the-variants.{Known, Refused}
 use Rattle.guess.specs.Guess.{resolved, resolvedAnswer}
 use Rattle.guess.specs.declared.resolve.Resolved.{Resolved}
 use Rattle.escape_bytes.specs.declared.Escape.{Escape}

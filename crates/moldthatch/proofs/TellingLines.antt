@@ -3,22 +3,22 @@
 use Prim.Native.Nat.{ℕ}
 use mathlib.Core.Path.{_≡_, sym, ap, _∙_}
 use mathlib.Core.List.{List}
-use Rattle.refusals.specs.Answer.{Answer, numbered}
-use Rattle.refusals.specs.Code.{codeOf}
-use Rattle.refusals.specs.declared.Code.{Code}
-use Rattle.refusals.specs.declared.Refusal.{Refusal}
-use Rattle.dialect.specs.Dialects.{byNumber, namedAnswer}
-use Rattle.dialect.specs.declared.Dialect.{Dialect}
-use Rattle.dialect.specs.declared.Named.{Named}
-use Rattle.dialect.specs.declared.Named.the-variants.{Known, Refused}
-use Rattle.readers.specs.Answers.{stepAnswer}
-use Rattle.readers.specs.Image.{Found}
-use Rattle.readers.specs.declared.Step.{Step}
-use Rattle.find_line.specs.Sought.{Visit, soughtAnswer}
-use Rattle.find_line.specs.declared.Sought.{Sought}
-use Rattle.text_image.specs.declared.Options.{Options}
-use Rattle.text_image.specs.declared.LineMeasured.{LineMeasured}
-use Rattle.text_image.specs.Measured.{lineMeasured, lineAnswer}
+use Rattle.base_refusals.specs.Answer.{Answer, numbered}
+use Rattle.base_refusals.specs.Code.{codeOf}
+use Rattle.base_refusals.specs.declared.Code.{Code}
+use Rattle.base_refusals.specs.declared.Refusal.{Refusal}
+use Rattle.word_dialects.specs.Dialects.{byNumber, namedAnswer}
+use Rattle.word_dialects.specs.declared.Dialect.{Dialect}
+use Rattle.word_dialects.specs.declared.Named.{Named}
+use Rattle.word_dialects.specs.declared.Named.the-variants.{Known, Refused}
+use Rattle.image_readers.specs.Answers.{stepAnswer}
+use Rattle.image_readers.specs.Image.{Found}
+use Rattle.image_readers.specs.declared.Step.{Step}
+use Rattle.image_find.specs.Sought.{Visit, soughtAnswer}
+use Rattle.image_find.specs.declared.Sought.{Sought}
+use Rattle.crunch_rules.specs.declared.Options.{Options}
+use Rattle.crunch_rules.specs.declared.LineMeasured.{LineMeasured}
+use Rattle.crunch_rules.specs.Measured.{lineMeasured, lineAnswer}
 use Rattle.library_numbers.specs.declared.CrunchNumbers.{CrunchNumbers}
 use Rattle.library_numbers.specs.Choices.{crunchOptions}
 use Rattle.moldthatch.specs.declared.lines.LineCode.{LineCode}

@@ -3,20 +3,20 @@
 use Prim.Native.Nat.{ℕ}
 use mathlib.Core.Path.{_≡_, sym, ap, _∙_}
 use mathlib.Core.List.{List}
-use Rattle.refusals.specs.Answer.{Answer, refused, numbered, andThen}
-use Rattle.refusals.specs.Code.{codeOf, lengthCode}
-use Rattle.refusals.specs.declared.Code.{Code}
-use Rattle.refusals.specs.declared.Refusal.{Refusal}
-use Rattle.lent.specs.Lent.{intoBuffer, roomFor, outcomeAnswer, left}
-use Rattle.lent.specs.declared.Outcome.{Outcome}
-use Rattle.dialect.specs.Dialects.{byNumber, namedAnswer}
-use Rattle.dialect.specs.declared.Dialect.{Dialect}
-use Rattle.dialect.specs.declared.Named.{Named}
-use Rattle.dialect.specs.declared.Named.the-variants.{Known, Refused}
+use Rattle.base_refusals.specs.Answer.{Answer, refused, numbered, andThen}
+use Rattle.base_refusals.specs.Code.{codeOf, lengthCode}
+use Rattle.base_refusals.specs.declared.Code.{Code}
+use Rattle.base_refusals.specs.declared.Refusal.{Refusal}
+use Rattle.base_lent.specs.Lent.{intoBuffer, roomFor, outcomeAnswer, left}
+use Rattle.base_lent.specs.declared.Outcome.{Outcome}
+use Rattle.word_dialects.specs.Dialects.{byNumber, namedAnswer}
+use Rattle.word_dialects.specs.declared.Dialect.{Dialect}
+use Rattle.word_dialects.specs.declared.Named.{Named}
+use Rattle.word_dialects.specs.declared.Named.the-variants.{Known, Refused}
 use Rattle.list_options.specs.declared.ListOptions.{ListOptions}
-use Rattle.listing.specs.Listing.{listingUnder}
-use Rattle.text_image.specs.declared.Options.{Options}
-use Rattle.text_image.specs.Crunched.{crunched}
+use Rattle.list_image.specs.Listing.{listingUnder}
+use Rattle.crunch_rules.specs.declared.Options.{Options}
+use Rattle.crunch_rules.specs.Crunched.{crunched}
 use Rattle.library_numbers.specs.declared.CrunchNumbers.{CrunchNumbers}
 use Rattle.library_numbers.specs.declared.ListNumbers.{ListNumbers}
 use Rattle.library_numbers.specs.Choices.{crunchOptions, listOptions}

@@ -5,23 +5,23 @@ use mathlib.Core.Path.{_≡_, refl, sym, ap, _∙_}
 use mathlib.Core.List.{List}
 use lib.ListN.{length}
 use lib.Seq.{sets}
-use Rattle.refusals.specs.Answer.{done, numbered}
-use Rattle.refusals.specs.Code.{codeOf}
-use Rattle.refusals.specs.declared.Code.{Code}
-use Rattle.refusals.specs.declared.Refusal.{Refusal}
-use Rattle.dialect.specs.Dialects.{byNumber, namedAnswer}
-use Rattle.dialect.specs.declared.Dialect.{Dialect}
-use Rattle.dialect.specs.declared.Named.{Named}
-use Rattle.dialect.specs.declared.Named.the-variants.{Known, Refused}
-use Rattle.units.specs.declared.Mode.{Mode}
-use Rattle.fault_numbers.specs.Numbers.{modeNumber, modeOf}
-use Rattle.fault_numbers.proofs.Walking.{mode-back}
+use Rattle.base_refusals.specs.Answer.{done, numbered}
+use Rattle.base_refusals.specs.Code.{codeOf}
+use Rattle.base_refusals.specs.declared.Code.{Code}
+use Rattle.base_refusals.specs.declared.Refusal.{Refusal}
+use Rattle.word_dialects.specs.Dialects.{byNumber, namedAnswer}
+use Rattle.word_dialects.specs.declared.Dialect.{Dialect}
+use Rattle.word_dialects.specs.declared.Named.{Named}
+use Rattle.word_dialects.specs.declared.Named.the-variants.{Known, Refused}
+use Rattle.image_units.specs.declared.Mode.{Mode}
+use Rattle.library_faults.specs.Numbers.{modeNumber, modeOf}
+use Rattle.library_faults.proofs.Walking.{mode-back}
 use Rattle.list_options.specs.declared.ListOptions.{ListOptions}
 use Rattle.list_options.specs.Modes.{rulesUnder}
-use Rattle.line_stretches.specs.Stretch.{Stretched, stretchOf, stretchAnswer}
-use Rattle.line_stretches.specs.declared.Place.{Place}
-use Rattle.line_stretches.specs.declared.Place.the-variants.{Number, Body, Over}
-use Rattle.line_stretches.specs.declared.Stretch.{Stretch}
+use Rattle.list_stretches.specs.Stretch.{Stretched, stretchOf, stretchAnswer}
+use Rattle.list_stretches.specs.declared.Place.{Place}
+use Rattle.list_stretches.specs.declared.Place.the-variants.{Number, Body, Over}
+use Rattle.list_stretches.specs.declared.Stretch.{Stretch}
 use Rattle.library_numbers.specs.declared.ListNumbers.{ListNumbers}
 use Rattle.library_numbers.specs.Choices.{listOptions}
 use Rattle.moldthatch.specs.declared.stretch.PlaceNumbers.{PlaceNumbers}

@@ -3,14 +3,14 @@
 use Prim.Native.Nat.{ℕ}
 use mathlib.Core.List.{List}
 use mathlib.Core.Option.{Option}
-use Rattle.refusals.specs.Answer.{Answer, andThen}
-use Rattle.dialect.specs.Dialects.{byNumber}
-use Rattle.dialect.specs.declared.Dialect.{Dialect}
+use Rattle.base_refusals.specs.Answer.{Answer, andThen}
+use Rattle.word_dialects.specs.Dialects.{byNumber}
+use Rattle.word_dialects.specs.declared.Dialect.{Dialect}
 use Rattle.guess.specs.Guess.{resolved}
-use Rattle.listing.specs.Listing.{listingUnder}
-use Rattle.text_image.specs.declared.MeasuredLine.{MeasuredLine}
-use Rattle.text_image.specs.Crunched.{crunched}
-use Rattle.text_image.specs.Measured.{lineMeasured}
+use Rattle.list_image.specs.Listing.{listingUnder}
+use Rattle.crunch_rules.specs.declared.MeasuredLine.{MeasuredLine}
+use Rattle.crunch_rules.specs.Crunched.{crunched}
+use Rattle.crunch_rules.specs.Measured.{lineMeasured}
 use Rattle.library_numbers.specs.declared.CrunchNumbers.{CrunchNumbers}
 use Rattle.library_numbers.specs.declared.ListNumbers.{ListNumbers}
 use Rattle.library_numbers.specs.Choices.{crunchOptions, listOptions}

@@ -1,22 +1,22 @@
--- What callers in other languages are told: each answer as one code (crates/refusals/specs/Code.antt).
+-- What callers in other languages are told: each answer as one code (crates/base_refusals/specs/Code.antt).
 -- Assumes nothing.
 use Prim.Native.Nat.{ℕ, min}
 use mathlib.Core.Bool.{cond}
 use mathlib.Core.List.{List, [], _∷_}
 use lib.ListN.{length}
 use lib.Seq.{sets}
-use Rattle.refusals.specs.Answer.{Answer, done, refused}
-use Rattle.refusals.specs.Code.{codeOf, answerCode, lengthCode}
-use Rattle.refusals.specs.Numbers.{badDisk}
-use Rattle.lent.specs.Lent.{Lent}
-use Rattle.refusals.specs.declared.Code.{Code}
-use Rattle.d64.specs.Calls.{Holding, After}
-use Rattle.d64.specs.Check.{sound}
-use Rattle.directory.specs.Listing.{directoryText}
-use Rattle.index_entries.specs.declared.Held.{Held}
-use Rattle.index_entries.specs.declared.Held.the-variants.{Nothing, Numbers}
-use Rattle.relink.specs.Relinking.{Relinking, same, changed, leaves, endless}
-use Rattle.counting.specs.Carried.{Fate, counted, countedApart, noTotals, Kept}
+use Rattle.base_refusals.specs.Answer.{Answer, done, refused}
+use Rattle.base_refusals.specs.Code.{codeOf, answerCode, lengthCode}
+use Rattle.base_refusals.specs.Numbers.{badDisk}
+use Rattle.base_lent.specs.Lent.{Lent}
+use Rattle.base_refusals.specs.declared.Code.{Code}
+use Rattle.disk_rules.specs.Calls.{Holding, After}
+use Rattle.disk_rules.specs.Check.{sound}
+use Rattle.disk_directory.specs.Listing.{directoryText}
+use Rattle.image_index_entries.specs.declared.Held.{Held}
+use Rattle.image_index_entries.specs.declared.Held.the-variants.{Nothing, Numbers}
+use Rattle.image_relink.specs.Relinking.{Relinking, same, changed, leaves, endless}
+use Rattle.count_images.specs.Carried.{Fate, counted, countedApart, noTotals, Kept}
 
 -- a call's code, and what the buffer that it was lent holds then
 pub record Told : Type 0 where

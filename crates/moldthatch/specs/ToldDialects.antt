@@ -2,12 +2,12 @@
 -- Assumes nothing.
 use Prim.Native.Nat.{ℕ}
 use mathlib.Core.List.{[], _∷_}
-use Rattle.refusals.specs.Answer.{Answer, done, refused}
-use Rattle.refusals.specs.Code.{answerCode}
-use Rattle.refusals.specs.declared.Code.{Code}
-use Rattle.dialect.specs.Dialects.{defaultLoad}
-use Rattle.dialect.specs.declared.Dialect.{Dialect}
-use Rattle.dialect.specs.declared.Dialect.the-variants.{Auto, BasicV2, Tsb, Basic35}
+use Rattle.base_refusals.specs.Answer.{Answer, done, refused}
+use Rattle.base_refusals.specs.Code.{answerCode}
+use Rattle.base_refusals.specs.declared.Code.{Code}
+use Rattle.word_dialects.specs.Dialects.{defaultLoad}
+use Rattle.word_dialects.specs.declared.Dialect.{Dialect}
+use Rattle.word_dialects.specs.declared.Dialect.the-variants.{Auto, BasicV2, Tsb, Basic35}
 use Rattle.escape_bytes.specs.declared.Escape.{Escape}
 use Rattle.escape_bytes.specs.declared.Escape.the-variants.{Byte, Unknown}
 

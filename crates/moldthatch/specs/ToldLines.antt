@@ -2,13 +2,13 @@
 -- Assumes nothing.
 use mathlib.Core.List.{[], _∷_}
 use mathlib.Core.Option.{Option, none, some}
-use Rattle.refusals.specs.Answer.{Answer, done, refused}
-use Rattle.refusals.specs.Code.{answerCode}
-use Rattle.refusals.specs.declared.Code.{Code}
-use Rattle.readers.specs.Image.{Found, line, end}
-use Rattle.readers.specs.declared.Line.{Line}
-use Rattle.find_line.specs.Sought.{Visit, at, nowhere}
-use Rattle.text_image.specs.declared.MeasuredLine.{MeasuredLine}
+use Rattle.base_refusals.specs.Answer.{Answer, done, refused}
+use Rattle.base_refusals.specs.Code.{answerCode}
+use Rattle.base_refusals.specs.declared.Code.{Code}
+use Rattle.image_readers.specs.Image.{Found, line, end}
+use Rattle.image_readers.specs.declared.Line.{Line}
+use Rattle.image_find.specs.Sought.{Visit, at, nowhere}
+use Rattle.crunch_rules.specs.declared.MeasuredLine.{MeasuredLine}
 use Rattle.moldthatch.specs.declared.lines.LineCode.{LineCode}
 
 abbrev pub lineCode : Code → Line → LineCode

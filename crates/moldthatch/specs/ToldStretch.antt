@@ -1,18 +1,18 @@
--- A stretch of a line's listing (crates/listing/specs/Stretch.antt) in numbers, and what is left of the line.
+-- A stretch of a line's listing (crates/list_image/specs/Stretch.antt) in numbers, and what is left of the line.
 -- Assumes nothing.
 use Prim.Native.Nat.{ℕ, zero, suc}
 use mathlib.Core.List.{List, [], _∷_}
 use lib.ListN.{length}
 use lib.Seq.{sets}
-use Rattle.refusals.specs.Answer.{Answer, done, refused, andThen}
-use Rattle.refusals.specs.Code.{codeOf, answerCode}
-use Rattle.dialect.specs.Dialects.{byNumber}
-use Rattle.fault_numbers.specs.Numbers.{modeNumber, modeOf}
+use Rattle.base_refusals.specs.Answer.{Answer, done, refused, andThen}
+use Rattle.base_refusals.specs.Code.{codeOf, answerCode}
+use Rattle.word_dialects.specs.Dialects.{byNumber}
+use Rattle.library_faults.specs.Numbers.{modeNumber, modeOf}
 use Rattle.list_options.specs.Modes.{rulesUnder}
-use Rattle.line_stretches.specs.Stretch.{Stretched, stretchOf, stretchAnswer}
-use Rattle.line_stretches.specs.declared.Place.{Place}
-use Rattle.line_stretches.specs.declared.Place.the-variants.{Number, Body, Over}
-use Rattle.line_stretches.specs.declared.Stretch.{Stretch}
+use Rattle.list_stretches.specs.Stretch.{Stretched, stretchOf, stretchAnswer}
+use Rattle.list_stretches.specs.declared.Place.{Place}
+use Rattle.list_stretches.specs.declared.Place.the-variants.{Number, Body, Over}
+use Rattle.list_stretches.specs.declared.Stretch.{Stretch}
 use Rattle.library_numbers.specs.declared.ListNumbers.{ListNumbers}
 use Rattle.library_numbers.specs.Choices.{listOptions}
 use Rattle.moldthatch.specs.declared.stretch.PlaceNumbers.{PlaceNumbers}

@@ -1,11 +1,11 @@
 // Counts of words over many images. Totals are 206 numbers that the caller lends and carries on; empty ones are all 0.
-use counting::Carried;
-use refusals::Code;
+use base_refusals::Code;
+use count_images::Carried;
 ghost use mathlib.Core.Path.{_≡_};
 ghost use lib.ListN.{getD};
-ghost use Rattle.counted_tokens.specs.Tokens.{countedTokens};
-ghost use Rattle.token_totals.specs.TokenTotals.{isTotals, tokensCounted, shareOf};
-ghost use Rattle.counting.specs.Carried.{withImage, joined, carriedAnswer};
+ghost use Rattle.count_tokens.specs.Tokens.{countedTokens};
+ghost use Rattle.count_totals.specs.TokenTotals.{isTotals, tokensCounted, shareOf};
+ghost use Rattle.count_images.specs.Carried.{withImage, joined, carriedAnswer};
 ghost use Rattle.moldthatch.specs.Told.{toldTotals, fateCode};
 
 // Takes one more image into totals.
@@ -13,7 +13,7 @@ ghost use Rattle.moldthatch.specs.Told.{toldTotals, fateCode};
 pub extern "C" fn moldthatch_count(totals: &mut [u64], image: &[u8]) -> Code
     ensures { λ r. ⌜ record { code = r; buffer = now (totals .exit) } ≡ toldTotals (withImage (now (totals .entry)) (now (image .entry))) ⌝ }
 {
-    carried_code(counting::add_image(totals, image))
+    carried_code(count_images::add_image(totals, image))
 }
 
 // Joins other totals to totals.
@@ -21,7 +21,7 @@ pub extern "C" fn moldthatch_count(totals: &mut [u64], image: &[u8]) -> Code
 pub extern "C" fn moldthatch_count_join(totals: &mut [u64], other: &[u64]) -> Code
     ensures { λ r. ⌜ record { code = r; buffer = now (totals .exit) } ≡ toldTotals (joined (now (totals .entry)) (now (other .entry))) ⌝ }
 {
-    carried_code(counting::join(totals, other))
+    carried_code(count_images::join(totals, other))
 }
 
 // How many tokens are counted in totals.
@@ -29,7 +29,7 @@ pub extern "C" fn moldthatch_count_join(totals: &mut [u64], other: &[u64]) -> Co
 pub extern "C" fn moldthatch_count_tokens(totals: &[u64]) -> u64
     ensures { λ r. ⌜ r ≡ tokensCounted (now (totals .entry)) ⌝ }
 {
-    token_totals::tokens(totals)
+    count_totals::tokens(totals)
 }
 
 // A token's share of them, in thousandths.
@@ -37,7 +37,7 @@ pub extern "C" fn moldthatch_count_tokens(totals: &[u64]) -> u64
 pub extern "C" fn moldthatch_count_share(totals: &[u64], token: u8) -> u64
     ensures { λ r. ⌜ r ≡ shareOf (now (totals .entry)) token ⌝ }
 {
-    token_totals::share(totals, token)
+    count_totals::share(totals, token)
 }
 
 // Whether numbers are totals that images can give.
@@ -45,7 +45,7 @@ pub extern "C" fn moldthatch_count_share(totals: &[u64], token: u8) -> u64
 pub extern "C" fn moldthatch_count_are_totals(totals: &[u64]) -> bool
     ensures { λ r. ⌜ r ≡ isTotals (now (totals .entry)) ⌝ }
 {
-    token_totals::are_totals(totals)
+    count_totals::are_totals(totals)
 }
 
 // The tokens that are counted, by their place from 0; 0, which is no token, behind the last.
@@ -53,20 +53,20 @@ pub extern "C" fn moldthatch_count_are_totals(totals: &[u64]) -> bool
 pub extern "C" fn moldthatch_count_token_at(place: usize) -> u8
     ensures { λ r. ⌜ r ≡ getD countedTokens place 0 ⌝ }
 {
-    counting::token_at(place)
+    count_images::token_at(place)
 }
 
 fn carried_code(carried: Carried) -> Code
     ensures { λ r. ⌜ r ≡ fateCode (carriedAnswer carried) ⌝ }
 {
     match carried {
-        Carried::Taken => refusals::with_one(0, 0),
-        Carried::Apart(refusal) => refusals::with_one(
+        Carried::Taken => base_refusals::with_one(0, 0),
+        Carried::Apart(refusal) => base_refusals::with_one(
             0,
-            number_of(refusals::refusal_code(refusal)),
+            number_of(base_refusals::refusal_code(refusal)),
         ),
-        Carried::Refused(refusal) => refusals::refusal_code(refusal),
-        Carried::NoTotals => refusals::with_one(0, 255),
+        Carried::Refused(refusal) => base_refusals::refusal_code(refusal),
+        Carried::NoTotals => base_refusals::with_one(0, 255),
     }
 }
 

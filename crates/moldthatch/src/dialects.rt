@@ -1,19 +1,19 @@
 // Dialects by name and by number, and what else is asked of a text before it is crunched.
-use dialect::Dialect;
-use dialect::Named;
+use base_refusals::Code;
 use escape_bytes::Escape;
 use guess::resolve;
 use guess::resolve::Resolved;
-use matching::tsb;
-use refusals::Code;
+use word_dialects::Dialect;
+use word_dialects::Named;
+use word_match::tsb;
 ghost use mathlib.Core.Path.{_≡_};
-ghost use Rattle.refusals.specs.Answer.{done};
-ghost use Rattle.dialect.specs.Dialects.{byNumber, named as dialectNamed, namedAnswer};
+ghost use Rattle.base_refusals.specs.Answer.{done};
+ghost use Rattle.word_dialects.specs.Dialects.{byNumber, named as dialectNamed, namedAnswer};
 ghost use Rattle.guess.specs.Guess.{resolvedAnswer};
-ghost use Rattle.tables.specs.Tsb.{isTsbWord};
+ghost use Rattle.word_tables.specs.Tsb.{isTsbWord};
 ghost use Rattle.escape_bytes.specs.Escape.{escapeOf};
-ghost use Rattle.sentences.specs.Clipped.{Clipped};
-ghost use Rattle.text_image.specs.Measured.{nonblankLines};
+ghost use Rattle.say_sentences.specs.Clipped.{Clipped};
+ghost use Rattle.crunch_rules.specs.Measured.{nonblankLines};
 ghost use Rattle.moldthatch.specs.Given.{resolvedBy};
 ghost use Rattle.moldthatch.specs.ToldDialects.{dialectCode, loadCode, escapeCode};
 
@@ -22,7 +22,7 @@ ghost use Rattle.moldthatch.specs.ToldDialects.{dialectCode, loadCode, e
 pub extern "C" fn moldthatch_dialect_by_name(word: &[u8]) -> Code
     ensures { λ r. ⌜ r ≡ dialectCode (dialectNamed (now (word .entry))) ⌝ }
 {
-    named_code(dialect::dialect_by_name(word))
+    named_code(word_dialects::dialect_by_name(word))
 }
 
 // The address that programs of a dialect are loaded at where no other is asked for.
@@ -30,7 +30,7 @@ pub extern "C" fn moldthatch_dialect_by_name(word: &[u8]) -> Code
 pub extern "C" fn moldthatch_default_load(dialect: u8) -> Code
     ensures { λ r. ⌜ r ≡ loadCode (byNumber dialect) ⌝ }
 {
-    load_code(dialect::dialect_by_number(dialect))
+    load_code(word_dialects::dialect_by_number(dialect))
 }
 
 // The number of the dialect by which a text is taken.
@@ -38,9 +38,9 @@ pub extern "C" fn moldthatch_default_load(dialect: u8) -> Code
 pub extern "C" fn moldthatch_resolved_dialect(text: &[u8], dialect: u8) -> Code
     ensures { λ r. ⌜ r ≡ dialectCode (resolvedBy dialect (now (text .entry))) ⌝ }
 {
-    match dialect::dialect_by_number(dialect) {
+    match word_dialects::dialect_by_number(dialect) {
         Named::Known(known) => resolved_code(resolve::resolved_dialect(text, known)),
-        Named::Refused(refusal) => refusals::refusal_code(refusal),
+        Named::Refused(refusal) => base_refusals::refusal_code(refusal),
     }
 }
 
@@ -65,7 +65,7 @@ pub extern "C" fn moldthatch_escape(inside: &[u8]) -> Code
 pub extern "C" fn moldthatch_origins(text: &[u8], out: &mut [usize]) -> usize
     ensures { λ r. ⌜ Clipped (now (out .entry)) 0 (nonblankLines (now (text .entry))) r (now (out .exit)) ⌝ }
 {
-    origins::origins(text, out)
+    crunch_origins::origins(text, out)
 }
 
 fn named_code(named: Named) -> Code
@@ -73,7 +73,7 @@ fn named_code(named: Named) -> Code
 {
     match named {
         Named::Known(dialect) => dialect_code(dialect),
-        Named::Refused(refusal) => refusals::refusal_code(refusal),
+        Named::Refused(refusal) => base_refusals::refusal_code(refusal),
     }
 }
 
@@ -82,9 +82,9 @@ fn load_code(named: Named) -> Code
 {
     match named {
         Named::Known(dialect) => {
-            refusals::with_one(0, ascii::wide16(dialect::default_load(dialect)))
+            base_refusals::with_one(0, base_ascii::wide16(word_dialects::default_load(dialect)))
         }
-        Named::Refused(refusal) => refusals::refusal_code(refusal),
+        Named::Refused(refusal) => base_refusals::refusal_code(refusal),
     }
 }
 
@@ -93,7 +93,7 @@ fn resolved_code(resolved: Resolved) -> Code
 {
     match resolved {
         Resolved::Is(dialect) => dialect_code(dialect),
-        Resolved::Refused(refusal) => refusals::refusal_code(refusal),
+        Resolved::Refused(refusal) => base_refusals::refusal_code(refusal),
     }
 }
 
@@ -101,10 +101,10 @@ fn dialect_code(dialect: Dialect) -> Code
     ensures { λ r. ⌜ r ≡ dialectCode (done dialect) ⌝ }
 {
     match dialect {
-        Dialect::Auto => refusals::with_one(0, 0),
-        Dialect::BasicV2 => refusals::with_one(0, 1),
-        Dialect::Tsb => refusals::with_one(0, 2),
-        Dialect::Basic35 => refusals::with_one(0, 3),
+        Dialect::Auto => base_refusals::with_one(0, 0),
+        Dialect::BasicV2 => base_refusals::with_one(0, 1),
+        Dialect::Tsb => base_refusals::with_one(0, 2),
+        Dialect::Basic35 => base_refusals::with_one(0, 3),
     }
 }
 

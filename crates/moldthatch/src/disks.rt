@@ -1,11 +1,11 @@
 // Disk images: 174,848 bytes that the caller lends. A refusal changes no byte of them.
-use d64::Changed;
-use d64::DiskCheck;
-use refusals::Code;
+use base_refusals::Code;
+use disk_rules::Changed;
+use disk_rules::DiskCheck;
 ghost use mathlib.Core.Path.{_≡_};
-ghost use Rattle.lent.specs.Lent.{intoBuffer};
-ghost use Rattle.d64.specs.Calls.{formatted, saved, scratched, fileBytes, diskHolding, ontoDisk, changedAnswer, diskAnswer};
-ghost use Rattle.sentences.specs.Clipped.{Clipped};
+ghost use Rattle.base_lent.specs.Lent.{intoBuffer};
+ghost use Rattle.disk_rules.specs.Calls.{formatted, saved, scratched, fileBytes, diskHolding, ontoDisk, changedAnswer, diskAnswer};
+ghost use Rattle.say_sentences.specs.Clipped.{Clipped};
 ghost use Rattle.disk_names.specs.Names.{nameGiven};
 ghost use Rattle.moldthatch.specs.Told.{toldCode, bareCode, toldDisk, holdingCode, shownDirectory};
 
@@ -14,7 +14,7 @@ ghost use Rattle.moldthatch.specs.Told.{toldCode, bareCode, toldDisk, ho
 pub extern "C" fn moldthatch_disk_format(disk: &mut [u8]) -> Code
     ensures { λ r. ⌜ record { code = r; buffer = now (disk .exit) } ≡ toldDisk (ontoDisk (formatted (now (disk .entry))) (now (disk .entry))) ⌝ }
 {
-    changed_code(formats::format(disk))
+    changed_code(disk_formats::format(disk))
 }
 
 // Saves an image under a name.
@@ -30,7 +30,7 @@ pub extern "C" fn moldthatch_disk_save(disk: &mut [u8], name: &[u8], image: &[u8
 pub extern "C" fn moldthatch_disk_read(disk: &[u8], name: &[u8], out: &mut [u8]) -> Code
     ensures { λ r. ⌜ record { code = r; buffer = now (out .exit) } ≡ toldCode (intoBuffer (fileBytes (now (disk .entry)) (now (name .entry))) (now (out .entry))) ⌝ }
 {
-    lent::outcome_code(disk::read(disk, name, out))
+    base_lent::outcome_code(disk::read(disk, name, out))
 }
 
 // Scratches the file of a name.
@@ -53,7 +53,7 @@ pub extern "C" fn moldthatch_disk_check(disk: &[u8]) -> Code
             first: files,
             second: free,
         },
-        DiskCheck::Refused(refusal) => refusals::refusal_code(refusal),
+        DiskCheck::Refused(refusal) => base_refusals::refusal_code(refusal),
     }
 }
 
@@ -62,7 +62,7 @@ pub extern "C" fn moldthatch_disk_check(disk: &[u8]) -> Code
 pub extern "C" fn moldthatch_disk_directory(disk: &[u8], out: &mut [u8]) -> Code
     ensures { λ r. ⌜ record { code = r; buffer = now (out .exit) } ≡ shownDirectory (now (disk .entry)) (now (out .entry)) ⌝ }
 {
-    lent::outcome_code(directory::put_directory(disk, out))
+    base_lent::outcome_code(disk_directory::put_directory(disk, out))
 }
 
 // Stores the name that a text stands for at the start of a buffer, as much of it as fits: how many bytes that are.
@@ -83,6 +83,6 @@ fn changed_code(changed: Changed) -> Code
             first: 0,
             second: 0,
         },
-        Changed::Refused(refusal) => refusals::refusal_code(refusal),
+        Changed::Refused(refusal) => base_refusals::refusal_code(refusal),
     }
 }

@@ -1,20 +1,20 @@
 // The library for C and for Rust: its calls take and give numbers and slices. A dialect is 0 for Auto, 1 for BASIC V2, 2 for TSB,
 // 3 for BASIC 3.5. A choice is 0 for no, and any other number for yes.
-use dialect::Named;
+use base_refusals::Code;
+use image_readers::links;
+use image_readers::terminators;
 use library_numbers::CrunchNumbers;
 use library_numbers::ListNumbers;
-use readers::links;
-use readers::terminators;
-use refusals::Code;
+use word_dialects::Named;
 ghost use mathlib.Core.Path.{_≡_};
-ghost use Rattle.refusals.specs.Code.{lengthCode};
-ghost use Rattle.lent.specs.Lent.{intoBuffer, roomFor};
-ghost use Rattle.readers.specs.Lines.{overview};
-ghost use Rattle.readers.specs.Links.{linkStep};
-ghost use Rattle.readers.specs.Terminators.{terminatorStep};
-ghost use Rattle.listing.specs.Listing.{listing};
-ghost use Rattle.sentences.specs.Clipped.{Clipped};
-ghost use Rattle.sentences.specs.Sentence.{sentence};
+ghost use Rattle.base_refusals.specs.Code.{lengthCode};
+ghost use Rattle.base_lent.specs.Lent.{intoBuffer, roomFor};
+ghost use Rattle.image_readers.specs.Lines.{overview};
+ghost use Rattle.image_readers.specs.Links.{linkStep};
+ghost use Rattle.image_readers.specs.Terminators.{terminatorStep};
+ghost use Rattle.list_image.specs.Listing.{listing};
+ghost use Rattle.say_sentences.specs.Clipped.{Clipped};
+ghost use Rattle.say_sentences.specs.Sentence.{sentence};
 ghost use Rattle.library_numbers.specs.Overview.{overviewCode};
 ghost use Rattle.moldthatch.specs.Given.{crunchedWith, crunchedBy, listedWith, listedBy};
 ghost use Rattle.moldthatch.specs.Told.{toldCode};
@@ -36,15 +36,15 @@ pub extern "C" fn moldthatch_crunch_with(
 ) -> Code
     ensures { λ r. ⌜ record { code = r; buffer = now (out .exit) } ≡ toldCode (intoBuffer (crunchedWith options (now (text .entry))) (now (out .entry))) ⌝ }
 {
-    match dialect::dialect_by_number(options.dialect) {
+    match word_dialects::dialect_by_number(options.dialect) {
         Named::Known(known) => {
-            lent::outcome_code(image::crunch(
+            base_lent::outcome_code(crunch_image::crunch(
                 text,
                 library_numbers::crunch_options(options, known),
                 out,
             ))
         }
-        Named::Refused(refusal) => refusals::refusal_code(refusal),
+        Named::Refused(refusal) => base_refusals::refusal_code(refusal),
     }
 }
 
@@ -53,12 +53,12 @@ pub extern "C" fn moldthatch_crunch_with(
 pub extern "C" fn moldthatch_crunch_with_room(text: &[u8], options: CrunchNumbers) -> Code
     ensures { λ r. ⌜ r ≡ lengthCode (roomFor (crunchedWith options (now (text .entry)))) ⌝ }
 {
-    match dialect::dialect_by_number(options.dialect) {
-        Named::Known(known) => lent::outcome_code(image::room(
+    match word_dialects::dialect_by_number(options.dialect) {
+        Named::Known(known) => base_lent::outcome_code(crunch_image::room(
             text,
             library_numbers::crunch_options(options, known),
         )),
-        Named::Refused(refusal) => refusals::refusal_code(refusal),
+        Named::Refused(refusal) => base_refusals::refusal_code(refusal),
     }
 }
 
@@ -100,7 +100,7 @@ pub extern "C" fn moldthatch_crunch_room(text: &[u8], load: u16, dialect: u8) ->
 pub extern "C" fn moldthatch_list(image: &[u8], out: &mut [u8]) -> Code
     ensures { λ r. ⌜ record { code = r; buffer = now (out .exit) } ≡ toldCode (intoBuffer (listing (now (image .entry))) (now (out .entry))) ⌝ }
 {
-    lent::outcome_code(listing::list(image, out))
+    base_lent::outcome_code(list_image::list(image, out))
 }
 
 // The room that the listing of an image needs.
@@ -108,7 +108,7 @@ pub extern "C" fn moldthatch_list(image: &[u8], out: &mut [u8]) -> Code
 pub extern "C" fn moldthatch_list_room(image: &[u8]) -> Code
     ensures { λ r. ⌜ r ≡ lengthCode (roomFor (listing (now (image .entry)))) ⌝ }
 {
-    lent::outcome_code(listing::room(image))
+    base_lent::outcome_code(list_image::room(image))
 }
 
 // Lists an image with options into the start of a buffer: the listing's length.
@@ -116,15 +116,15 @@ pub extern "C" fn moldthatch_list_room(image: &[u8]) -> Code
 pub extern "C" fn moldthatch_list_with(image: &[u8], options: ListNumbers, out: &mut [u8]) -> Code
     ensures { λ r. ⌜ record { code = r; buffer = now (out .exit) } ≡ toldCode (intoBuffer (listedWith options (now (image .entry))) (now (out .entry))) ⌝ }
 {
-    match dialect::dialect_by_number(options.dialect) {
+    match word_dialects::dialect_by_number(options.dialect) {
         Named::Known(known) => {
-            lent::outcome_code(listing::list_under(
+            base_lent::outcome_code(list_image::list_under(
                 image,
                 library_numbers::list_options(options, known),
                 out,
             ))
         }
-        Named::Refused(refusal) => refusals::refusal_code(refusal),
+        Named::Refused(refusal) => base_refusals::refusal_code(refusal),
     }
 }
 
@@ -133,14 +133,14 @@ pub extern "C" fn moldthatch_list_with(image: &[u8], options: ListNumbers, out: 
 pub extern "C" fn moldthatch_list_with_room(image: &[u8], options: ListNumbers) -> Code
     ensures { λ r. ⌜ r ≡ lengthCode (roomFor (listedWith options (now (image .entry)))) ⌝ }
 {
-    match dialect::dialect_by_number(options.dialect) {
+    match word_dialects::dialect_by_number(options.dialect) {
         Named::Known(known) => {
-            lent::outcome_code(listing::room_under(
+            base_lent::outcome_code(list_image::room_under(
                 image,
                 library_numbers::list_options(options, known),
             ))
         }
-        Named::Refused(refusal) => refusals::refusal_code(refusal),
+        Named::Refused(refusal) => base_refusals::refusal_code(refusal),
     }
 }
 
@@ -201,7 +201,7 @@ pub extern "C" fn moldthatch_sentence(
 ) -> usize
     ensures { λ r. ⌜ Clipped (now (out .entry)) 0 (sentence (record { number = number; count = 2; first = first; second = second })) r (now (out .exit)) ⌝ }
 {
-    sentences::sentence(
+    say_sentences::sentence(
         Code {
             number,
             count: 2,

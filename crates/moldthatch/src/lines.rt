@@ -1,23 +1,23 @@
 // Lines of an image, one at a time: by its offset, by its number, by its place in the image that a text would have.
-use dialect::Named;
-use find_line::Sought;
+use base_refusals::Code;
+use base_refusals::Refusal;
+use crunch_rules::LineMeasured;
+use image_find::Sought;
+use image_readers::Line;
+use image_readers::Step;
+use image_readers::links;
+use image_readers::terminators;
 use library_numbers::CrunchNumbers;
 use library_numbers::crunch_options;
-use readers::Line;
-use readers::Step;
-use readers::links;
-use readers::terminators;
-use refusals::Code;
-use refusals::Refusal;
-use text_image::LineMeasured;
+use word_dialects::Named;
 ghost use mathlib.Core.Path.{_≡_};
-ghost use Rattle.refusals.specs.Answer.{numbered};
-ghost use Rattle.refusals.specs.Code.{codeOf};
-ghost use Rattle.readers.specs.Answers.{stepAnswer};
-ghost use Rattle.readers.specs.Links.{linkStep};
-ghost use Rattle.readers.specs.Terminators.{terminatorStep};
-ghost use Rattle.find_line.specs.Sought.{lineSought, soughtAnswer};
-ghost use Rattle.text_image.specs.Measured.{lineAnswer};
+ghost use Rattle.base_refusals.specs.Answer.{numbered};
+ghost use Rattle.base_refusals.specs.Code.{codeOf};
+ghost use Rattle.image_readers.specs.Answers.{stepAnswer};
+ghost use Rattle.image_readers.specs.Links.{linkStep};
+ghost use Rattle.image_readers.specs.Terminators.{terminatorStep};
+ghost use Rattle.image_find.specs.Sought.{lineSought, soughtAnswer};
+ghost use Rattle.crunch_rules.specs.Measured.{lineAnswer};
 ghost use Rattle.moldthatch.specs.Given.{measuredWith};
 ghost use Rattle.moldthatch.specs.ToldLines.{lineCode, noLine, stepCode, visitCode, measuredCode};
 
@@ -56,7 +56,7 @@ pub extern "C" fn moldthatch_step_terminators(image: &[u8], offset: usize) -> Li
 pub extern "C" fn moldthatch_find_line(image: &[u8], number: u16, limit: usize) -> LineCode
     ensures { λ r. ⌜ r ≡ visitCode (lineSought number limit (now (image .entry))) ⌝ }
 {
-    sought_code(find_line::find_line(image, number, limit))
+    sought_code(image_find::find_line(image, number, limit))
 }
 
 // The line at a place from 1 of the image that a text would have, and the text line that it comes from.
@@ -68,9 +68,9 @@ pub extern "C" fn moldthatch_measured_line(
 ) -> LineCode
     ensures { λ r. ⌜ r ≡ measuredCode (measuredWith options place (now (text .entry))) ⌝ }
 {
-    match dialect::dialect_by_number(options.dialect) {
+    match word_dialects::dialect_by_number(options.dialect) {
         Named::Known(known) => {
-            measured_code(image::measured_line(text, crunch_options(options, known), place))
+            measured_code(crunch_image::measured_line(text, crunch_options(options, known), place))
         }
         Named::Refused(refusal) => refused_line(refusal),
     }
@@ -146,7 +146,7 @@ fn no_line(number: u8, count: usize, first: usize) -> LineCode
 fn refused_line(refusal: Refusal) -> LineCode
     ensures { λ r. ⌜ r ≡ noLine (codeOf (numbered refusal)) ⌝ }
 {
-    none_for(refusals::refusal_code(refusal))
+    none_for(base_refusals::refusal_code(refusal))
 }
 
 fn none_for(code: Code) -> LineCode

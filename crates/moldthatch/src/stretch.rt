@@ -1,14 +1,14 @@
 // The listing of a line in stretches. What is left of the line is carried in numbers from call to call.
-use dialect::Named;
+use base_refusals::Code;
+use base_refusals::Refusal;
 use library_numbers::ListNumbers;
 use library_numbers::list_options;
-use line_stretches::Place;
-use line_stretches::Stretch;
-use refusals::Code;
-use refusals::Refusal;
+use list_stretches::Place;
+use list_stretches::Stretch;
+use word_dialects::Named;
 ghost use mathlib.Core.Path.{_≡_};
-ghost use Rattle.refusals.specs.Answer.{numbered};
-ghost use Rattle.refusals.specs.Code.{codeOf};
+ghost use Rattle.base_refusals.specs.Answer.{numbered};
+ghost use Rattle.base_refusals.specs.Code.{codeOf};
 ghost use Rattle.moldthatch.specs.ToldStretch.{stretchPlace, placeNumbers, stretchCode, stretchedWith};
 
 // What is left of a line: of kind 0 all of it, with its number; of kind 1 its body from a place on, in a mode, and the line's end; of any
@@ -38,8 +38,8 @@ pub extern "C" fn moldthatch_list_stretch(
 ) -> StretchCode
     ensures { λ r. ⌜ record { told = r; buffer = now (out .exit) } ≡ stretchedWith options (now (body .entry)) place (now (out .entry)) ⌝ }
 {
-    match dialect::dialect_by_number(options.dialect) {
-        Named::Known(known) => stretch_code(line_stretches::list_stretch(
+    match word_dialects::dialect_by_number(options.dialect) {
+        Named::Known(known) => stretch_code(list_stretches::list_stretch(
             body,
             list_options(options, known),
             place_of(place),
@@ -54,7 +54,7 @@ fn stretch_code(stretch: Stretch) -> StretchCode
 {
     let place = stretch.place;
     StretchCode {
-        code: refusals::with_one(0, stretch.length),
+        code: base_refusals::with_one(0, stretch.length),
         place: place_numbers(place),
     }
 }
@@ -63,7 +63,7 @@ fn refused_stretch(refusal: Refusal, place: PlaceNumbers) -> StretchCode
     ensures { λ r. ⌜ r ≡ record { code = codeOf (numbered refusal); place = place } ⌝ }
 {
     StretchCode {
-        code: refusals::refusal_code(refusal),
+        code: base_refusals::refusal_code(refusal),
         place,
     }
 }
@@ -76,7 +76,7 @@ fn place_of(given: PlaceNumbers) -> Place
         0 => Place::Number(given.number),
         1 => Place::Body {
             at: given.at,
-            mode: fault_numbers::mode_of(given.mode),
+            mode: library_faults::mode_of(given.mode),
         },
         _ => Place::Over,
     }
@@ -94,7 +94,7 @@ fn place_numbers(place: Place) -> PlaceNumbers
         },
         Place::Body { at, mode } => PlaceNumbers {
             kind: 1,
-            mode: fault_numbers::mode_number(mode),
+            mode: library_faults::mode_number(mode),
             number: 0,
             at,
         },

@@ -9,9 +9,9 @@ use native.Mathlib.Omega.{arith}
 use lib.Dec.{eqb}
 use lib.ListN.{length, getD, take, drop}
 use borrow.Author.Tests.{eqb-true, eq-eqb, not-false}
-use Rattle.ascii.specs.Bytes.{between, isSpace}
-use Rattle.ascii.specs.Search.{equals, isWhite, isBlank, front}
-use Rattle.ascii.proofs.Searching.{Onward, onward-start, onward-wider, passes-all, run-turn, from-end, from-found, front-nil, front-more, front-none}
+use Rattle.base_ascii.specs.Bytes.{between, isSpace}
+use Rattle.base_ascii.specs.Search.{equals, isWhite, isBlank, front}
+use Rattle.base_ascii.proofs.Searching.{Onward, onward-start, onward-wider, passes-all, run-turn, from-end, from-found, front-nil, front-more, front-none}
 use Rattle.text_lines.specs.SplitHelpers.{runEnd}
 
 -- ---- one byte

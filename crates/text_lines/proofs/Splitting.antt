@@ -11,15 +11,15 @@ use lib.Dec.{eqb, ltb}
 use lib.ListN.{length, getD, take, drop, drop-of-length-le, length-drop}
 use lib.Seq.{drop-drop}
 use borrow.Author.Tests.{eqb-true, ne-eqb, lt-ltb, le-ltb, not-true, not-false}
-use Rattle.ascii.specs.Search.{startsWith, isBlank, front}
-use Rattle.ascii.proofs.Searching.{Onward, onward-start, onward-by, onward-end, tail, here, starts-long, front-nil, front-more, front-none}
+use Rattle.base_ascii.specs.Search.{startsWith, isBlank, front}
+use Rattle.base_ascii.proofs.Searching.{Onward, onward-start, onward-by, onward-end, tail, here, starts-long, front-nil, front-more, front-none}
 use Rattle.text_lines.specs.TextLines.{crLf, loneCr, onto, atLf, textLines}
 use Rattle.text_lines.specs.SplitHelpers.{endMark, lineLength, lineUsed, lineFrom, AboveCr}
 use Rattle.text_lines.specs.declared.LineRule.{LineRule}
 use Rattle.text_lines.specs.declared.LineRule.the-variants.{AsGiven, AfterCr}
 use Rattle.text_lines.specs.declared.TextLine.{TextLine}
 use Rattle.text_lines.proofs.Blanks.{blank-lf, blank-cr, past-blanks}
-use Rattle.ascii.proofs.Choice.{taken, left}
+use Rattle.base_ascii.proofs.Choice.{taken, left}
 
 -- ---- the line end in front, by what the first bytes are
 

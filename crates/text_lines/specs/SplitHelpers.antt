@@ -5,7 +5,7 @@ use Prim.Native.Nat.{ℕ, zero, suc, _+_, _≤_, _<_}
 use mathlib.Core.Bool.{cond}
 use mathlib.Core.List.{List, [], _∷_}
 use lib.ListN.{length, getD, drop}
-use Rattle.ascii.specs.Search.{equals, startsWith, isBlank, front}
+use Rattle.base_ascii.specs.Search.{equals, startsWith, isBlank, front}
 use Rattle.text_lines.specs.declared.LineRule.{LineRule}
 use Rattle.text_lines.specs.declared.LineRule.the-variants.{AsGiven, AfterCr}
 use Rattle.text_lines.specs.declared.TextLine.{TextLine}

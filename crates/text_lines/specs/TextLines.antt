@@ -6,7 +6,7 @@ use Prim.Native.Nat.{ℕ}
 use mathlib.Core.Bool.{true, false, cond, _&&_}
 use mathlib.Core.List.{List, [], _∷_, map}
 use lib.Dec.{eqb}
-use Rattle.ascii.specs.Search.{startsWith}
+use Rattle.base_ascii.specs.Search.{startsWith}
 use Rattle.text_lines.specs.declared.LineRule.{LineRule}
 use Rattle.text_lines.specs.declared.LineRule.the-variants.{AsGiven, AfterCr}
 

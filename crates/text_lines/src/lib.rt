@@ -1,10 +1,10 @@
 // The lines of a text, found where they stand: nothing is copied.
-use ascii::search;
-use ascii::search::Kind;
+use base_ascii::search;
+use base_ascii::search::Kind;
 ghost use mathlib.Core.Path.{_≡_};
 ghost use Prim.Native.Nat.{_+_, _≤_};
 ghost use lib.ListN.{length, drop};
-ghost use Rattle.ascii.specs.Search.{isBlank, front};
+ghost use Rattle.base_ascii.specs.Search.{isBlank, front};
 ghost use Rattle.text_lines.specs.SplitHelpers.{endMark, lineFrom, runEnd, AboveCr};
 
 // What ends a line.
@@ -84,7 +84,7 @@ fn long_run(text: &[u8], from: usize, b: u8) -> usize
 }
 
 // The place behind the blanks that stand from a place on. Most are a run of one, which is passed first with one test for each byte.
-// These loops stand here, and not in `ascii::search`, because they are run for each text line.
+// These loops stand here, and not in `base_ascii::search`, because they are run for each text line.
 fn behind_blanks(text: &[u8], from: usize) -> usize
     ensures { λ r. ⌜ r ≡ from + front isBlank (drop from (now (text .entry))) ⌝ }
 {

@@ -1,7 +1,7 @@
 -- `body::bound_body` meets its contract.
 -- Assumes nothing.
 use Rattle.body.proofs.Bound.{bound-text, bound-measured, bound-most}
-use Rattle.steps.proofs.The.{the}
+use Rattle.base_steps.proofs.The.{the}
 use borrow.Author.Needs.{needs}
 use Rattle.body.proofs.bound_body.Statement.{statement}
 use Rattle.body.proofs.bound_body.Tie as tie

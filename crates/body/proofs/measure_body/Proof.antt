@@ -5,12 +5,12 @@ use denote.Ref.{now}
 use lib.ListN.{length}
 use mir.Syntax.{w64}
 use mir.Val.{Fits}
-use Rattle.moves.specs.Lexicon.{lexicon}
-use Rattle.moves.proofs.Beginnings.{document-proper}
+use Rattle.body_rules.specs.Lexicon.{lexicon}
+use Rattle.body_rules.proofs.Beginnings.{document-proper}
 use Rattle.body.proofs.Writing.{Measured, measured-start, measured-full, measured-turn, measured-end, measured-fits, measured-less, short-full, short-measured, long-byte, long-here}
 use Rattle.body_steps.specs.BraceHelpers.{Spans}
 use Rattle.body_steps.proofs.Braces.{spans-on, reaches-on}
-use Rattle.steps.proofs.The.{the}
+use Rattle.base_steps.proofs.The.{the}
 use native.Mathlib.Omega.{arith}
 use borrow.Author.Needs.{needs}
 use Rattle.body.proofs.measure_body.Statement.{statement}

@@ -2,7 +2,7 @@
 -- Assumes nothing.
 use native.Mathlib.Omega.{arith}
 use lib.ListN.{length-take}
-use Rattle.inputs.proofs.Within.{input-within}
+use Rattle.desk_inputs.proofs.Within.{input-within}
 use borrow.Author.Needs.{needs}
 use Rattle.crunch.proofs.crunch_given.Statement.{statement}
 use Rattle.crunch.proofs.crunch_given.Tie as tie

@@ -2,7 +2,7 @@
 -- Assumes nothing.
 use Prim.Native.Nat.{_-_}
 use lib.ListN.{length}
-use Rattle.saves.proofs.Lowest.{Standing, stand-start, stand-found, stand-turn, stand-end}
+use Rattle.disk_saves.proofs.Lowest.{Standing, stand-start, stand-found, stand-turn, stand-end}
 use borrow.Author.Needs.{needs}
 use Rattle.disk.proofs.has_a0.Statement.{statement}
 use Rattle.disk.proofs.has_a0.Tie as tie

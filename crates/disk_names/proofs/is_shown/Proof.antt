@@ -1,7 +1,7 @@
 -- `disk_names::is_shown` meets its contract.
 -- Assumes nothing.
 use Rattle.disk_names.proofs.Showing.{never-shown, may-be-shown}
-use Rattle.steps.proofs.The.{the}
+use Rattle.base_steps.proofs.The.{the}
 use borrow.Author.Needs.{needs}
 use Rattle.disk_names.proofs.is_shown.Statement.{statement}
 use Rattle.disk_names.proofs.is_shown.Tie as tie

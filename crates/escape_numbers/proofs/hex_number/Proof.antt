@@ -1,7 +1,7 @@
 -- `escape_numbers::hex_number` meets its contract.
 -- Assumes nothing.
 use Rattle.escape_numbers.proofs.Numbering.{hex-empty, hex-other, hex-digits}
-use Rattle.steps.proofs.The.{the}
+use Rattle.base_steps.proofs.The.{the}
 use borrow.Author.Needs.{needs}
 use Rattle.escape_numbers.proofs.hex_number.Statement.{statement}
 use Rattle.escape_numbers.proofs.hex_number.Tie as tie

@@ -5,7 +5,7 @@ use native.Mathlib.Omega.{arith}
 use lib.ListN.{length}
 use Rattle.escape_numbers.specs.Numbers.{numberOf}
 use Rattle.escape_numbers.proofs.Numbering.{number-empty, Made, made-start, made-other, made-over, made-fits, made-turn, made-end}
-use Rattle.steps.proofs.The.{the}
+use Rattle.base_steps.proofs.The.{the}
 use borrow.Author.Needs.{needs}
 use Rattle.escape_numbers.proofs.number_in.Statement.{statement}
 use Rattle.escape_numbers.proofs.number_in.Tie as tie

@@ -1,7 +1,7 @@
 -- `escape_numbers::without_plus` meets its contract.
 -- Assumes nothing.
 use Rattle.escape_numbers.proofs.Numbering.{plus-empty, plus-other, plus-left-out}
-use Rattle.steps.proofs.The.{the}
+use Rattle.base_steps.proofs.The.{the}
 use borrow.Author.Needs.{needs}
 use Rattle.escape_numbers.proofs.without_plus.Statement.{statement}
 use Rattle.escape_numbers.proofs.without_plus.Tie as tie

@@ -1,7 +1,7 @@
 -- `escapes::petscii_escape` meets its contract: the stored words are the lists'.
 -- Assumes nothing.
 use mathlib.Core.Path.{refl}
-use Rattle.tables.proofs.Laid.{wordBytes, wordIndex, words-spelt}
+use Rattle.word_tables.proofs.Laid.{wordBytes, wordIndex, words-spelt}
 use borrow.Author.Needs.{needs}
 use Rattle.escapes.proofs.petscii_escape.Statement.{statement}
 use Rattle.escapes.proofs.petscii_escape.Tie as tie

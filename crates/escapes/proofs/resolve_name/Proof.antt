@@ -2,7 +2,7 @@
 -- Assumes nothing.
 use Rattle.escape_numbers.proofs.Numbering.{decimal-byte, hex-byte}
 use Rattle.escapes.proofs.Resolving.{name-empty, name-decimal, name-hex, name-listed, name-keyed}
-use Rattle.steps.proofs.The.{the}
+use Rattle.base_steps.proofs.The.{the}
 use borrow.Author.Needs.{needs}
 use Rattle.escapes.proofs.resolve_name.Statement.{statement}
 use Rattle.escapes.proofs.resolve_name.Tie as tie

@@ -2,7 +2,7 @@
 -- Assumes nothing.
 use Rattle.escapes.proofs.Resolving.{star-taken}
 use Rattle.escapes.proofs.Tails.{starred-counted, starred-zero, starred-missing}
-use Rattle.steps.proofs.The.{the}
+use Rattle.base_steps.proofs.The.{the}
 use borrow.Author.Needs.{needs}
 use Rattle.escapes.proofs.starred_tail.Statement.{statement}
 use Rattle.escapes.proofs.starred_tail.Tie as tie

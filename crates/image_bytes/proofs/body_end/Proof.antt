@@ -1,7 +1,7 @@
 -- `image_bytes::body_end` meets its contract.
 -- Assumes nothing.
 use native.Mathlib.Omega.{arith}
-use Rattle.steps.proofs.The.{the}
+use Rattle.base_steps.proofs.The.{the}
 use Rattle.image_bytes.proofs.Zeros.{body-end-at, body-at-within}
 use borrow.Author.Needs.{needs}
 use Rattle.image_bytes.proofs.body_end.Statement.{statement}

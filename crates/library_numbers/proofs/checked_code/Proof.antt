@@ -1,8 +1,8 @@
 -- `library_numbers::checked_code` meets its contract.
 -- Assumes nothing.
 use mathlib.Core.Path.{ap, sym, _∙_}
-use Rattle.readers.specs.Answers.{checkedAnswer}
-use Rattle.readers.specs.declared.Checked.{Checked}
+use Rattle.image_readers.specs.Answers.{checkedAnswer}
+use Rattle.image_readers.specs.declared.Checked.{Checked}
 use Rattle.library_numbers.specs.Overview.{overviewCode}
 use borrow.Author.Needs.{needs}
 use Rattle.library_numbers.proofs.checked_code.Statement.{statement}

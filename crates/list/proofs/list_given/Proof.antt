@@ -1,6 +1,6 @@
 -- `list::list_given` is safe and ends: the count that was read lies within the buffer.
 -- Assumes nothing.
-use Rattle.inputs.proofs.Within.{input-within}
+use Rattle.desk_inputs.proofs.Within.{input-within}
 use borrow.Author.Needs.{needs}
 use Rattle.list.proofs.list_given.Statement.{statement}
 use Rattle.list.proofs.list_given.Tie as tie

@@ -2,8 +2,8 @@
 -- Assumes nothing.
 use Prim.Native.Nat.{_-_}
 use lib.ListN.{length}
-use Rattle.ascii.specs.Search.{isBlank, front}
-use Rattle.ascii.proofs.Searching.{Onward, front-turn, from-found, from-end}
+use Rattle.base_ascii.specs.Search.{isBlank, front}
+use Rattle.base_ascii.proofs.Searching.{Onward, front-turn, from-found, from-end}
 use Rattle.text_lines.proofs.Blanks.{blanks-beyond, blanks-none, blanks-run}
 use borrow.Author.Needs.{needs}
 use Rattle.text_lines.proofs.behind_blanks.Statement.{statement}

@@ -2,8 +2,8 @@
 -- Assumes nothing.
 use Prim.Native.Nat.{_-_, _≤_}
 use lib.ListN.{length}
-use Rattle.ascii.specs.Search.{equals, front}
-use Rattle.ascii.proofs.Searching.{Onward, onward-start, run-turn}
+use Rattle.base_ascii.specs.Search.{equals, front}
+use Rattle.base_ascii.proofs.Searching.{Onward, onward-start, run-turn}
 use Rattle.text_lines.proofs.Blanks.{run-on}
 use borrow.Author.Needs.{needs}
 use Rattle.text_lines.proofs.behind_run.Statement.{statement}

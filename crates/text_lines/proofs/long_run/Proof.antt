@@ -2,8 +2,8 @@
 -- Assumes nothing.
 use Prim.Native.Nat.{_-_, _≤_}
 use lib.ListN.{length}
-use Rattle.ascii.specs.Search.{equals, front}
-use Rattle.ascii.proofs.Searching.{Onward, onward-start}
+use Rattle.base_ascii.specs.Search.{equals, front}
+use Rattle.base_ascii.proofs.Searching.{Onward, onward-start}
 use Rattle.text_lines.proofs.Blanks.{run-four}
 use borrow.Author.Needs.{needs}
 use Rattle.text_lines.proofs.long_run.Statement.{statement}

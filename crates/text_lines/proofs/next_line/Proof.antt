@@ -3,7 +3,7 @@
 use Prim.Native.Nat.{_-_}
 use native.Mathlib.Omega.{arith}
 use lib.ListN.{length}
-use Rattle.ascii.proofs.Searching.{Onward}
+use Rattle.base_ascii.proofs.Searching.{Onward}
 use Rattle.text_lines.specs.SplitHelpers.{lineLength}
 use Rattle.text_lines.proofs.Splitting.{seeking-none, seeking-start, seeking-passed, passed-less, seeking-turn, seeking-found, seeking-end, mark-small}
 use borrow.Author.Needs.{needs}

@@ -5,13 +5,13 @@ use mathlib.Core.Path.{_≡_, ap, _∙_}
 use mathlib.Core.Bool.{Bool, true}
 use mathlib.Core.List.{List}
 use lib.ListN.{length, getD, drop}
-use Rattle.matching.specs.declared.sets.Sets.{Sets}
-use Rattle.moves.specs.Lexicon.{lexicon}
-use Rattle.moves.specs.ShortHelpers.{isShort, shortByte, shortMode}
-use Rattle.moves.specs.Steps.{one, crunchStep}
-use Rattle.moves.specs.declared.Mode.{Mode}
-use Rattle.moves.specs.declared.Move.{Move}
-use Rattle.moves.proofs.ShortSteps.{short-known}
+use Rattle.word_match.specs.declared.sets.Sets.{Sets}
+use Rattle.body_rules.specs.Lexicon.{lexicon}
+use Rattle.body_rules.specs.ShortHelpers.{isShort, shortByte, shortMode}
+use Rattle.body_rules.specs.Steps.{one, crunchStep}
+use Rattle.body_rules.specs.declared.Mode.{Mode}
+use Rattle.body_rules.specs.declared.Move.{Move}
+use Rattle.body_rules.proofs.ShortSteps.{short-known}
 use Rattle.body.proofs.Writing.{short-here, long-byte, long-here}
 use borrow.Author.Needs.{needs}
 use Rattle.body.proofs.at.step_at.Statement.{statement}

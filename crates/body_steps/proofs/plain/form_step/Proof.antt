@@ -1,7 +1,7 @@
 -- `body_steps::plain::form_step` meets its contract: no operator begins with a letter.
 -- Assumes nothing.
-use Rattle.moves.proofs.Beginnings.{document-proper}
-use Rattle.moves.proofs.PlainSteps.{letter-alone, letter-form, letter-other}
+use Rattle.body_rules.proofs.Beginnings.{document-proper}
+use Rattle.body_rules.proofs.PlainSteps.{letter-alone, letter-form, letter-other}
 use borrow.Author.Needs.{needs}
 use Rattle.body_steps.proofs.plain.form_step.Statement.{statement}
 use Rattle.body_steps.proofs.plain.form_step.Tie as tie

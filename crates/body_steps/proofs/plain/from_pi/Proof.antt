@@ -1,7 +1,7 @@
 -- `body_steps::plain::from_pi` meets its contract.
 -- Assumes nothing.
-use Rattle.moves.proofs.PlainSteps.{other-pi, other-no-pi, other-short}
-use Rattle.steps.proofs.The.{the}
+use Rattle.body_rules.proofs.PlainSteps.{other-pi, other-no-pi, other-short}
+use Rattle.base_steps.proofs.The.{the}
 use borrow.Author.Needs.{needs}
 use Rattle.body_steps.proofs.plain.from_pi.Statement.{statement}
 use Rattle.body_steps.proofs.plain.from_pi.Tie as tie

@@ -1,6 +1,6 @@
 -- `body_steps::plain::letter_step` meets its contract.
 -- Assumes nothing.
-use Rattle.moves.proofs.PlainSteps.{letter-tsb, letter-plain, letter-left}
+use Rattle.body_rules.proofs.PlainSteps.{letter-tsb, letter-plain, letter-left}
 use borrow.Author.Needs.{needs}
 use Rattle.body_steps.proofs.plain.letter_step.Statement.{statement}
 use Rattle.body_steps.proofs.plain.letter_step.Tie as tie

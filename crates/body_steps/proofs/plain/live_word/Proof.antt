@@ -1,6 +1,6 @@
 -- `body_steps::plain::live_word` meets its contract.
 -- Assumes nothing.
-use Rattle.matching.proofs.Living.{live-dead}
+use Rattle.word_match.proofs.Living.{live-dead}
 use borrow.Author.Needs.{needs}
 use Rattle.body_steps.proofs.plain.live_word.Statement.{statement}
 use Rattle.body_steps.proofs.plain.live_word.Tie as tie

@@ -1,8 +1,8 @@
 -- `body_steps::step::step` meets its contract.
 -- Assumes nothing.
 use Rattle.body_steps.proofs.Braces.{reaches-brace}
-use Rattle.moves.proofs.ShortSteps.{rest-some, rest-pi, rest-letter, long-brace, long-pi, long-letter}
-use Rattle.steps.proofs.The.{the}
+use Rattle.body_rules.proofs.ShortSteps.{rest-some, rest-pi, rest-letter, long-brace, long-pi, long-letter}
+use Rattle.base_steps.proofs.The.{the}
 use borrow.Author.Needs.{needs}
 use Rattle.body_steps.proofs.step.step.Statement.{statement}
 use Rattle.body_steps.proofs.step.step.Tie as tie

@@ -6,7 +6,7 @@ use mir.Syntax.{w64}
 use mir.Val.{Fits}
 use native.Mathlib.Omega.{arith}
 use Rattle.body_steps.proofs.Braces.{found-within, found-fits, reaches-other, reaches-known, reaches-found}
-use Rattle.steps.proofs.The.{the}
+use Rattle.base_steps.proofs.The.{the}
 use borrow.Author.Needs.{needs}
 use Rattle.body_steps.proofs.string.span_at.Statement.{statement}
 use Rattle.body_steps.proofs.string.span_at.Tie as tie

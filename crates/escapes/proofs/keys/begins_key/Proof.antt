@@ -1,6 +1,6 @@
 -- `escapes::keys::begins_key` meets its contract.
 -- Assumes nothing.
-use Rattle.steps.proofs.The.{the}
+use Rattle.base_steps.proofs.The.{the}
 use Rattle.escapes.proofs.Marks.{begins-empty, begins-c, begins-s}
 use borrow.Author.Needs.{needs}
 use Rattle.escapes.proofs.keys.begins_key.Statement.{statement}

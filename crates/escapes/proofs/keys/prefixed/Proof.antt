@@ -1,7 +1,7 @@
 -- `escapes::keys::prefixed` meets its contract: the stored prefixes are the definition's.
 -- Assumes nothing.
-use Rattle.ascii.specs.Bytes.{between, upper}
-use Rattle.words.proofs.Storing.{allBelow, readyAt, stored-below, spellsNames}
+use Rattle.base_ascii.specs.Bytes.{between, upper}
+use Rattle.word_search.proofs.Storing.{allBelow, readyAt, stored-below, spellsNames}
 use Rattle.escape_bytes.specs.Keys.{keyNames}
 use Rattle.escapes.proofs.Marks.{prefix-known, prefix-unknown}
 use borrow.Author.Needs.{needs}

@@ -2,7 +2,7 @@
 -- Assumes nothing.
 use mathlib.Core.Path.{refl}
 use Rattle.guess.proofs.Texts.{auto-tsb, auto-v2, as-v2, as-tsb, as-basic35}
-use Rattle.tables.proofs.Laid.{wordBytes, wordIndex, words-spelt}
+use Rattle.word_tables.proofs.Laid.{wordBytes, wordIndex, words-spelt}
 use borrow.Author.Needs.{needs}
 use Rattle.guess.proofs.resolve.guessed.Statement.{statement}
 use Rattle.guess.proofs.resolve.guessed.Tie as tie

@@ -1,8 +1,0 @@
--- `ascii::is_letter` meets its contract.
--- Assumes nothing.
-use borrow.Author.Needs.{needs}
-use Rattle.ascii.proofs.is_letter.Statement.{statement}
-use Rattle.ascii.proofs.is_letter.Tie as tie
-
-pub is-letter-spec : {M : Type 1} → statement M
-is-letter-spec = tie.close (tie.spec (λ c κs. search needs) (λ c κs. search needs) (λ c. cc))

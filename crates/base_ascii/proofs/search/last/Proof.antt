@@ -1,0 +1,42 @@
+-- `base_ascii::search::last` meets its contract.
+-- Assumes nothing.
+use Rattle.base_ascii.specs.Search.{ofKind, last}
+use Rattle.base_ascii.proofs.Searching.{Backward, backward-start, last-turn, last-found, last-end}
+use borrow.Author.Needs.{needs}
+use Rattle.base_ascii.proofs.search.last.Statement.{statement}
+use Rattle.base_ascii.proofs.search.last.Tie as tie
+
+abbrev Inv-loop : tie.InvT-loop
+Inv-loop s kind e₀ e = Backward (last (ofKind kind)) s e
+
+abbrev μ-loop : tie.MeasureT-loop
+μ-loop s kind e₀ e = e
+
+loop-holds : tie.Need-loop-holds Inv-loop μ-loop
+loop-holds c = search backward-start
+
+returns : tie.Need-returns Inv-loop μ-loop
+returns c = search last-found
+
+loop-again : tie.Need-loop-again Inv-loop μ-loop
+loop-again c = search last-turn
+
+returns-2 : tie.Need-returns-2 Inv-loop μ-loop
+returns-2 c = search last-end
+
+pub last-spec : {M : Type 1} → statement M
+last-spec =
+    tie.close
+    (tie.spec
+    Inv-loop
+    μ-loop
+    loop-holds
+    (λ c. search needs)
+    (λ c. search needs)
+    (λ c κs. search needs)
+    (λ c. search needs)
+    returns
+    (λ c. search needs)
+    (λ c. search needs)
+    loop-again
+    returns-2)

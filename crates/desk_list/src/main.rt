@@ -1,0 +1,126 @@
+// Lists programs, each to a file of its own in a folder. ./moldthatch gives the folder in the place of OUT, and a free name in it, under which each
+// listing is written before it is whole. Behind these stand the dialect's word and two flags, as for `list`, and then the names. No
+// contract can say what is read or written.
+mod naming;
+
+use base_refusals::Refusal;
+use desk::input;
+use desk::names;
+use desk::output;
+use desk::result;
+use desk_inputs::Input;
+use desk_options::AskedDialect;
+use image_readers::By;
+use image_readers::Checked;
+use list_options::ListOptions;
+use word_dialects::Dialect;
+
+const DIALECT: usize = names::WORDS;
+
+const REMARKS: usize = names::WORDS + 1;
+
+const LINKS: usize = names::WORDS + 2;
+
+// The first of the files.
+const FILES: usize = names::WORDS + 3;
+
+// Where the status goes that a program cannot end with.
+const STATUS_FILENO: i32 = 3;
+
+// What a file came to, and in the end all of them: the worst has the greatest number.
+const LISTED: u8 = b'0';
+
+const REFUSED: u8 = b'1';
+
+const FAILED: u8 = b'3';
+
+fn worse(first: u8, second: u8) -> u8 {
+    if first < second { second } else { first }
+}
+
+// Where the listing cannot be written, its file may still be open, and others follow.
+fn end_listing(fd: i32, name: &[u8], written: bool) -> u8 {
+    if result::finish(fd, name, written) {
+        return LISTED;
+    }
+    libc::close(fd);
+    FAILED
+}
+
+fn write_listing(file: &[u8], image: &[u8], options: ListOptions) -> u8 {
+    let mut name = io::buffer();
+    let n = naming::listing_name(file, &mut name);
+    let fd = result::begin(&name[..n]);
+    if fd < 0 {
+        return FAILED;
+    }
+    let mut out = [0u8; 8192];
+    let written = desk_lines::write_lines(fd, &name[..n], image, options, &mut out);
+    end_listing(fd, &name[..n], written)
+}
+
+fn refuse(file: &[u8], refusal: Refusal) -> u8 {
+    if output::tell(file, refusal) {
+        REFUSED
+    } else {
+        FAILED
+    }
+}
+
+// Nothing is written before the whole image is known to have a listing.
+fn list_image(file: &[u8], image: &[u8], options: ListOptions) -> u8 {
+    let by = options.by;
+    match image_readers::check_by(image, by) {
+        Checked::Image { load: _, lines: _ } => write_listing(file, image, options),
+        Checked::Refused(refusal) => refuse(file, refusal),
+    }
+}
+
+fn list_file(argument: usize, image: &mut [u8], options: ListOptions) -> u8 {
+    let mut file = io::buffer();
+    let n = names::name(argument, &mut file);
+    match input::read_file(&file[..n], image) {
+        Input::All(count) => list_image(&file[..n], &image[0..count], options),
+        Input::Longer => refuse(&file[..n], Refusal::ImageTooLong { length: 65_537 }),
+        Input::Failed => FAILED,
+    }
+}
+
+// Whatever a file comes to, the others are listed all the same.
+fn list_files(image: &mut [u8], options: ListOptions) -> u8 {
+    let count = os::arg_count();
+    let mut status = LISTED;
+    let mut i = FILES;
+    while i < count {
+        status = worse(status, list_file(i, image, options));
+        i += 1;
+    }
+    status
+}
+
+fn list_all(options: ListOptions) {
+    let mut image = [0u8; 65_536];
+    let status = list_files(&mut image, options);
+    io::write_all(STATUS_FILENO, &[status]);
+}
+
+// What the flags ask for; without any, what the original lists.
+fn list_options(dialect: Dialect) -> ListOptions {
+    let by = if desk_options::is_set(LINKS) {
+        By::Links
+    } else {
+        By::Terminators
+    };
+    ListOptions {
+        dialect,
+        remarks: desk_options::is_set(REMARKS),
+        by,
+    }
+}
+
+fn main() {
+    match desk_options::dialect(DIALECT) {
+        AskedDialect::Known(dialect) => list_all(list_options(dialect)),
+        AskedDialect::Ended => {}
+    }
+}

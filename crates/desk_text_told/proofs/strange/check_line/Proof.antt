@@ -1,0 +1,38 @@
+-- `desk_text_told::strange::check_line` is safe and ends.
+-- Assumes nothing.
+use borrow.Author.Needs.{needs}
+use Rattle.desk_text_told.proofs.strange.check_line.Statement.{statement}
+use Rattle.desk_text_told.proofs.strange.check_line.Tie as tie
+
+abbrev Inv-loop : tie.InvT-loop
+Inv-loop name k line t₀ at₀ column₀ left₀ t at column left = Unit {0}
+
+abbrev μ-loop : tie.MeasureT-loop
+μ-loop name k line t₀ at₀ column₀ left₀ t at column left = left
+
+pub check-line-spec : {M : Type 1} → statement M
+check-line-spec =
+    tie.close
+    (tie.spec
+    Inv-loop
+    μ-loop
+    (λ c. search needs)
+    (λ c. search needs)
+    (λ c κs. search needs)
+    (λ c. search needs)
+    (λ c κs. search needs)
+    (λ c κs. search needs)
+    (λ c κs. search needs)
+    (λ c κs. search needs)
+    (λ c κs. search needs)
+    (λ c κs. search needs)
+    (λ c κs. search needs)
+    (λ c. search needs)
+    (λ c. search needs)
+    (λ c. search needs)
+    (λ c. search needs)
+    (λ c. search needs)
+    (λ c. search needs)
+    (λ c. search needs)
+    (λ c. search needs)
+    (λ c. search needs))

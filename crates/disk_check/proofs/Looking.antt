@@ -1,0 +1,194 @@
+-- The sectors of chains are sectors, and entries in them stand on the disk; a log's start is what was logged.
+-- Assumes nothing.
+use Prim.Native.Nat.{ℕ, zero, suc, _+_, _-_, _*_, _/_, _%_, _≤_, _<_}
+use mathlib.Core.Path.{_≡_, refl, sym, ap, _∙_}
+use mathlib.Core.Bool.{Bool, true, false, cond}
+use mathlib.Core.List.{List, [], _∷_, _++_, map}
+use lib.ListN.{length, getD, take, drop, length-append, List·getD-append, length-map}
+use lib.Seq.{sets, sets-eq, take-at, getD-append-add}
+use native.Mathlib.Decide.{decLt}
+use native.Mathlib.Omega.{arith}
+use Rattle.disk_rules.specs.Lists.{numbersFrom, those}
+use Rattle.disk_rules.specs.Links.{linkAt}
+use Rattle.disk_rules.specs.declared.Link.{Link}
+use Rattle.disk_rules.specs.declared.Link.the-variants.{Last, To, Astray}
+use Rattle.disk_rules.specs.Chains.{Chain, chain, brokenChain, mayHold, chainOnward}
+use Rattle.disk_rules.specs.Entries.{directory, entryAt, isThat, entriesThat, listed, chainBy, chainOf, chainsBehind, chains}
+use Rattle.disk_chains.specs.ChainHelpers.{Sectors, Traces, Lists}
+use Rattle.disk_chains.specs.declared.Traced.{Traced}
+use Rattle.disk_chains.proofs.Tracing.{held-below}
+use Rattle.disk_entries.specs.EntryHelpers.{Entries}
+use Rattle.disk_rules.specs.Check.{sound}
+use Rattle.disk_check.specs.SoundHelpers.{Looks}
+use Rattle.disk_check.specs.declared.Seen.{Seen}
+
+-- ---- what holds of each number of a list
+
+-- of each number of a list, by its place
+pub record Each (P : ℕ → Type 0) (l : List ℕ) : Type 0 where
+  pub at : (i : ℕ) → i < length l → P (getD l i 0)
+
+module _ {P : ℕ → Type 0} where
+  pub each-none : Each P []
+  each-none = record { at = λ i h. absurd (omega arith) }
+
+  pub each-one : {n : ℕ} {l : List ℕ} → P n → Each P l → Each P (n ∷ l)
+  each-one {n} {l} p e = record { at = go } where
+    go : (i : ℕ) → i < suc (length l) → P (getD (n ∷ l) i 0)
+    go zero h = p
+    go (suc i) h = e .at i (omega arith)
+
+  each-both : (a : List ℕ) {b : List ℕ} → Each P a → Each P b → Each P (a ++ b)
+  each-both [] e f = f
+  each-both (n ∷ a) e f = each-one (e .at 0 (omega arith)) (each-both a (record { at = λ i h. e .at (suc i) (omega arith) }) f)
+
+  pub each-those : (test : ℕ → Bool) (l : List ℕ) → Each P l → Each P (those test l)
+  unfolding those
+  each-those test [] e = each-none
+  each-those test (n ∷ l) e = go (test n) (each-those test l (record { at = λ i h. e .at (suc i) (omega arith) })) where
+    go : (q : Bool) → Each P (those test l) → Each P (cond q (n ∷ those test l) (those test l))
+    go true f = each-one (e .at 0 (omega arith)) f
+    go false f = f
+
+-- ---- sectors
+
+abbrev pub Sector : ℕ → Type 0
+Sector n = n < 683
+
+pub as-sectors : {l : List ℕ} → Each Sector l → Sectors l
+as-sectors e = record { below = e .at }
+
+chain-each : (dir : Bool) (k : ℕ) (d : List ℕ) (n : ℕ) → Each Sector (chain dir k d n .sectors)
+unfolding chain
+chain-each dir zero d n = each-none
+chain-each dir (suc k) d n = go (mayHold dir n) refl (linkAt d (256 * n)) (chain-each dir k d) where
+  go : (q : Bool) → mayHold dir n ≡ q → (l : Link) → ((m : ℕ) → Each Sector (chain dir k d m .sectors))
+      → Each Sector (cond q (chainOnward dir n (chain dir k d) l) brokenChain .sectors)
+  go false e l f = each-none
+  go true e (Last b) f = each-one (held-below dir n e) each-none
+  go true e (To m) f = each-one (held-below dir n e) (f m)
+  go true e Astray f = each-one (held-below dir n e) each-none
+
+pub chain-sectors : (d : List ℕ) → Sectors (directory d .sectors)
+unfolding directory
+chain-sectors d = as-sectors (chain-each true 18 d 358)
+
+by-each : (d : List ℕ) (k : ℕ) (l : Link) → Each Sector (chainBy d k l .sectors)
+by-each d k (Last b) = each-none
+by-each d k (To n) = chain-each false k d n
+by-each d k Astray = each-none
+
+pub known-sectors : (d : List ℕ) {l : List ℕ} → l ≡ directory d .sectors → Sectors l
+known-sectors d e = rw e (chain-sectors d)
+
+pub entry-sectors : (k : ℕ) (d : List ℕ) (p : ℕ) → Sectors (chainOf k d p .sectors)
+entry-sectors k d p = as-sectors (by-each d k (linkAt d (p + 1)))
+
+chains-each : (k : ℕ) (d l : List ℕ) → Each Sector (chains k d l .sectors)
+unfolding chains
+chains-each k d [] = each-none
+chains-each k d (p ∷ l) = go (chainOf k d p) (by-each d k (linkAt d (p + 1))) (λ n. chains-each (k - n) d l) where
+  go : (c : Chain) → Each Sector (c .sectors) → ((n : ℕ) → Each Sector (chains (k - n) d l .sectors))
+      → Each Sector (chainsBehind c (λ n. chains (k - n) d l) .sectors)
+  go c e f = by (c .ends) where
+    by : (q : Bool)
+        → Each Sector
+        (cond q (record { sectors = c .sectors ++ chains (k - length (c .sectors)) d l .sectors; ends = chains (k - length (c .sectors)) d l .ends }) c .sectors)
+    by true = each-both (c .sectors) e (f (length (c .sectors)))
+    by false = e
+
+pub files-sectors : (k : ℕ) (d l : List ℕ) → Sectors (chains k d l .sectors)
+files-sectors k d l = as-sectors (chains-each k d l)
+
+-- ---- entries
+
+OnDisk : ℕ → Type 0
+OnDisk p = p + 30 ≤ 174848
+
+numbers-each : {P : ℕ → Type 0} (f : ℕ → ℕ) (from k : ℕ) → ((e : ℕ) → from ≤ e → e < from + k → P (f e)) → Each P (map f (numbersFrom from k))
+unfolding numbersFrom
+numbers-each f from zero h = each-none
+numbers-each f from (suc k) h =
+    each-one (h from (omega arith) (omega arith)) (numbers-each f (from + 1) k (λ e a b. h e (omega arith) (omega arith)))
+
+pub that-entries : (which : Bool) (d l : List ℕ) → Sectors l → Entries (entriesThat which d l)
+unfolding entriesThat OnDisk
+that-entries which d l s =
+    let e : Each OnDisk (map (entryAt l) (numbersFrom 0 (8 * length l))) =
+    numbers-each (entryAt l) 0 (8 * length l) (λ e a b. omega (arith, s .below (e / 8) (omega arith)))
+    in
+    record { within = each-those (isThat which d) (map (entryAt l) (numbersFrom 0 (8 * length l))) e .at }
+
+pub known-entries : (d : List ℕ) {l : List ℕ} → l ≡ listed d → Entries l
+known-entries d e = rw e (that-entries true d (directory d .sectors) (chain-sectors d))
+
+pub numbers-long : (from k : ℕ) → length (numbersFrom from k) ≡ k
+unfolding numbersFrom
+numbers-long from zero = refl
+numbers-long from (suc k) = ap suc (numbers-long (from + 1) k)
+
+pub those-few : (test : ℕ → Bool) (l : List ℕ) → length (those test l) ≤ length l
+unfolding those
+those-few test [] = omega arith
+those-few test (n ∷ l) = go (test n) (those-few test l) where
+  go : (q : Bool) → length (those test l) ≤ length l → length (cond q (n ∷ those test l) (those test l)) ≤ suc (length l)
+  go true f = omega arith
+  go false f = omega arith
+
+pub that-few : (which : Bool) (d l : List ℕ) → length (entriesThat which d l) ≤ 8 * length l
+unfolding entriesThat
+that-few which d l =
+    omega (arith, those-few (isThat which d) (map (entryAt l) (numbersFrom 0 (8 * length l))), length-map (numbersFrom 0 (8 * length l)) (entryAt l), numbers-long 0 (8 * length l))
+
+-- ---- the start of a log
+
+start-of : (b l : List ℕ) (n : ℕ) → n ≡ length l → n ≤ length b → take n (sets b 0 l) ≡ l
+start-of b l n e h =
+    let k : 0 + length l ≤ length b = omega arith in rw (sets-eq l b 0 k) (take-at l (drop (0 + length l) b) n (sym e))
+
+pub logged-start : {c : Chain} {log : List ℕ} {r : Traced} {after : List ℕ} → Traces c log 0 r after → take (r .to) after ≡ c .sectors
+logged-start {c} {log} {r} t = rw (t .logged) (start-of log (c .sectors) (r .to) (omega (arith, t .to)) (t .within))
+
+pub listed-start : {l b : List ℕ} {n : ℕ} {after : List ℕ} → Lists l b n after → length l ≤ length b → take n after ≡ l
+listed-start {l} {b} {n} s h = rw (s .stored) (start-of b l n (s .counts) (omega (arith, s .counts)))
+
+pub logged-sectors : (k : ℕ) (d l : List ℕ) {log : List ℕ} {r : Traced} {after : List ℕ} → Traces (chains k d l) log 0 r after → Sectors (take (r .to) after)
+logged-sectors k d l t = rw (logged-start t) (files-sectors k d l)
+
+-- ---- a disk that was looked at
+
+module _ (d : List ℕ) {log : List ℕ} {t : Traced} {after : List ℕ} (e : length log ≡ 18) (x : Traces (chain true (length log - 0) d 358) log 0 t after) where
+  seen : Traces (directory d) log 0 t after
+  unfolding directory
+  seen = let k : length log - 0 ≡ 18 = omega arith in rw k at x
+
+  pub seen-few : t .to ≤ 18
+  seen-few = omega (arith, x .within)
+
+  pub seen-directory : take (t .to) after ≡ directory d .sectors
+  seen-directory = logged-start seen
+
+  pub seen-ends : t .ends ≡ directory d .ends
+  seen-ends = seen .ends
+
+  pub seen-sectors : Sectors (take (t .to) after)
+  seen-sectors = known-sectors d seen-directory
+
+  seen-long : length (take (t .to) after) ≡ t .to
+  seen-long = let k : t .to ≡ 0 + length (directory d .sectors) = seen .to in rw seen-directory (omega arith)
+
+  pub seen-room : (files : List ℕ) → length files ≡ 144 → 8 * length (take (t .to) after) ≤ length files
+  seen-room files g = omega (arith, seen-long, seen-few)
+
+  module _ {files : List ℕ} {f : ℕ} {after′ : List ℕ} (g : length files ≡ 144) (y : Lists (entriesThat true d (take (t .to) after)) files f after′) where
+    seen-in : f ≤ length files
+    seen-in = omega (arith, y .counts, that-few true d (take (t .to) after), seen-room files g)
+
+    pub seen-after : length after′ ≡ length files → f ≤ length after′
+    seen-after k = omega (arith, seen-in)
+
+    pub seen-listed : take f after′ ≡ listed d
+    seen-listed = rw seen-directory at (listed-start y (omega (arith, y .counts, seen-in)))
+
+    pub seen-all : {v : Bool} → v ≡ sound d → Looks d (record { sectors = t .to; files = f; sound = v }) after after′
+    seen-all v = record { verdict = v; few = seen-few; sectors = seen-directory; many = omega (arith, seen-in); counts = rw seen-directory at (y .counts); files = seen-listed }

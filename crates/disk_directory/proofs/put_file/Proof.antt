@@ -1,0 +1,25 @@
+-- `disk_directory::put_file` meets its contract.
+-- Assumes nothing.
+use Rattle.disk_directory.proofs.Lining.{line-put}
+use borrow.Author.Needs.{needs}
+use Rattle.disk_directory.proofs.put_file.Statement.{statement}
+use Rattle.disk_directory.proofs.put_file.Tie as tie
+
+returns : tie.Need-returns
+returns c = search line-put
+
+pub put-file-spec : {M : Type 1} → statement M
+put-file-spec =
+    tie.close
+    (tie.spec
+    (λ c. search needs)
+    (λ c κs. search needs)
+    (λ c κs. search needs)
+    (λ c. search needs)
+    (λ c κs. search needs)
+    (λ c κs. search needs)
+    (λ c κs. search needs)
+    (λ c. search needs)
+    (λ c κs. search needs)
+    (λ c. search needs)
+    returns)

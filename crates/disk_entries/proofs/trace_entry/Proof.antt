@@ -1,0 +1,30 @@
+-- `disk_entries::trace_entry` meets its contract.
+-- Assumes nothing.
+use Rattle.disk_entries.proofs.Following.{entry-to, entry-last, entry-astray}
+use borrow.Author.Needs.{needs}
+use Rattle.disk_entries.proofs.trace_entry.Statement.{statement}
+use Rattle.disk_entries.proofs.trace_entry.Tie as tie
+
+returns : tie.Need-returns
+returns c = search entry-to
+
+returns-2 : tie.Need-returns-2
+returns-2 c = search entry-last
+
+returns-3 : tie.Need-returns-3
+returns-3 c = search entry-astray
+
+pub trace-entry-spec : {M : Type 1} → statement M
+trace-entry-spec =
+    tie.close
+    (tie.spec
+    (λ c. search needs)
+    (λ c κs. search needs)
+    (λ c. search needs)
+    (λ c κs. search needs)
+    (λ c. search needs)
+    (λ c. search needs)
+    (λ c. search needs)
+    returns
+    returns-2
+    returns-3)

@@ -1,0 +1,41 @@
+-- `disk_saves::stands_in` meets its contract.
+-- Assumes nothing.
+use Prim.Native.Nat.{_-_}
+use lib.ListN.{length}
+use Rattle.disk_saves.proofs.Lowest.{Standing, stand-start, stand-found, stand-turn, stand-end}
+use borrow.Author.Needs.{needs}
+use Rattle.disk_saves.proofs.stands_in.Statement.{statement}
+use Rattle.disk_saves.proofs.stands_in.Tie as tie
+
+abbrev Inv-loop : tie.InvT-loop
+Inv-loop list n i₀ i = Standing list n i
+
+abbrev μ-loop : tie.MeasureT-loop
+μ-loop list n i₀ i = length list - i
+
+loop-holds : tie.Need-loop-holds Inv-loop μ-loop
+loop-holds c = stand-start _ _
+
+returns : tie.Need-returns Inv-loop μ-loop
+returns c = search stand-found
+
+loop-again : tie.Need-loop-again Inv-loop μ-loop
+loop-again c = search (stand-turn, c .if1 .left)
+
+returns-2 : tie.Need-returns-2 Inv-loop μ-loop
+returns-2 c = search stand-end
+
+pub stands-in-spec : {M : Type 1} → statement M
+stands-in-spec =
+    tie.close
+    (tie.spec
+    Inv-loop
+    μ-loop
+    loop-holds
+    (λ c. search needs)
+    (λ c. search needs)
+    returns
+    (λ c. search needs)
+    (λ c. search needs)
+    loop-again
+    returns-2)

@@ -1,0 +1,34 @@
+-- `image_index::write_report` meets its contract.
+-- Assumes nothing.
+use Prim.Native.Nat.{ℕ}
+use lib.ListN.{length-replicate}
+use Rattle.image_index.proofs.Whole.{check-faultless}
+use Rattle.image_index.proofs.Marking.{blank}
+use Rattle.image_index.proofs.Reporting.{check-sound, report-unread}
+use borrow.Author.Needs.{needs}
+use Rattle.image_index.proofs.write_report.Statement.{statement}
+use Rattle.image_index.proofs.write_report.Tie as tie
+
+mark-lines-requires : tie.Need-mark-lines-requires
+mark-lines-requires c κs = (search check-sound, length-replicate {A = ℕ} 65536 0, blank)
+
+report-lines-requires : tie.Need-report-lines-requires
+report-lines-requires c κs = search (check-faultless, needs)
+
+returns-2 : tie.Need-returns-2
+returns-2 c = search report-unread
+
+pub write-report-spec : {M : Type 1} → statement M
+write-report-spec =
+    tie.close
+    (tie.spec
+    (λ c κs. search needs)
+    (λ c. search needs)
+    (λ c. search needs)
+    mark-lines-requires
+    (λ c. search needs)
+    report-lines-requires
+    (λ c. search needs)
+    (λ c. search needs)
+    (λ c. search needs)
+    returns-2)

@@ -1,0 +1,31 @@
+-- `image_jumps::with_digit` meets its contract.
+-- Assumes nothing.
+use Rattle.image_jumps.proofs.Stepping.{digit-first, digit-cut, digit-over, digit-kept}
+use borrow.Author.Needs.{needs}
+use Rattle.image_jumps.proofs.with_digit.Statement.{statement}
+use Rattle.image_jumps.proofs.with_digit.Tie as tie
+
+returns : tie.Need-returns
+returns c = search digit-cut
+
+returns-2 : tie.Need-returns-2
+returns-2 c = search digit-over
+
+returns-3 : tie.Need-returns-3
+returns-3 c = search (digit-first, needs)
+
+returns-4 : tie.Need-returns-4
+returns-4 c = search digit-kept
+
+pub with-digit-spec : {M : Type 1} → statement M
+with-digit-spec =
+    tie.close
+    (tie.spec
+    (λ c. search needs)
+    (λ c. search needs)
+    returns
+    (λ c. search needs)
+    (λ c. search needs)
+    returns-2
+    returns-3
+    returns-4)
