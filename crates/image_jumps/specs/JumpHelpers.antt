@@ -1,5 +1,5 @@
--- What the contracts of the steps over a body say: what is left of its jumps at a place. Targets are cut at 65536, which no 16 bits
--- hold, so that digits without end are read; a caller tells a target that is cut from one that is not.
+-- What the contracts of the steps over a body say: what is left of its jumps at a place. Targets are cut at 65536, so that any number of
+-- digits can be read. No 16 bits hold 65536, so a caller knows a target that was cut.
 -- Assumes nothing.
 use Prim.Native.Nat.{ℕ, _+_, _*_, _-_, _≤_, _<_, min}
 use mathlib.Core.Path.{_≡_}
