@@ -7,8 +7,8 @@ use mathlib.Core.List.{List, [], _∷_, _++_}
 use native.Mathlib.Omega.{arith}
 use lib.Dec.{ltb}
 use borrow.Author.Tests.{lt-ltb, le-ltb, ltb-false}
 use Rattle.base_steps.proofs.Nearer.{Nearer, again-on}
-use Rattle.base_decimals.specs.Decimal.{digitsBy, digitsOn, decimal}
+use Rattle.base_steps.specs.Decimal.{digitsBy, digitsOn, decimal}
 
 nearer : Nearer (λ (n : ℕ). n) digitsOn
 nearer n f g alike = go (ltb n 10) refl
