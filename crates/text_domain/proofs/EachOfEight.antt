@@ -5,7 +5,7 @@ use mathlib.Core.List.{List}
 use native.Mathlib.Numerals.{unary-clauses}
 use native.Mathlib.Omega.{arith}
 use lib.ListN.{getD}
-use Rattle.text_eights.specs.EightHelpers.{Tops}
+use Rattle.text_domain.specs.EightHelpers.{Tops}
 
 -- the eight, each by its number
 pub each-of : {t : List ℕ} {i r : ℕ} → Tops t i r → (k : ℕ) → k < 8 → getD t (i + k) 0 ≤ r

@@ -1,7 +1,7 @@
 // The highest of eight bytes, for a loop that passes eight at a time: where the processor has it, the compiler makes vector code of this.
 ghost use Prim.Native.Nat.{_+_, _≤_};
 ghost use lib.ListN.{length};
-ghost use Rattle.text_eights.specs.EightHelpers.{Tops};
+ghost use Rattle.text_domain.specs.EightHelpers.{Tops};
 
 pub fn larger(a: u8, b: u8) -> u8
     ensures { λ r. ⌜ (a ≤ r) × (b ≤ r) ⌝ }
