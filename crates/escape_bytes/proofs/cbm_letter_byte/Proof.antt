@@ -1,10 +1,10 @@
--- `escape_keys::cbm_letter_byte` meets its contract: the constant is the definition's list.
+-- `escape_bytes::cbm_letter_byte` meets its contract: the constant is the definition's list.
 -- Assumes nothing.
 use mathlib.Core.Path.{refl}
-use Rattle.escape_keys.specs.KeyCodes.{cbmLetters}
+use Rattle.escape_bytes.specs.KeyCodes.{cbmLetters}
 use borrow.Author.Needs.{needs}
-use Rattle.escape_keys.proofs.cbm_letter_byte.Statement.{statement}
-use Rattle.escape_keys.proofs.cbm_letter_byte.Tie as tie
+use Rattle.escape_bytes.proofs.cbm_letter_byte.Statement.{statement}
+use Rattle.escape_bytes.proofs.cbm_letter_byte.Tie as tie
 
 array-read-result : tie.Need-array-read-result
 array-read-result c = search needs

@@ -1,10 +1,10 @@
--- `escape_keys::ctrl_digit_byte` meets its contract: the constant is the definition's list.
+-- `escape_bytes::ctrl_digit_byte` meets its contract: the constant is the definition's list.
 -- Assumes nothing.
 use mathlib.Core.Path.{refl}
-use Rattle.escape_keys.specs.KeyCodes.{ctrlDigits}
+use Rattle.escape_bytes.specs.KeyCodes.{ctrlDigits}
 use borrow.Author.Needs.{needs}
-use Rattle.escape_keys.proofs.ctrl_digit_byte.Statement.{statement}
-use Rattle.escape_keys.proofs.ctrl_digit_byte.Tie as tie
+use Rattle.escape_bytes.proofs.ctrl_digit_byte.Statement.{statement}
+use Rattle.escape_bytes.proofs.ctrl_digit_byte.Tie as tie
 
 array-read-result : tie.Need-array-read-result
 array-read-result c = search needs
