@@ -9,7 +9,7 @@ use lib.Dec.{eqb}
 use lib.ListN.{length, getD, set, length-set}
 use lib.Seq.{ext-getD, getD-set-same, getD-set-other}
 use borrow.Author.Tests.{eqb-true, eqb-false}
-use Rattle.count_tallies.specs.Tallies.{occurrences, occurrencesFrom, tally, added}
+use Rattle.count_images.specs.Tallies.{occurrences, occurrencesFrom, tally, added}
 
 -- ---- rows
 

@@ -1,9 +1,9 @@
--- `count_tallies::raise` meets its contract.
+-- `count_images::tallies::raise` meets its contract.
 -- Assumes nothing.
-use Rattle.count_tallies.proofs.Raising.{raise-fits, raise-tally}
+use Rattle.count_images.proofs.Raising.{raise-fits, raise-tally}
 use borrow.Author.Needs.{needs}
-use Rattle.count_tallies.proofs.raise.Statement.{statement}
-use Rattle.count_tallies.proofs.raise.Tie as tie
+use Rattle.count_images.proofs.tallies.raise.Statement.{statement}
+use Rattle.count_images.proofs.tallies.raise.Tie as tie
 
 add-totals : tie.Need-add-totals
 add-totals c = search raise-fits

@@ -1,10 +1,10 @@
--- `count_tallies::count_image` meets its contract: the constants that it lends are the tables.
+-- `count_images::tallies::count_image` meets its contract: the constants that it lends are the tables.
 -- Assumes nothing.
 use mathlib.Core.Path.{refl}
 use Rattle.list_texts.proofs.TextTable.{textBytes, textStarts, texts-spelt}
 use borrow.Author.Needs.{needs}
-use Rattle.count_tallies.proofs.count_image.Statement.{statement}
-use Rattle.count_tallies.proofs.count_image.Tie as tie
+use Rattle.count_images.proofs.tallies.count_image.Statement.{statement}
+use Rattle.count_images.proofs.tallies.count_image.Tie as tie
 
 count-lines-requires : tie.Need-count-lines-requires
 unfolding textBytes textStarts

@@ -1,9 +1,9 @@
--- `count_tallies::count_unit` meets its contract.
+-- `count_images::tallies::count_unit` meets its contract.
 -- Assumes nothing.
-use Rattle.count_tallies.proofs.Raising.{counted-one, counted-none}
+use Rattle.count_images.proofs.Raising.{counted-one, counted-none}
 use borrow.Author.Needs.{needs}
-use Rattle.count_tallies.proofs.count_unit.Statement.{statement}
-use Rattle.count_tallies.proofs.count_unit.Tie as tie
+use Rattle.count_images.proofs.tallies.count_unit.Statement.{statement}
+use Rattle.count_images.proofs.tallies.count_unit.Tie as tie
 
 returns : tie.Need-returns
 returns c = search counted-one

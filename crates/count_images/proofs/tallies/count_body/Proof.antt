@@ -1,12 +1,12 @@
--- `count_tallies::count_body` meets its contract.
+-- `count_images::tallies::count_body` meets its contract.
 -- Assumes nothing.
 use Prim.Native.Nat.{_-_}
 use lib.ListN.{length}
 use Rattle.image_units.proofs.Walking.{unit-nearer}
-use Rattle.count_tallies.proofs.Bodies.{BodyTallied, body-start, body-room, body-place, body-turn, body-end}
+use Rattle.count_images.proofs.Bodies.{BodyTallied, body-start, body-room, body-place, body-turn, body-end}
 use borrow.Author.Needs.{needs}
-use Rattle.count_tallies.proofs.count_body.Statement.{statement}
-use Rattle.count_tallies.proofs.count_body.Tie as tie
+use Rattle.count_images.proofs.tallies.count_body.Statement.{statement}
+use Rattle.count_images.proofs.tallies.count_body.Tie as tie
 
 abbrev Inv-loop : tie.InvT-loop
 Inv-loop totals₀ bytes starts body rules i₀ mode₀ totals i mode = BodyTallied rules totals₀ body totals i mode

@@ -5,7 +5,7 @@ use mathlib.Core.Path.{_≡_}
 use mathlib.Core.List.{List}
 use lib.ListN.{length, getD}
 use Rattle.base_refusals.specs.Answer.{Answer, done}
-use Rattle.count_tallies.specs.Tallies.{tally, added}
+use Rattle.count_images.specs.Tallies.{tally, added}
 
 -- 206 numbers, each of which can be raised n times
 pub record Raisable (n : ℕ) (t : List ℕ) : Type 0 where

@@ -11,9 +11,9 @@ use mir.Val.{Fits}
 use borrow.Author.Tests.{lt-ltb, le-ltb}
 use Rattle.count_tokens.specs.TokenHelpers.{only}
 use Rattle.count_tokens.proofs.UnitTokens.{below-or-not}
-use Rattle.count_tallies.specs.Tallies.{tally, added}
-use Rattle.count_tallies.specs.TallyHelpers.{Raisable}
-use Rattle.count_tallies.proofs.Tallying.{occurrences-most, tally-none, tally-long, tally-on-at, tally-mark}
+use Rattle.count_images.specs.Tallies.{tally, added}
+use Rattle.count_images.specs.TallyHelpers.{Raisable}
+use Rattle.count_images.proofs.Tallying.{occurrences-most, tally-none, tally-long, tally-on-at, tally-mark}
 
 -- ---- how far
 

@@ -34,10 +34,10 @@ use Rattle.image_units.specs.declared.Unit.the-variants.{Char, Token, Token35, 
 use Rattle.image_units.specs.Units.{unitAt, unitsFrom}
 use Rattle.image_units.proofs.Walking.{unit-takes, units-none, units-more, by-units, units-end, units-at, unit-some, unit-within}
 use Rattle.count_tokens.specs.Tokens.{countRules, ifWord, countedAs, tokensOf, tokensFrom, tokensIn}
-use Rattle.count_tallies.specs.Tallies.{tally, added}
-use Rattle.count_tallies.specs.TallyHelpers.{Raisable, Tallied}
-use Rattle.count_tallies.proofs.Tallying.{tally-none, tally-on}
-use Rattle.count_tallies.proofs.Raising.{raisable-less, raised}
+use Rattle.count_images.specs.Tallies.{tally, added}
+use Rattle.count_images.specs.TallyHelpers.{Raisable, Tallied}
+use Rattle.count_images.proofs.Tallying.{tally-none, tally-on}
+use Rattle.count_images.proofs.Raising.{raisable-less, raised}
 
 -- a unit is one token at most
 word-one : (w : List ℕ) (k : ℕ) → length (ifWord w k) ≤ 1

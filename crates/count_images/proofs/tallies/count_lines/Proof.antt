@@ -1,12 +1,12 @@
--- `count_tallies::count_lines` meets its contract.
+-- `count_images::tallies::count_lines` meets its contract.
 -- Assumes nothing.
 use Prim.Native.Nat.{_-_}
 use lib.ListN.{length}
 use Rattle.image_readers.proofs.Steps.{found-runs, found-within, found-nearer}
-use Rattle.count_tallies.proofs.Bodies.{ImageTallied, image-start, line-room, image-turn, image-end, image-refused}
+use Rattle.count_images.proofs.Bodies.{ImageTallied, image-start, line-room, image-turn, image-end, image-refused}
 use borrow.Author.Needs.{needs}
-use Rattle.count_tallies.proofs.count_lines.Statement.{statement}
-use Rattle.count_tallies.proofs.count_lines.Tie as tie
+use Rattle.count_images.proofs.tallies.count_lines.Statement.{statement}
+use Rattle.count_images.proofs.tallies.count_lines.Tie as tie
 
 abbrev Inv-loop : tie.InvT-loop
 Inv-loop totals₀ bytes starts image offset₀ totals offset = ImageTallied image totals₀ totals offset
