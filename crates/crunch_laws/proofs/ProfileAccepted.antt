@@ -31,7 +31,7 @@ use Rattle.crunch_rules.proofs.Lining.{lines-plain}
 use Rattle.crunch_read_back.proofs.Demand.{Behind, behind, crunched-laid, read-back, read-back-terminators}
 use Rattle.image_relink.specs.Relinking.{same, relinking}
 use Rattle.image_relink.proofs.Laid.{Passable, laid-kept}
-use Rattle.crunch_laws.specs.Accepted.{FitsMachine, FitMachine, ReadAlike}
+use Rattle.crunch_laws.specs.ProfileAccepted.{FitsMachine, FitMachine, ReadAlike}
 
 -- ---- one line
 

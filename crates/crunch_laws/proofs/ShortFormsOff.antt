@@ -35,7 +35,7 @@ use Rattle.crunch_rules.specs.Crunched.{linesRead, textLine, lineUnder, lastLin
 use Rattle.crunch_rules.specs.Measured.{nonblankLines, withTextLines, entryFrom, measuredLines, lineMeasured}
 use Rattle.crunch_rules.specs.declared.MeasuredLine.{MeasuredLine}
 use Rattle.crunch_rules.specs.declared.Options.{Options}
-use Rattle.crunch_forms_off.specs.Before.{plainBefore, stepBefore, onBefore, bodyBefore, lineBefore, lineUnderBefore, linesBefore, crunchedBefore}
+use Rattle.crunch_laws.specs.BeforeShortForms.{plainBefore, stepBefore, onBefore, bodyBefore, lineBefore, lineUnderBefore, linesBefore, crunchedBefore}
 
 -- a line of its own
 abbrev numberedLine : ℕ → List ℕ → Answer (List NumberedBody)

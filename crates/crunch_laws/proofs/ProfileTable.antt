@@ -13,7 +13,7 @@ use Rattle.escape_numbers.specs.Numbers.{digitOf, numberAfter, numberOf, hexOf,
 use Rattle.escape_bytes.specs.Keys.{keyNames, controlByte, keyWith, keyed, keyEscape}
 use Rattle.escape_bytes.specs.Escape.{nameEscape, repeated, starred, countedName}
 use Rattle.crunch_rules.specs.Crunched.{crunchedLines}
-use Rattle.crunch_laws.specs.Examples.{ProfileTable}
+use Rattle.crunch_laws.specs.ProfileTable.{ProfileTable}
 
 pub profile-table : ProfileTable
 unfolding crunchedLines v2Words operators tsbWords nameIn meaning countedName starred repeated nameEscape keyEscape keyed keyWith controlByte keyNames countOf unsigned hexOf numberOf numberAfter digitOf escapeNames cbmLetters ctrlDigits last trim upper between
