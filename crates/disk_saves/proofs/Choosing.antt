@@ -16,7 +16,7 @@ use Rattle.disk_rules.specs.Free.{freeSectors}
 use Rattle.disk_rules.specs.Calls.{sectorsFor, taken, After, ontoDisk, withFile}
 use Rattle.disk_chains.specs.ChainHelpers.{Lists}
 use Rattle.disk_check.proofs.Looking.{Each, each-none, each-one, each-those, Sector, numbers-long, those-few, listed-start}
-use Rattle.disk_file_entries.specs.FileHelpers.{Chosen}
+use Rattle.disk_saves.specs.FileHelpers.{Chosen}
 use Rattle.disk_saves.specs.SaveHelpers.{savedNew}
 
 run-each : (from k : ℕ) → from + k ≤ 683 → Each Sector (numbersFrom from k)

@@ -1,11 +1,11 @@
--- `disk_file_entries::grow` meets its contract.
+-- `disk_saves::file::grow` meets its contract.
 -- Assumes nothing.
 use native.Mathlib.Omega.{arith}
 use lib.ListN.{length-set}
-use Rattle.disk_file_entries.proofs.Writing.{grow-made, grow-long}
+use Rattle.disk_saves.proofs.Writing.{grow-made, grow-long}
 use borrow.Author.Needs.{needs}
-use Rattle.disk_file_entries.proofs.grow.Statement.{statement}
-use Rattle.disk_file_entries.proofs.grow.Tie as tie
+use Rattle.disk_saves.proofs.file.grow.Statement.{statement}
+use Rattle.disk_saves.proofs.file.grow.Tie as tie
 
 slice-write-disk-2 : tie.Need-slice-write-disk-2
 slice-write-disk-2 c = simp length-set (omega arith)

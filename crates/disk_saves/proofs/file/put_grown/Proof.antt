@@ -1,9 +1,9 @@
--- `disk_file_entries::put_grown` meets its contract.
+-- `disk_saves::file::put_grown` meets its contract.
 -- Assumes nothing.
-use Rattle.disk_file_entries.proofs.Writing.{file-grown}
+use Rattle.disk_saves.proofs.Writing.{file-grown}
 use borrow.Author.Needs.{needs}
-use Rattle.disk_file_entries.proofs.put_grown.Statement.{statement}
-use Rattle.disk_file_entries.proofs.put_grown.Tie as tie
+use Rattle.disk_saves.proofs.file.put_grown.Statement.{statement}
+use Rattle.disk_saves.proofs.file.put_grown.Tie as tie
 
 returns : tie.Need-returns
 returns c = search file-grown

@@ -1,9 +1,9 @@
--- `disk_file_entries::put_file` meets its contract.
+-- `disk_saves::file::put_file` meets its contract.
 -- Assumes nothing.
-use Rattle.disk_file_entries.proofs.Writing.{file-put}
+use Rattle.disk_saves.proofs.Writing.{file-put}
 use borrow.Author.Needs.{needs}
-use Rattle.disk_file_entries.proofs.put_file.Statement.{statement}
-use Rattle.disk_file_entries.proofs.put_file.Tie as tie
+use Rattle.disk_saves.proofs.file.put_file.Statement.{statement}
+use Rattle.disk_saves.proofs.file.put_file.Tie as tie
 
 returns : tie.Need-returns
 returns c = search file-put

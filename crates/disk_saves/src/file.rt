@@ -13,7 +13,7 @@ ghost use lib.ListN.{length};
 ghost use lib.Seq.{sets};
 ghost use Rattle.disk_rules.specs.Free.{markedAll};
 ghost use Rattle.disk_rules.specs.Calls.{laid, entryBytes, grown};
-ghost use Rattle.disk_file_entries.specs.FileHelpers.{Chosen};
+ghost use Rattle.disk_saves.specs.FileHelpers.{Chosen};
 ghost use Rattle.disk_chains.specs.ChainHelpers.{Sectors};
 
 // Lays an image out over sectors and marks them used.

@@ -1,9 +1,9 @@
--- `disk_file_entries::put_entry` meets its contract.
+-- `disk_saves::file::put_entry` meets its contract.
 -- Assumes nothing.
-use Rattle.disk_file_entries.proofs.Writing.{first-below, entry-put}
+use Rattle.disk_saves.proofs.Writing.{first-below, entry-put}
 use borrow.Author.Needs.{needs}
-use Rattle.disk_file_entries.proofs.put_entry.Statement.{statement}
-use Rattle.disk_file_entries.proofs.put_entry.Tie as tie
+use Rattle.disk_saves.proofs.file.put_entry.Statement.{statement}
+use Rattle.disk_saves.proofs.file.put_entry.Tie as tie
 
 track-of-requires : tie.Need-track-of-requires
 track-of-requires c κs = search first-below

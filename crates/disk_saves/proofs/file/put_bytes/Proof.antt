@@ -1,9 +1,9 @@
--- `disk_file_entries::put_bytes` meets its contract.
+-- `disk_saves::file::put_bytes` meets its contract.
 -- Assumes nothing.
-use Rattle.disk_file_entries.proofs.Writing.{bytes-put}
+use Rattle.disk_saves.proofs.Writing.{bytes-put}
 use borrow.Author.Needs.{needs}
-use Rattle.disk_file_entries.proofs.put_bytes.Statement.{statement}
-use Rattle.disk_file_entries.proofs.put_bytes.Tie as tie
+use Rattle.disk_saves.proofs.file.put_bytes.Statement.{statement}
+use Rattle.disk_saves.proofs.file.put_bytes.Tie as tie
 
 returns : tie.Need-returns
 returns c = search bytes-put
