@@ -1,11 +1,11 @@
--- `disk_formats::clear` meets its contract.
+-- `disk::clear` meets its contract.
 -- Assumes nothing.
 use Prim.Native.Nat.{_-_}
 use lib.ListN.{length}
-use Rattle.disk_formats.proofs.Formatting.{Clearing, clear-start, clear-turn, clear-end}
+use Rattle.disk.proofs.Formatting.{Clearing, clear-start, clear-turn, clear-end}
 use borrow.Author.Needs.{needs}
-use Rattle.disk_formats.proofs.clear.Statement.{statement}
-use Rattle.disk_formats.proofs.clear.Tie as tie
+use Rattle.disk.proofs.clear.Statement.{statement}
+use Rattle.disk.proofs.clear.Tie as tie
 
 abbrev Inv-loop : tie.InvT-loop
 Inv-loop disk₀ i₀ disk i = Clearing disk₀ disk i

@@ -1,10 +1,10 @@
--- `disk_formats::format` meets its contract.
+-- `disk::format` meets its contract.
 -- Assumes nothing.
 use Rattle.disk_rules.specs.Calls.{freshHeader}
-use Rattle.disk_formats.proofs.Formatting.{format-long, format-done}
+use Rattle.disk.proofs.Formatting.{format-long, format-done}
 use borrow.Author.Needs.{needs}
-use Rattle.disk_formats.proofs.format.Statement.{statement}
-use Rattle.disk_formats.proofs.format.Tie as tie
+use Rattle.disk.proofs.format.Statement.{statement}
+use Rattle.disk.proofs.format.Tie as tie
 
 returns : tie.Need-returns
 returns c = search (format-long, c .if1 .taken)
