@@ -1,10 +1,10 @@
--- `judge_codes::print_escapes` is safe and ends: a name lies between its start and its line end.
+-- `judge_tables::print_escapes` is safe and ends: a name lies between its start and its line end.
 -- Assumes nothing.
 use Prim.Native.Nat.{_-_, _≤_}
 use lib.ListN.{length}
 use borrow.Author.Needs.{needs}
-use Rattle.judge_codes.proofs.print_escapes.Statement.{statement}
-use Rattle.judge_codes.proofs.print_escapes.Tie as tie
+use Rattle.judge_tables.proofs.print_escapes.Statement.{statement}
+use Rattle.judge_tables.proofs.print_escapes.Tie as tie
 
 abbrev Inv-loop : tie.InvT-loop
 Inv-loop names from₀ i₀ from i = from ≤ i × i ≤ length names

@@ -1,11 +1,11 @@
--- `judge_words::print_row` is safe: the constants that it lends are the tables.
+-- `judge_tables::print_word` is safe: the constants that it lends are the tables.
 -- Assumes nothing.
 use mathlib.Core.Path.{refl}
 use Rattle.word_tables.proofs.Laid.{wordBytes, wordIndex, words-spelt}
 use Rattle.list_texts.proofs.TextTable.{textBytes, textStarts, texts-spelt}
 use borrow.Author.Needs.{needs}
-use Rattle.judge_words.proofs.print_row.Statement.{statement}
-use Rattle.judge_words.proofs.print_row.Tie as tie
+use Rattle.judge_tables.proofs.print_word.Statement.{statement}
+use Rattle.judge_tables.proofs.print_word.Tie as tie
 
 text35-at-requires : tie.Need-text35-at-requires
 unfolding textBytes textStarts
@@ -15,8 +15,8 @@ token-of-requires : tie.Need-token-of-requires
 unfolding wordBytes wordIndex
 token-of-requires c κs = words-spelt refl refl
 
-pub print-row-spec : {M : Type 1} → statement M
-print-row-spec =
+pub print-word-spec : {M : Type 1} → statement M
+print-word-spec =
     tie.close
     (tie.spec
     (λ c. search needs)

@@ -1,9 +1,9 @@
--- `judge_codes::print_listings` is safe and ends: the bytes that are left fall.
+-- `judge_tables::print_listings` is safe and ends: the bytes that are left fall.
 -- Assumes nothing.
 use Prim.Native.Nat.{_-_, _≤_}
 use borrow.Author.Needs.{needs}
-use Rattle.judge_codes.proofs.print_listings.Statement.{statement}
-use Rattle.judge_codes.proofs.print_listings.Tie as tie
+use Rattle.judge_tables.proofs.print_listings.Statement.{statement}
+use Rattle.judge_tables.proofs.print_listings.Tie as tie
 
 abbrev Inv-loop : tie.InvT-loop
 Inv-loop byte₀ byte = byte ≤ 255
