@@ -21,7 +21,7 @@ use Rattle.body.specs.Zero.{holdsZero}
 use Rattle.image_readers.specs.Links.{linkStep}
 use Rattle.image_readers.specs.NumberedBody.{NumberedBody}
 use Rattle.image_readers.specs.Terminators.{terminatorStep}
-use Rattle.image_layout.specs.Each.{Each}
+use Rattle.base_steps.specs.Each.{Each}
 use Rattle.image_layout.specs.Layout.{imageOf}
 use Rattle.image_layout.specs.Reads.{leastLoad, NoZero, NoZeros, linesAt}
 use Rattle.crunch_profile.specs.Profile.{profileSays, lineAllowed, allowed, leastBehind}
