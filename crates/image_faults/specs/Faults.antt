@@ -15,7 +15,7 @@ use Rattle.image_bytes.specs.ImageBytes.{lowFirstAt, addressAt, beforeZero}
 use Rattle.image_readers.specs.Lines.{linesFrom, linesOf}
 use Rattle.image_readers.specs.Links.{linkStep}
 use Rattle.image_jumps.specs.Jumps.{jumpsFrom, jumpsOf}
-use Rattle.image_index.specs.Index.{indexLine, hasLine}
+use Rattle.image_readers.specs.IndexLines.{indexLine, hasLine}
 use Rattle.image_relink.specs.Relinking.{Relinking, same, changed, leaves, endless, relinking}
 use Rattle.image_faults.specs.declared.Fault.{Fault}
 use Rattle.image_faults.specs.declared.Fault.the-variants.{OutsideMemory, NumberTooHigh, NotAscending, ZeroInBody, BodyLength, NoTarget, LinkChanges, LinksLeave, LinksEndless}

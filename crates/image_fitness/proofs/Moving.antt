@@ -17,8 +17,8 @@ use Rattle.image_readers.specs.Links.{linkStep}
 use Rattle.image_readers.proofs.ByLinks.{link-sound}
 use Rattle.image_readers.proofs.Equations.{next-nearer}
 use Rattle.image_readers.proofs.Finding.{told}
-use Rattle.image_find.specs.Sought.{Lined, linedFrom}
-use Rattle.image_find.proofs.Seeking.{lined-line, lined-end, lined-refused}
+use Rattle.image_readers.specs.Lined.{Lined, linedFrom}
+use Rattle.image_readers.proofs.Lined.{lined-line, lined-end, lined-refused}
 use Rattle.image_units.specs.declared.Mode.the-variants.{Plain}
 use Rattle.image_jumps.specs.declared.Part.the-variants.{Empty}
 use Rattle.image_jumps.specs.declared.Cursor.{Cursor}

@@ -14,8 +14,8 @@ use Rattle.image_readers.specs.Links.{linkStep}
 use Rattle.image_readers.proofs.ByLinks.{link-sound}
 use Rattle.image_readers.proofs.Equations.{next-nearer}
 use Rattle.image_readers.proofs.Finding.{told}
-use Rattle.image_find.specs.Sought.{Lined, linedFrom}
-use Rattle.image_find.proofs.Seeking.{lined-line, lined-end, lined-refused}
+use Rattle.image_readers.specs.Lined.{Lined, linedFrom}
+use Rattle.image_readers.proofs.Lined.{lined-line, lined-end, lined-refused}
 use Rattle.image_fitness.specs.FaultHelpers.{lineMarks}
 
 -- the numbers up to p are marked

@@ -14,10 +14,11 @@ use Rattle.image_readers.specs.declared.Line.{Line}
 use Rattle.image_readers.specs.Bodies.{bodyOf}
 use Rattle.image_readers.specs.Lines.{linesOf}
 use Rattle.image_readers.specs.Links.{linkStep}
-use Rattle.image_find.specs.Sought.{Lined, linedFrom}
-use Rattle.image_find.proofs.Limits.{accepted}
+use Rattle.image_readers.specs.Lined.{Lined, linedFrom}
+use Rattle.image_readers.proofs.ByLinks.{link-sound}
+use Rattle.image_readers.proofs.Lined.{accepted}
 use Rattle.image_jumps.specs.Jumps.{jumpsOf}
-use Rattle.image_index.specs.Index.{indexLine, hasLine}
+use Rattle.image_readers.specs.IndexLines.{indexLine, hasLine}
 use Rattle.image_faults.specs.declared.Fault.{Fault}
 use Rattle.image_faults.specs.declared.Fault.the-variants.{NoTarget}
 use Rattle.image_fitness.specs.declared.Stage.the-variants.{Memory}
@@ -104,7 +105,7 @@ pub faults-walked : (s : List ℕ) {ls : List Line} {marked : List ℕ} → line
     → done (faultsAt (hasMark marked) s (record { stage = Memory; offset = 2; least = 0 })) ≡ fitness s
 unfolding stageFaults restFrom fitness faultsIn
 faults-walked s {ls} {marked} e m =
-    let lines : linedFrom linkStep s 2 .lines ≡ ls = ap (λ (x : Lined). x .lines) (accepted s e) in
+    let lines : linedFrom linkStep s 2 .lines ≡ ls = ap (λ (x : Lined). x .lines) (accepted link-sound s e) in
     let own : marked ≡ lineMarks (replicate 65536 0) ls = m ∙ ap (lineMarks (replicate 65536 0)) lines in
     ap (λ (ks : List Line). done (memoryFaults s ++ (linesFaults (hasMark marked) s 0 ks ++ relinkFaults s))) lines
     ∙ ap (λ (n : List ℕ). done (memoryFaults s ++ (linesFaults (hasMark n) s 0 ls ++ relinkFaults s))) own

@@ -10,7 +10,7 @@ use Rattle.image_readers.specs.declared.Line.{Line}
 use Rattle.image_readers.specs.Bodies.{bodyOf}
 use Rattle.image_readers.specs.Image.{Found, line, end}
 use Rattle.image_readers.specs.Links.{linkStep}
-use Rattle.image_find.specs.Sought.{linedFrom}
+use Rattle.image_readers.specs.Lined.{linedFrom}
 use Rattle.image_jumps.specs.JumpHelpers.{leftOf}
 use Rattle.image_faults.specs.declared.Fault.{Fault}
 use Rattle.image_faults.specs.declared.Fault.the-variants.{NoTarget}

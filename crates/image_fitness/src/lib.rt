@@ -1,7 +1,7 @@
 // Whether a program is fit for the master disk: its faults, one after the other.
 ghost use mathlib.Core.Path.{_≡_};
 ghost use Rattle.image_readers.specs.Links.{linkStep};
-ghost use Rattle.image_find.specs.Sought.{linedFrom};
+ghost use Rattle.image_readers.specs.Lined.{linedFrom};
 ghost use Rattle.image_faults.specs.ToldHelpers.{hasMark, LineIs};
 ghost use Rattle.image_fitness.specs.FaultHelpers.{lineMarks, movedBy, MovedIs, FaultIs};
 use image_faults::Fault;

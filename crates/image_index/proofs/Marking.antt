@@ -15,7 +15,7 @@ use Rattle.image_readers.specs.declared.Step.{Step}
 use Rattle.image_readers.specs.declared.Step.the-variants.{Found as FoundLine, End, Refused}
 use Rattle.image_readers.specs.Answers.{stepAnswer}
 use Rattle.image_readers.specs.Links.{linkStep}
-use Rattle.image_index.specs.Index.{indexLine, hasLine}
+use Rattle.image_readers.specs.IndexLines.{indexLine, hasLine}
 use Rattle.image_index.specs.IndexHelpers.{foundFrom, Sound, NumbersMarked}
 use Rattle.image_index.proofs.Sounding.{SoundLine, sound-line, sound-end, sound-refused}
 

@@ -23,7 +23,8 @@ use Rattle.base_bits.proofs.Bytes.{pack-length}
 use Rattle.base_bits.proofs.Pens.{ready-behind, put-behind}
 use Rattle.image_index.specs.declared.Counted.{Counted}
 use Rattle.image_index.specs.declared.Counted.the-variants.{TooHigh, Jumps}
-use Rattle.image_index.specs.Index.{LineIndex, indexLine, indexed, jumpFields, withoutLine, jumpReport}
+use Rattle.image_readers.specs.IndexLines.{indexLine}
+use Rattle.image_index.specs.Index.{LineIndex, indexed, jumpFields, withoutLine, jumpReport}
 use Rattle.image_index.specs.IndexHelpers.{foundFrom, Sound, lowTargets, CountedIs, jumpBits, Faultless, NumbersMarked}
 use Rattle.image_index.proofs.Putting.{jumps-are}
 use Rattle.image_index.proofs.Whole.{IndexedIs, too-many, too-high, indexed-is, check-faultless, checked-refused}

@@ -33,7 +33,8 @@ use Rattle.base_bits.specs.Bits.{Field, field, bitsOf, fieldBits, packFrom, pac
 use Rattle.base_bits.proofs.Bytes.{length-bits, pack-length}
 use Rattle.image_index.specs.declared.Counted.{Counted}
 use Rattle.image_index.specs.declared.Counted.the-variants.{TooHigh, Jumps}
-use Rattle.image_index.specs.Index.{IndexLine, IndexJump, LineIndex, indexLine, jumpTo, jumpsIn, anyTooHigh, indexLines, indexed, lineFields, jumpFields, indexFields, lineIndex, hasLine, withoutLine}
+use Rattle.image_readers.specs.IndexLines.{IndexLine, indexLine, hasLine}
+use Rattle.image_index.specs.Index.{IndexJump, LineIndex, jumpTo, jumpsIn, anyTooHigh, indexLines, indexed, lineFields, jumpFields, indexFields, lineIndex, withoutLine}
 use Rattle.image_index.specs.IndexHelpers.{linesListed, foundFrom, Sound, lowJumps, lowTargets, targetsCounted, AtMost, CountedIs, pairBits, lineBits, targetBit, targetBits, jumpBits, indexBits, Faultless, NumbersMarked}
 
 -- ---- the jumps, one by one

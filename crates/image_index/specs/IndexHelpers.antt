@@ -15,7 +15,7 @@ use Rattle.image_readers.specs.Links.{linkStep}
 use Rattle.image_jumps.specs.Jumps.{jumpsFrom, jumpsOf}
 use Rattle.image_jumps.specs.JumpHelpers.{low}
 use Rattle.base_bits.specs.Bits.{bitsOf}
-use Rattle.image_index.specs.Index.{IndexLine, hasLine}
+use Rattle.image_readers.specs.IndexLines.{IndexLine, hasLine}
 use Rattle.image_index.specs.declared.Counted.{Counted}
 use Rattle.image_index.specs.declared.Counted.the-variants.{TooHigh, Jumps}
 

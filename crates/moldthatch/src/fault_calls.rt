@@ -4,7 +4,7 @@ use library_faults::FaultCode;
 use library_faults::WalkNumbers;
 ghost use mathlib.Core.Path.{_≡_};
 ghost use Rattle.image_readers.specs.Links.{linkStep};
-ghost use Rattle.image_find.specs.Sought.{linedFrom};
+ghost use Rattle.image_readers.specs.Lined.{linedFrom};
 ghost use Rattle.image_fitness.specs.declared.Stage.the-variants.{Memory};
 ghost use Rattle.image_faults.specs.ToldHelpers.{hasMark};
 ghost use Rattle.image_fitness.specs.FaultHelpers.{lineMarks, faultsAt};
