@@ -29,9 +29,9 @@ use Rattle.image_relink.specs.declared.Relinked.the-variants.{Same, Changed, Le
 use Rattle.image_relink.specs.Relinking.{relinking, relinkedAnswer}
 use Rattle.image_faults.specs.declared.Fault.the-variants.{OutsideMemory, NumberTooHigh, NotAscending, ZeroInBody, BodyLength, LinkChanges, LinksLeave, LinksEndless}
 use Rattle.image_faults.specs.Faults.{inBasicMemory, memoryFaults, numberFaults, orderFaults, firstZero, zeroFaults, lengthFaults, relinkFault, relinkFaults}
-use Rattle.image_faults.specs.ToldHelpers.{hasMark, LineIs}
+use Rattle.image_faults.specs.ToldHelpers.{LineIs}
 
--- ---- bytes and marks
+-- ---- bytes
 
 module _ (s : List ℕ) {p : ℕ} (h : length s ≤ p) where
   pub byte-beyond : 0 ≡ getD s p 0
@@ -42,9 +42,6 @@ module _ (s : List ℕ) {p : ℕ} (h : length s ≤ p) where
       let low : getD s (p + 2) 0 ≡ 0 = List·getD-eq-default s 0 (omega arith) in
       let high : getD s (p + 2 + 1) 0 ≡ 0 = List·getD-eq-default s 0 (omega arith) in
       omega arith
-
-  pub mark-beyond : false ≡ hasMark s p
-  mark-beyond = rw (List·getD-eq-default s 0 h)
 
 -- ---- memory
 

@@ -2,7 +2,7 @@
 -- most 63999 and strictly ascending, no zero in any body, bodies of 1 to 250 bytes"), the jumps of No. 13, the machine's relinking, and its
 -- BASIC memory, 0801 to 9FFF.
 -- Assumes nothing.
-use Prim.Native.Nat.{ℕ, _+_, min}
+use Prim.Native.Nat.{ℕ, _+_}
 use mathlib.Core.Bool.{Bool, true, false, cond, _&&_}
 use mathlib.Core.List.{List, [], _∷_, _++_, map}
 use lib.Dec.{leb, ltb}
@@ -12,10 +12,10 @@ use Rattle.base_refusals.specs.Answer.{Answer, done, refused, mapDone}
 use Rattle.image_readers.specs.declared.Line.{Line}
 use Rattle.image_readers.specs.Bodies.{bodyOf}
 use Rattle.image_bytes.specs.ImageBytes.{lowFirstAt, addressAt, beforeZero}
+use Rattle.image_readers.specs.IndexLines.{indexLine, hasLine}
 use Rattle.image_readers.specs.Lines.{linesFrom, linesOf}
 use Rattle.image_readers.specs.Links.{linkStep}
-use Rattle.image_jumps.specs.Jumps.{jumpsFrom, jumpsOf}
-use Rattle.image_readers.specs.IndexLines.{indexLine, hasLine}
+use Rattle.image_jumps.specs.Jumps.{jumpsFrom, jumpsOf, low}
 use Rattle.image_relink.specs.Relinking.{Relinking, same, changed, leaves, endless, relinking}
 use Rattle.image_faults.specs.declared.Fault.{Fault}
 use Rattle.image_faults.specs.declared.Fault.the-variants.{OutsideMemory, NumberTooHigh, NotAscending, ZeroInBody, BodyLength, NoTarget, LinkChanges, LinksLeave, LinksEndless}
@@ -75,7 +75,7 @@ unmet has (t ∷ ts) = elim (has t) [ true ↦ unmet has ts | false ↦ t ∷ un
 -- targets above 65535 are told as 65536
 unfoldable pub jumpFaults : (ℕ → Bool) → List ℕ → Line → List Fault
 unfolding jumpsFrom unmet
-jumpFaults has s l = map (NoTarget (l .number)) (unmet has (map (λ t. min t 65536) (jumpsOf (bodyOf s l))))
+jumpFaults has s l = map (NoTarget (l .number)) (unmet has (map low (jumpsOf (bodyOf s l))))
 
 unfoldable pub lineFaults : (ℕ → Bool) → List ℕ → ℕ → Line → List Fault
 unfolding numberFaults orderFaults zeroFaults lengthFaults jumpFaults

@@ -1,10 +1,11 @@
 // The faults that make a program unfit for the master disk: of the whole image, of a line, of a jump.
 ghost use mathlib.Core.Path.{_≡_};
-ghost use Prim.Native.Nat.{_+_, _≤_, min};
+ghost use Prim.Native.Nat.{_+_, _≤_};
 ghost use lib.ListN.{getD};
 ghost use Rattle.image_bytes.specs.ImageBytes.{lowFirstAt};
+ghost use Rattle.image_marks.specs.Marks.{hasMark};
 ghost use Rattle.image_faults.specs.Faults.{inBasicMemory, memoryFaults, numberFaults, orderFaults, zeroFaults, lengthFaults, relinkFaults};
-ghost use Rattle.image_faults.specs.ToldHelpers.{hasMark, toldFault, UnmetIs, LineIs};
+ghost use Rattle.image_faults.specs.ToldHelpers.{toldFault, UnmetIs, LineIs};
 use image_jumps::Cursor;
 use image_jumps::Next;
 use image_readers::Line;
@@ -109,7 +110,7 @@ pub fn length_fault(image: &[u8], offset: usize, line: Line) -> Told
     Told::Nothing
 }
 
-// The next jump of a body whose target is not marked, cut at 65536.
+// The next jump of a body whose target is not marked.
 pub fn unmet_jump(body: &[u8], marked: &[u8], cursor: Cursor) -> Next
     ensures { λ r. ⌜ UnmetIs (hasMark (now (marked .entry))) (now (body .entry)) cursor r ⌝ }
 {
@@ -120,10 +121,9 @@ pub fn unmet_jump(body: &[u8], marked: &[u8], cursor: Cursor) -> Next
                 target,
                 cursor: behind,
             } => {
-                let low = cut(target);
-                if !has_mark(marked, low) {
+                if !image_marks::has_mark(marked, target) {
                     return Next::Jump {
-                        target: low,
+                        target,
                         cursor: behind,
                     };
                 }
@@ -134,21 +134,6 @@ pub fn unmet_jump(body: &[u8], marked: &[u8], cursor: Cursor) -> Next
             }
         }
     }
-}
-
-fn cut(target: usize) -> usize
-    ensures { λ r. ⌜ r ≡ min target 65536 ⌝ }
-{
-    if target > 65536 { 65536 } else { target }
-}
-
-fn has_mark(marked: &[u8], target: usize) -> bool
-    ensures { λ r. ⌜ r ≡ hasMark (now (marked .entry)) target ⌝ }
-{
-    if target < marked.len() {
-        return marked[target] != 0;
-    }
-    false
 }
 
 pub fn relink_fault(image: &[u8]) -> Told

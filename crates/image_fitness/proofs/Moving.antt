@@ -39,7 +39,8 @@ use Rattle.image_fitness.specs.declared.Moved.{Moved}
 use Rattle.image_fitness.specs.declared.Moved.the-variants.{Told as MovedTold, On, End}
 use Rattle.image_fitness.specs.declared.Found.the-variants.{Fault as FoundFault, None as NoFault}
 use Rattle.image_faults.specs.Faults.{memoryFaults, relinkFaults, numberFaults, orderFaults, zeroFaults, lengthFaults, unmet, jumpFaults, lineFaults, linesFaults}
-use Rattle.image_faults.specs.ToldHelpers.{hasMark, toldFault, LineIs, UnmetIs}
+use Rattle.image_marks.specs.Marks.{hasMark}
+use Rattle.image_faults.specs.ToldHelpers.{toldFault, LineIs, UnmetIs}
 use Rattle.image_fitness.specs.FaultHelpers.{restFrom, faultsBy, checkFaults, stageFaults, faultsAt, placeAhead, movedBy, WalksOn, MovedIs, FaultIs}
 
 -- ---- what is led on

@@ -9,7 +9,7 @@ use image_jumps::Part;
 use image_units::Mode;
 ghost use mathlib.Core.Path.{_≡_};
 ghost use mathlib.Core.Bool.{cond};
-ghost use Rattle.image_faults.specs.ToldHelpers.{hasMark};
+ghost use Rattle.image_marks.specs.Marks.{hasMark};
 ghost use Rattle.image_fitness.specs.FaultHelpers.{faultsAt};
 ghost use Rattle.library_faults.specs.Numbers.{modeOf, modeNumber, stageOf, cursorOf, partOf, walkPlace, plainWalk, jumpsWalk, checkWalk, worthOf, valueOf, walkNumbers, faultCode, foundCode, FaultLeft};
 

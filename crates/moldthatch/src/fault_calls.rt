@@ -6,8 +6,8 @@ ghost use mathlib.Core.Path.{_≡_};
 ghost use Rattle.image_readers.specs.Links.{linkStep};
 ghost use Rattle.image_readers.specs.Lined.{linedFrom};
 ghost use Rattle.image_fitness.specs.declared.Stage.the-variants.{Memory};
-ghost use Rattle.image_faults.specs.ToldHelpers.{hasMark};
-ghost use Rattle.image_fitness.specs.FaultHelpers.{lineMarks, faultsAt};
+ghost use Rattle.image_marks.specs.Marks.{hasMark, lineMarks};
+ghost use Rattle.image_fitness.specs.FaultHelpers.{faultsAt};
 ghost use Rattle.library_faults.specs.Numbers.{walkPlace, FaultLeft};
 
 // Marks the numbers that an image's lines have, as far as its links lead.
@@ -15,7 +15,7 @@ ghost use Rattle.library_faults.specs.Numbers.{walkPlace, FaultLeft};
 pub extern "C" fn moldthatch_mark_numbers(image: &[u8], marked: &mut [u8])
     ensures { λ r. ⌜ now (marked .exit) ≡ lineMarks (now (marked .entry)) (linedFrom linkStep (now (image .entry)) 2 .lines) ⌝ }
 {
-    image_fitness::mark_numbers(image, marked);
+    image_marks::mark_numbers(image, marked);
 }
 
 // The place before an image's first byte.

@@ -1,40 +1,46 @@
--- `image_index::mark_lines` meets its contract.
+-- `image_marks::mark_numbers` meets its contract.
 -- Assumes nothing.
 use Prim.Native.Nat.{_-_}
 use mathlib.Core.Path.{_≡_}
 use native.Mathlib.Omega.{arith}
 use lib.ListN.{length, length-set}
-use Rattle.image_index.proofs.Marking.{MarkingLines, marking-start, marking-less, marking-turn, marking-end, marking-fault}
+use Rattle.image_marks.proofs.Marking.{MarksAhead, marks-start, marks-turn, marks-past, marks-less, marks-end, marks-fault}
 use borrow.Author.Needs.{needs}
-use Rattle.image_index.proofs.mark_lines.Statement.{statement}
-use Rattle.image_index.proofs.mark_lines.Tie as tie
+use Rattle.image_marks.proofs.mark_numbers.Statement.{statement}
+use Rattle.image_marks.proofs.mark_numbers.Tie as tie
 
 abbrev Inv-loop : tie.InvT-loop
-Inv-loop image marked₀ offset₀ marked offset = MarkingLines image marked offset × (length marked ≡ length marked₀)
+Inv-loop image marked₀ offset₀ marked offset = MarksAhead image marked₀ marked offset × (length marked ≡ length marked₀)
 
 abbrev μ-loop : tie.MeasureT-loop
 μ-loop image marked₀ offset₀ marked offset = length image - offset
 
 loop-holds : tie.Need-loop-holds Inv-loop μ-loop
-loop-holds c = (search marking-start, search needs)
+loop-holds c = (search marks-start, search needs)
 
 slice-write-marked : tie.Need-slice-write-marked Inv-loop μ-loop
 slice-write-marked c = omega arith
 
 loop-less : tie.Need-loop-less Inv-loop μ-loop
-loop-less c = search marking-less
+loop-less c = search marks-less
 
 loop-again : tie.Need-loop-again Inv-loop μ-loop
-loop-again c = (search (marking-turn, slice-write-marked), simp length-set (omega arith))
+loop-again c = (search marks-turn, simp length-set (omega arith))
+
+loop-less-2 : tie.Need-loop-less-2 Inv-loop μ-loop
+loop-less-2 c = search marks-less
+
+loop-again-2 : tie.Need-loop-again-2 Inv-loop μ-loop
+loop-again-2 c = (search marks-past, search needs)
 
 returns : tie.Need-returns Inv-loop μ-loop
-returns c = search marking-end
+returns c = search marks-end
 
 returns-2 : tie.Need-returns-2 Inv-loop μ-loop
-returns-2 c = search marking-fault
+returns-2 c = search marks-fault
 
-pub mark-lines-spec : {M : Type 1} → statement M
-mark-lines-spec =
+pub mark-numbers-spec : {M : Type 1} → statement M
+mark-numbers-spec =
     tie.close
     (tie.spec
     Inv-loop
@@ -46,6 +52,8 @@ mark-lines-spec =
     slice-write-marked
     loop-less
     loop-again
+    loop-less-2
+    loop-again-2
     (λ c. search needs)
     (λ c. search needs)
     returns

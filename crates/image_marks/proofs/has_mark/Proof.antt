@@ -1,9 +1,9 @@
--- `image_faults::has_mark` meets its contract.
+-- `image_marks::has_mark` meets its contract.
 -- Assumes nothing.
-use Rattle.image_faults.proofs.Telling.{mark-beyond}
+use Rattle.image_marks.proofs.Marking.{mark-beyond}
 use borrow.Author.Needs.{needs}
-use Rattle.image_faults.proofs.has_mark.Statement.{statement}
-use Rattle.image_faults.proofs.has_mark.Tie as tie
+use Rattle.image_marks.proofs.has_mark.Statement.{statement}
+use Rattle.image_marks.proofs.has_mark.Tie as tie
 
 returns-2 : tie.Need-returns-2
 returns-2 c = search mark-beyond
