@@ -6,29 +6,27 @@ use mathlib.Core.Path.{_≡_, refl, sym, ap, _∙_, subst}
 use mathlib.Core.Bool.{Bool, true, false, cond, _||_}
 use mathlib.Core.List.{List, [], _∷_, _++_}
 use native.Mathlib.Omega.{arith}
-use lib.Dec.{eqb, ltb}
+use lib.Dec.{eqb}
 use lib.ListN.{length}
 use borrow.Author.Tests.{ltb-false, eq-eqb}
 use Rattle.base_refusals.specs.Numbers.{Numbered, lineNumberTooHigh, notAscending, zeroInBody, bodyLength}
 use Rattle.base_refusals.specs.Answer.{Answer, done, refused, mapDone, andThen}
-use Rattle.base_ascii.specs.Bytes.{between}
-use Rattle.base_ascii.proofs.Ranges.{between-in}
 use Rattle.text_lines.specs.declared.LineRule.the-variants.{AfterCr}
 use Rattle.text_domain.specs.Domain.{checkedText}
 use Rattle.text_lines.specs.TextLines.{textLines}
 use Rattle.body_rules.specs.Lexicon.{Lexicon}
 use Rattle.body.specs.Zero.{holdsZero}
-use Rattle.image_readers.specs.Links.{linkStep}
+use Rattle.image_limits.specs.Limits.{c64, isTooHigh, isNotAscending, isBadLength}
+use Rattle.image_limits.proofs.Asking.{good-length}
 use Rattle.image_readers.specs.NumberedBody.{NumberedBody}
-use Rattle.image_readers.specs.Terminators.{terminatorStep}
-use Rattle.image_layout.specs.Each.{Each}
+use Rattle.base_steps.specs.Each.{Each}
 use Rattle.image_layout.specs.Layout.{imageOf}
 use Rattle.image_layout.specs.Reads.{leastLoad, NoZero, NoZeros, linesAt}
 use Rattle.crunch_profile.specs.Profile.{profileSays, lineAllowed, allowed, leastBehind}
 use Rattle.crunch_rules.specs.Crunched.{textLine, lineUnder, lastLink, crunchLines, textLexicon, crunchedLines, crunched}
 use Rattle.crunch_rules.specs.declared.Options.{Options}
 use Rattle.crunch_rules.proofs.Lining.{lines-plain}
-use Rattle.crunch_read_back.proofs.Demand.{Behind, behind, crunched-laid, read-back, read-back-terminators}
+use Rattle.crunch_read_back.proofs.Demand.{behind, crunched-laid, read-back, read-back-terminators}
 use Rattle.image_relink.specs.Relinking.{same, relinking}
 use Rattle.image_relink.proofs.Laid.{Passable, laid-kept}
 use Rattle.crunch_laws.specs.ProfileAccepted.{FitsMachine, FitMachine, ReadAlike}
@@ -49,19 +47,15 @@ passed : {A : Type 0} (b : Bool) (n : Numbered) (a : Answer A) {x : A} → cond 
 passed true n a e = let z : _≡_ {A = ℕ} 0 1 = cc in absurd (omega arith)
 passed false n a e = (refl, e)
 
-met : (b : Bool) (n : Numbered) {u : Unit {0}} → cond b (done tt) (refused n) ≡ done u → b ≡ true
-met true n e = refl
-met false n e = let z : _≡_ {A = ℕ} 0 1 = cc in absurd (omega arith)
-
 line-fits : (k least : ℕ) (l : NumberedBody) {u : Unit {0}} → lineAllowed k least l ≡ done u → (least ≤ l .number) × FitsMachine l
 unfolding lineAllowed profileSays
 line-fits k least l e =
-    let a = passed (ltb 63999 (l .number)) (lineNumberTooHigh k) _ e in
-    let b = passed (ltb (l .number) least) (notAscending k) _ (a .1) in
+    let a = passed (isTooHigh c64 (l .number)) (lineNumberTooHigh k) _ e in
+    let b = passed (isNotAscending least (l .number)) (notAscending k) _ (a .1) in
     let c = passed (holdsZero (l .body)) (zeroInBody k) _ (b .1) in
-    let d = between-in 1 250 (length (l .body)) (met (between 1 250 (length (l .body))) (bodyLength k) (c .1)) in (
+    let d = good-length c64 (length (l .body)) (passed (isBadLength c64 (length (l .body))) (bodyLength k) _ (c .1) .0) in (
       ltb-false (l .number) least (b .0),
-      record { number = ltb-false 63999 (l .number) (a .0); none = no-zero (l .body) (c .0); some = d .0; few = d .1 },
+      record { number = ltb-false (c64 .highest) (l .number) (a .0); none = no-zero (l .body) (c .0); some = d .0; few = d .1 },
     )
 
 -- ---- lines one after the other

@@ -5,6 +5,7 @@ use mathlib.Core.Path.{_≡_}
 use mathlib.Core.List.{List, [], _∷_}
 use lib.ListN.{length}
 use Rattle.base_refusals.specs.Answer.{done}
+use Rattle.image_limits.specs.Limits.{c64}
 use Rattle.image_readers.specs.declared.Line.{Line}
 use Rattle.image_readers.specs.Lines.{linesOf}
 use Rattle.image_readers.specs.Links.{linkStep}
@@ -14,10 +15,10 @@ use Rattle.image_layout.specs.Reads.{NoZero}
 
 -- "numbers at most 63999 .., no zero in any body, bodies of 1 to 250 bytes"
 pub record FitsMachine (l : NumberedBody) : Type 0 where
-  pub number : l .number ≤ 63999
+  pub number : l .number ≤ c64 .highest
   pub none : NoZero (l .body)
   pub some : 1 ≤ length (l .body)
-  pub few : length (l .body) ≤ 250
+  pub few : length (l .body) ≤ c64 .longest
 
 -- "strictly ascending": each line fits, and its number is at least this one, which is 0 at first and then the next above the number before
 abbrev pub FitMachine : ℕ → List NumberedBody → Type 0
