@@ -80,7 +80,7 @@ pub fn is_ascii(s: &[u8]) -> bool
     true
 }
 
-// How many bytes of white space stand in front. This loop and the next are run for each text line, and have a test of their own.
+// How many bytes of white space stand in front. This loop and the next run for each text line, so they do not call `search`.
 pub fn leading_space(s: &[u8]) -> usize
     ensures { λ r. ⌜ r ≡ front isSpace (now (s .entry)) ⌝ }
 {

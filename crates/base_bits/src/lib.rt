@@ -89,7 +89,7 @@ fn bit_at(bytes: &[u8], at: usize) -> usize
     ((bytes[at / 8] >> (7 - at % 8)) % 2) as usize
 }
 
-// The field of so many bits at a bit offset, which is low: a caller takes the part of the bytes that starts nearby.
+// The field of so many bits at a bit offset. The offset is low: for a field further on, a caller lends the bytes from near it on.
 pub fn field_at(bytes: &[u8], at: usize, width: usize) -> usize
     requires { ⌜ (at + width ≤ 8 * length (now bytes)) × (width ≤ 16) × (at < 256) ⌝ }
     ensures { λ r. ⌜ r ≡ fieldAt (now (bytes .entry)) at width ⌝ }

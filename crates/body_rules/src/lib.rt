@@ -1,5 +1,5 @@
-// What a step of crunching does: the modes, a step's answer, and the bytes that give one by themselves. The definition of a step in each
-// mode stands here with its laws.
+// The rules of a step of crunching: the modes, a step's answer, and the bytes that give one byte by themselves. The definition of a step in
+// each mode, plain, string, remark and DATA, is specs/Steps.antt; its laws stand in proofs/.
 ghost use mathlib.Core.Path.{_≡_};
 ghost use Rattle.body_rules.specs.Steps.{one as oneByte, token as tokenOf, opened as openedBy};
 

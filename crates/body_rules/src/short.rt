@@ -6,7 +6,7 @@ ghost use lib.Dec.{eqb};
 ghost use Rattle.body_rules.specs.ShortHelpers.{isShort, plainByte, shortByte, shortMode};
 ghost use Rattle.body_rules.specs.Steps.{lettered as letteredOf};
 
-// Whether a byte is one: in plain mode all but letters and the first byte of pi, in a string all but {.
+// Whether a byte gives one by itself: in plain mode all but letters and the first byte of pi, in a string all but {.
 pub fn is_short(mode: Mode, b: u8) -> bool
     ensures { λ r. ⌜ r ≡ isShort mode b ⌝ }
 {

@@ -51,7 +51,7 @@ unfoldable pub tsbThere : Sets → List Entry → List ℕ → Bool
 unfolding wordIn
 tsbThere s tsb t = s .tsb && elim (wordIn tsb t) [ Word i u k ↦ true | Nothing ↦ false ]
 
--- the V2 word that a short form at the front of a text stands for, under the option; a V2 word there was looked for before
+-- the V2 word that a short form at the front of a text stands for, under the option; that no whole V2 word stands there was asked before
 unfoldable pub formWord : Sets → List Entry → List Entry → List ℕ → Match
 unfolding tsbThere shortForm
 formWord s tsb v2 t = cond (s .forms && not (tsbThere s tsb t)) (shortForm v2 t) Nothing

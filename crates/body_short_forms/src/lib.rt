@@ -46,7 +46,7 @@ fn tsb_there(text: &[u8], bytes: &[u8], index: &[u16], sets: Sets) -> bool
     }
 }
 
-// The same whatever words are in force. Letters behind the longest word's length are not looked at: no word is longer than they are.
+// The same, whatever words are in force. No more letters are looked at than the longest word has.
 pub fn short_form(text: &[u8], bytes: &[u8], index: &[u16]) -> Match
     requires { ⌜ SpellsWords (now bytes) (now index) ⌝ }
     ensures { λ r. ⌜ r ≡ shortForm v2Words (now (text .entry)) ⌝ }

@@ -36,7 +36,7 @@ pub fn letter_step(rest: &[u8], bytes: &[u8], index: &[u16], sets: Sets) -> Move
     }
 }
 
-// The live TSB word there. The sets are copied where a word is looked up in them: not where no TSB word is live.
+// The live TSB word there. Looking a word up copies the sets, so nothing is looked up where no TSB word is live.
 fn live_word(rest: &[u8], bytes: &[u8], index: &[u16], sets: Sets) -> Match
     requires { ⌜ SpellsWords (now bytes) (now index) ⌝ }
     ensures { λ r. ⌜ r ≡ liveWord sets tsbWords (now (rest .entry)) ⌝ }

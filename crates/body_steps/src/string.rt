@@ -31,8 +31,8 @@ pub fn no_span(text: &[u8]) -> Span
     }
 }
 
-// The span at a place, where that of an earlier one is known: it is found anew only at a { behind the known }. So no byte is gone
-// through for two of them.
+// The span at a place, from that of an earlier place. It is found anew only at a { behind the known }, so no byte is read for two
+// of them.
 pub fn span_at(text: &[u8], at: usize, known: Span) -> Span
     requires { ⌜ (at < length (now text)) × Spans (now text) at known ⌝ }
     ensures { λ r. ⌜ Reaches (now (text .entry)) at r ⌝ }

@@ -1,4 +1,4 @@
-// A bound of an image's length, found without going through the bodies that have no }.
+// A bound of an image's length, found without reading the bodies that have no }.
 use text_lines::LineRule;
 use word_match::sets::Sets;
 ghost use mathlib.Core.Bool.{false};
@@ -7,7 +7,7 @@ ghost use Rattle.body_rules.specs.Lexicon.{lexicon};
 ghost use Rattle.crunch_rules.specs.PassesHelpers.{textImage};
 ghost use Rattle.crunch_image.specs.CallHelpers.{FitsIf};
 
-// Whether every line has its number, and the image surely has an address and the room. Where not, the exact length decides.
+// Whether every line has its number, and the image surely fits its addresses and the room. Where this says no, the exact length decides.
 pub fn fits(text: &[u8], load: u16, room: usize, bytes: &[u8], index: &[u16], sets: Sets) -> bool
     requires { ⌜ SpellsWords (now bytes) (now index) ⌝ }
     ensures { λ r. ⌜ FitsIf r room (textImage false (lexicon sets) load (now (text .entry))) ⌝ }

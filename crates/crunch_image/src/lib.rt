@@ -58,7 +58,7 @@ pub fn measured_line(text: &[u8], options: Options, place: usize) -> LineMeasure
     )
 }
 
-// Both with the tables lent.
+// The room, and the line below, with the tables lent.
 fn room_with(text: &[u8], options: Options, bytes: &[u8], index: &[u16]) -> Outcome
     requires { ⌜ SpellsWords (now bytes) (now index) ⌝ }
     ensures { λ r. ⌜ outcomeAnswer r ≡ roomFor (crunched options (now (text .entry))) ⌝ }
@@ -99,7 +99,7 @@ fn measured(text: &[u8], options: Options, place: usize, bytes: &[u8], index: &[
     }
 }
 
-// The text is checked, and its words are found, once.
+// Crunches with the tables lent. The text is checked, and its words are found, once.
 fn crunch_with(
     out: &mut [u8],
     text: &[u8],
@@ -121,8 +121,8 @@ fn crunch_with(
     }
 }
 
-// Where the bound does not settle it, the image is measured first: a buffer that is too small is left as it is. The bound knows nothing of the
-// profile, which is asked in measuring; what it accepts is written as without it.
+// Where the bound does not settle that there is room, the image is measured first, so that a buffer that is too small is left as it is. Only
+// measuring asks the profile; a text that it accepts is written as without it.
 fn into_buffer(
     out: &mut [u8],
     text: &[u8],

@@ -1,4 +1,4 @@
--- For helpers of the measuring pass alone: what it comes to, for any words.
+-- For helpers of the measuring pass alone: what it answers, for any words.
 -- Assumes nothing.
 use Prim.Native.Nat.{ℕ, _+_, _-_, _≤_}
 use mathlib.Core.Path.{_≡_}

@@ -1,4 +1,4 @@
--- What a text comes to that is crunched into a lent buffer and read back by links (document 01, "Reading and listing": "one call checks the
+-- What comes of a text that is crunched into a lent buffer and read back by links (document 01, "Reading and listing": "one call checks the
 -- whole image and returns the load address with the line count, or the refusal"; "Numbers of refusal": "A refusal changes nothing lent").
 -- Assumes nothing.
 use Prim.Native.Nat.{ℕ}

@@ -37,13 +37,13 @@ unfoldable pub lastLink : ℕ → List NumberedBody → Answer ℕ
 unfolding endAddress
 lastLink address ls = elim (leb (endAddress address ls) 0xFFFF) [ true ↦ done (endAddress address ls) | false ↦ refused addressOverflow ]
 
--- the same lines, where the profile is asked for if it allows them; `least` is the least number that may stand there
+-- the same lines, or the profile's refusal where it is asked for; `least` is the least number that may stand there
 unfoldable pub lineUnder : Bool → Lexicon → ℕ → ℕ → List ℕ → Answer (List NumberedBody)
 unfolding textLine lineAllowed
 lineUnder profile words k least line =
     andThen (textLine words k line) (λ new. mapDone (λ _. new) (cond profile (allowed k least new) (done tt)))
 
--- the lines of the image from the k-th text line on, the next one with this least number, and at an address
+-- the lines of the image from the k-th text line on: the next one stands at an address, and may have this least number
 unfoldable pub crunchLines : Bool → Lexicon → ℕ → ℕ → ℕ → List (List ℕ) → Answer (List NumberedBody)
 unfolding lineUnder lastLink
 crunchLines profile words k least address [] = done []

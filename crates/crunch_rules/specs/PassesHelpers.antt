@@ -1,4 +1,4 @@
--- For helpers of the passes over a text alone: what a text in the domain and a line of it come to, for any words.
+-- For helpers of the passes over a text alone: what a text in the domain and a line of it give, for any words.
 -- Assumes nothing.
 use Prim.Native.Nat.{ℕ}
 use mathlib.Core.Bool.{Bool}

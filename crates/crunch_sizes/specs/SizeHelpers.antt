@@ -32,8 +32,8 @@ SizedAs address a (Refused r) = andThen a (lastLink address) ≡ refused (number
 abbrev pub sizedAt : ℕ → ℕ → ℕ → Sized
 sizedAt address number size = cond (ltb 0xFFFF (address + 5 + size)) (Refused AddressOverflow) (Numbered number (address + 5 + size))
 
--- up to this address, or to one above FFFF, the lines reach that a text line gives, the first at an address; where it is not above, the text
--- line is not refused, whatever its place
+-- r is no lower than the address; where it is at most FFFF, the text line is not refused, whatever its place, and the lines that it gives from
+-- the address on end at r at the latest
 pub record Bounded (words : Lexicon) (address : ℕ) (line : List ℕ) (r : ℕ) : Type 0 where
   pub low : address ≤ r
   pub gives : r ≤ 0xFFFF → (k : ℕ) → textLine words k line ≡ done (given (textLine words k line))

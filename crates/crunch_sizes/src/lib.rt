@@ -1,4 +1,4 @@
-// What a text line comes to at an address: its size, or a refusal; and a bound of its size.
+// How long a text line becomes at an address, or its refusal; and a bound of that length.
 use base_refusals::Refusal;
 use body::zero;
 use crunch_profile::Allowed;
@@ -11,7 +11,7 @@ ghost use Rattle.body_rules.specs.Lexicon.{lexicon};
 ghost use Rattle.crunch_rules.specs.Crunched.{lineUnder};
 ghost use Rattle.crunch_sizes.specs.SizeHelpers.{SizedAs, sizedAt, Bounded};
 
-// What a text line comes to: nothing, or a line and the address behind it.
+// What a text line gives: nothing, a line with the address behind it, or a refusal.
 pub enum Sized {
     Blank,
     Numbered { number: u16, behind: usize },
@@ -71,7 +71,7 @@ fn size_line(address: usize, number: u16, length: usize) -> Sized
     Sized::Numbered { number, behind }
 }
 
-// An address that the line behind a text line does not pass; one above FFFF where it may have none.
+// An address beyond which the line that a text line gives does not reach; one above FFFF where the text line may be refused.
 pub fn bound_line(line: &[u8], address: usize, bytes: &[u8], index: &[u16], sets: Sets) -> usize
     requires { ⌜ SpellsWords (now bytes) (now index) × (address ≤ 0xFFFF) ⌝ }
     ensures { λ r. ⌜ Bounded (lexicon sets) address (now (line .entry)) r ⌝ }

@@ -18,7 +18,7 @@ pub struct Seen {
     pub sound: bool,
 }
 
-// The check behind the length, of a disk whose directory's sectors and listed entries are known.
+// The rest of the check, after the length, of a disk whose directory's sectors and listed entries are known.
 fn holds(disk: &[u8], sectors: &[usize], ends: bool, files: &[usize]) -> bool
     requires { ⌜ (length (now disk) ≡ 174848) × (now sectors ≡ directory (now disk) .sectors) × (ends ≡ directory (now disk) .ends) × (now files ≡ listed (now disk)) ⌝ }
     ensures { λ r. ⌜ r ≡ sound (now (disk .entry)) ⌝ }

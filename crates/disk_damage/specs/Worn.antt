@@ -31,7 +31,7 @@ placeOnDisk disk [] i = 0
 placeOnDisk disk (n ∷ ns) i =
     cond (ltb i (length (payload disk n))) (256 * n + 2 + i) (placeOnDisk disk ns (i - length (payload disk n)))
 
--- the disk is changed among the bytes of files, and of the file of a name only some bytes
+-- only bytes of files are changed on the disk, and of the file of a name only some of its bytes
 pub record Worn (changes : ℕ → Bool) (before name now : List ℕ) : Type 0 where
   pub disk : ChangedAt isFileByte before now
   pub others : (i : ℕ) → changes i ≡ false → getD now (placeOnDisk before (fileSectors before name) i) 0 ≡ getD before (placeOnDisk before (fileSectors before name) i) 0

@@ -114,7 +114,8 @@ abbrev pub grown : List ℕ → ℕ → ℕ → List ℕ
 grown disk last n =
     marked (sets (sets disk (256 * n) (sectorBytes 0 0xFF [])) (256 * last) (trackOf n ∷ sectorOf n ∷ [])) n false
 
--- an entry in the first that is not listed, or in the lowest sector outside the chain, which a directory of fewer than 144 files has
+-- an entry written over the first that is not listed, or into the lowest sector outside the chain; with fewer than 144 files there is one of
+-- the two
 abbrev pub withEntry : List ℕ → List ℕ → List ℕ → List ℕ → List ℕ → Answer (List ℕ)
 withEntry disk entry sectors (p ∷ ps) out = done (sets disk p entry)
 withEntry disk entry sectors [] [] = refused directoryFull

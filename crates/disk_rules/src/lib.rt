@@ -1,5 +1,4 @@
-// Definitions only: a disk of the 1541 as a D64, and what the five calls over one do. The code stands in `disk_sectors`, `disk_chains`, `disk_entries`
-// and `disk`.
+// Definitions only: a disk of the 1541 as a D64, and what the five calls over one do. The code stands in the other crates of this layer.
 use base_refusals::Refusal;
 
 // What two bytes link to: nothing further, with a second byte; a sector; or a sector that does not exist.

@@ -67,7 +67,7 @@ fn begins_key(name: &[u8]) -> bool
 }
 
 // The escape of a name that is a prefix, a mark and one byte. Most texts that are no escape begin with another letter than a prefix. No prefix has more than
-// seven bytes, so its mark is one of the first eight: a long text between braces is not gone through.
+// seven bytes, so its mark is one of the first eight, and no more of a long text is read.
 pub fn key_escape(name: &[u8], count: u64) -> Escape
     ensures { λ r. ⌜ r ≡ keyEscape (now (name .entry)) count ⌝ }
 {

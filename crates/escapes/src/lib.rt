@@ -17,7 +17,7 @@ ghost use Rattle.escapes.specs.TailHelpers.{TailOf, wholeTail, starredTa
 
 mod keys;
 
-// What a text shares with every end of it, so that many { in front of one } need not look for it each.
+// What a text shares with every end of it, so that it is found once for many { in front of one }.
 pub struct Tail {
     // How many bytes are left without the white space at the end.
     pub end: usize,
@@ -43,7 +43,7 @@ pub fn resolve_petscii_escape(inside: &[u8], bytes: &[u8], index: &[u16]) -> Esc
     escape_from(inside, 0, tail_of(inside), bytes, index)
 }
 
-// The tail of a text. It is gone through for it, and no more for any end of it.
+// The tail of a text. The text is read once for it, and not again for any end of it.
 pub fn tail_of(inside: &[u8]) -> Tail
     ensures { λ r. ⌜ TailOf (now (inside .entry)) r ⌝ }
 {

@@ -83,8 +83,8 @@ pub fn resolved_dialect(text: &[u8], dialect: Dialect) -> Resolved
     }
 }
 
-// The TSB words that are live when a text is crunched, those that are demoted, and whether the words of BASIC 3.5 are looked for. Short
-// forms are no matter of the guess.
+// The TSB words that are live when a text is crunched, those that are demoted, and whether the words of BASIC 3.5 are looked for. The guess
+// knows no short forms.
 pub fn word_sets(text: &[u8], dialect: Dialect, bytes: &[u8], index: &[u16]) -> Sets
     requires { ⌜ SpellsWords (now bytes) (now index) ⌝ }
     ensures { λ r. ⌜ r ≡ wordSets dialect (now (text .entry)) ⌝ }

@@ -23,7 +23,7 @@ ghost use Rattle.guess_uses.specs.MarkHelpers.{MarksOf};
 
 // The first word of a line that proves that a text is TSB.
 pub enum DecidingWord {
-    // So many bytes into the line; and its place in the TSB list.
+    // Where it stands in the line, and its place in the TSB list.
     Decides { offset: usize, word: usize },
     NoneDecides,
 }
@@ -207,8 +207,8 @@ fn longest_place(line: &[u8], bytes: &[u8], index: &[u16]) -> Found
     marked_place(line, &marks, bytes, index)
 }
 
-// Where the first word that proves it stands. The room for marks goes by the line's length; a short line needs none, and no text has a
-// longer one.
+// Where the first word that proves it stands. A short line needs no room for marks, a longer one 4 KB or 256 KB; no text has a line that is
+// longer still.
 fn deciding_place(line: &[u8], bytes: &[u8], index: &[u16]) -> Found
     requires { ⌜ SpellsWords (now bytes) (now index) ⌝ }
     ensures { λ r. ⌜ r ≡ decidingPlace (now (line .entry)) ⌝ }

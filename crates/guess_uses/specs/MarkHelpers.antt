@@ -1,4 +1,4 @@
--- For helpers alone: for which lists in parentheses = follows is found for a whole line at once, and kept as bits.
+-- For helpers alone: whether = follows each list in parentheses, found for a whole line at once and kept as bits.
 -- Assumes nothing.
 use Prim.Native.Nat.{ℕ, zero, suc, _*_, _/_, _%_, _^_, _≤_, _<_}
 use mathlib.Core.Path.{_≡_}

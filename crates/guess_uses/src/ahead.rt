@@ -8,8 +8,8 @@ ghost use lib.ListN.{length};
 ghost use Rattle.guess_uses.specs.Ahead.{closing as closingOf, behindList, assigns as assignsOf};
 ghost use Rattle.guess_uses.specs.MarkHelpers.{equalsAhead, MarksOf};
 
-// How many bytes a list takes behind its opening parenthesis: up to the closing one, or to the end. Most bytes are above both: they
-// are told apart by one test.
+// How many bytes a list takes behind its opening parenthesis: up to the closing one, or to the end. Most bytes are above both parentheses,
+// and one test passes them.
 fn closing(text: &[u8]) -> usize
     ensures { λ r. ⌜ r ≡ closingOf 0 (now (text .entry)) ⌝ }
 {
@@ -51,7 +51,7 @@ fn list_assigned(text: &[u8], blank: Kind) -> bool
 }
 
 // Whether an assignment follows a name: blanks, perhaps a list in parentheses and blanks behind it, then =. Where the lists are marked,
-// none is gone through.
+// none is read.
 pub fn assigns(text: &[u8], blank: Kind, marks: &[u8]) -> bool
     requires { ⌜ MarksOf blank (now text) (now marks) ⌝ }
     ensures { λ r. ⌜ r ≡ assignsOf blank (now (text .entry)) ⌝ }

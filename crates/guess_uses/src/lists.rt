@@ -1,5 +1,5 @@
-// For which lists in parentheses = follows. Lists stand within lists, so looking behind each of them by itself could take the square of a
-// line's length. Here all of them are found in one pass from the line's end, and each is kept as a bit.
+// Whether = follows each list in parentheses. Lists stand within lists, so looking behind each of them by itself could take the square of a
+// line's length. Here one pass from the line's end finds it for all of them, and keeps a bit for each.
 use base_ascii::search;
 use base_ascii::search::Kind;
 ghost use mathlib.Core.Path.{_≡_};

@@ -14,7 +14,7 @@ pub fn address_at(image: &[u8], offset: usize) -> usize
     if sum < 2 { 0 } else { sum - 2 }
 }
 
-// The offset that the link at an offset leads to; a link below the load address leads to no line's end, and 0 is none.
+// The offset that the link at an offset leads to; 0, which ends no line, where the link lies below the load address.
 pub fn target_at(image: &[u8], offset: usize) -> usize
     requires { ⌜ offset + 2 ≤ length (now image) ⌝ }
     ensures { λ r. ⌜ r ≡ targetAt (now (image .entry)) offset ⌝ }

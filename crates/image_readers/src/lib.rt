@@ -1,4 +1,4 @@
-// The two readers of an image: by terminators, as the original reads, and by links, as the machine follows them.
+// The two readers of an image: by terminators, as the original reads, and by links.
 // Each has three calls: `check` reads the whole image, `step` the line at an offset, `body` hands out that line's bytes. What both do alike
 // stands here, with the reader as an argument.
 ghost use mathlib.Core.Path.{_≡_};

@@ -1,8 +1,8 @@
 -- What the bytes of a body are, one unit after the other (document 01, "Reading and listing": "A quote toggles quoting. Unquoted 64 and
 -- a next byte, even a quote, are a TSB word .. a last 64 is `{64}`. Unquoted 80 and above is from the 128 texts"). What a walk heeds
--- beyond that is data (`Rules`): document 02, No. 6 and 12, heed remarks ("After an unquoted 8F that isn't the second byte of a TSB
--- pair"), No. 13 remarks and DATA, and No. 6 heeds no prefix under BasicV2. In DATA an 8F opens no remark. No. 5 heeds no prefix either, and
--- the tokens of BASIC 3.5.
+-- beyond that is data (`Rules`). Document 02, No. 6 and 12, heed remarks ("After an unquoted 8F that isn't the second byte of a TSB
+-- pair"); No. 13 heeds remarks and DATA, and in DATA an 8F opens no remark. Under BasicV2 No. 6 heeds no prefix. No. 5 heeds no prefix
+-- either, but the tokens of BASIC 3.5.
 -- Assumes nothing.
 use Prim.Native.Nat.{ℕ, suc}
 use mathlib.Core.Bool.{cond}

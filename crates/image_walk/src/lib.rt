@@ -51,7 +51,7 @@ pub fn place<'a>(walk: Walk<'a>) -> usize
     walk.offset
 }
 
-// What stands at an image's first line: a walk is made and stepped, and whoever calls this needs none.
+// What stands at an image's first line, for a caller that keeps no walk.
 pub fn first_step(image: &[u8]) -> Step
     ensures { λ r. ⌜ stepAnswer r ≡ terminatorStep (now (image .entry)) 2 ⌝ }
 {

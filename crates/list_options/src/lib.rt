@@ -12,7 +12,7 @@ pub struct ListOptions {
     pub by: By,
 }
 
-// What the original's listing is: under any of its dialects the same.
+// The options of the original's listing, which is the same under each of its dialects.
 pub fn original() -> ListOptions
     ensures { λ r. ⌜ r ≡ originalOptions ⌝ }
 {

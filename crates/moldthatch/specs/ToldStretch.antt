@@ -1,4 +1,4 @@
--- A stretch of a line's listing (crates/list_image/specs/Stretch.antt) in numbers, and what is left of the line.
+-- A stretch of a line's listing (crates/list_stretches/specs/Stretch.antt) in numbers, and what is left of the line.
 -- Assumes nothing.
 use Prim.Native.Nat.{ℕ, zero, suc}
 use mathlib.Core.List.{List, [], _∷_}

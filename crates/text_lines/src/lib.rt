@@ -41,8 +41,8 @@ fn end_mark(text: &[u8], rule: LineRule) -> usize
     }
 }
 
-// A place in the run of one byte that stands from a place on, or behind it. Most runs are short, and are passed whole. Behind sixteen bytes they
-// are passed four at a time.
+// Passes the run of one byte that begins at a place: all of it, or all but fewer than four bytes. Most runs are short. Behind sixteen bytes a
+// run is passed four bytes at a time.
 fn behind_run(text: &[u8], from: usize, b: u8) -> usize
     ensures { λ r. ⌜ runEnd b (now (text .entry)) r ≡ runEnd b (now (text .entry)) from ⌝ }
 {
@@ -83,7 +83,7 @@ fn long_run(text: &[u8], from: usize, b: u8) -> usize
     i
 }
 
-// The place behind the blanks that stand from a place on. Most are a run of one, which is passed first with one test for each byte.
+// The place behind the blanks that stand from a place on. Most are a run of one byte, which is passed first, with one test for each.
 // These loops stand here, and not in `base_ascii::search`, because they are run for each text line.
 fn behind_blanks(text: &[u8], from: usize) -> usize
     ensures { λ r. ⌜ r ≡ from + front isBlank (drop from (now (text .entry))) ⌝ }
