@@ -2,7 +2,7 @@
 # names: the 112 names, a row where the code is not the one that its keys send, or not the one that the Guide has for what the name says
 # keys: a key and one byte, a row where the code is not the one that the keys send
 # cursor: the names of SHIFT with a cursor key, a row each
-# Reads keyboard.tsv, guide-codes.tsv, escape-keys.tsv, the definitions' names (Escapes.antt), and what the program `codes` prints.
+# Reads keyboard.tsv, guide-codes.tsv, escape-keys.tsv, the definitions' names (Escapes.antt), and the escapes that `judge_tables` prints.
 function value(h) { return (index(hex, substr(h, 1, 1)) - 1) * 16 + index(hex, substr(h, 2, 1)) - 1 }
 function is_graphic(h,    v) { v = value(h); return v >= 96 && v <= 127 || v >= 161 && v <= 223 }
 function is_pi(h) { return h == "7E" || h == "DE" || h == "FF" }
@@ -49,7 +49,7 @@ FILENAME ~ /Escapes/ {
 }
 $2 !~ /^[0-9A-F][0-9A-F]$/ { next }
 ++rows <= names {
-    if ($1 != defined[rows]) print "crates/judge_codes/stdin names " $1 " where the definitions have " defined[rows]
+    if ($1 != defined[rows]) print "crates/judge_tables/stdin names " $1 " where the definitions have " defined[rows]
     if (!($1 in keys)) print "escape-keys.tsv has no keys for " $1
     if (table != "keys") name_row($1, $2)
     next

@@ -1,6 +1,6 @@
 # What each of the 256 bytes lists as, beside what the Guide says that it means, as rows of a page's table; bytes alike in both stand in one row.
 # The variable `table` names it: quoted, or plain (outside quotes, where the ROM's words count too).
-# Reads guide-codes.tsv, rom-words.tsv, and what the program `codes` prints: for each byte the listing of a line 0 that holds it alone, then of
+# Reads guide-codes.tsv, rom-words.tsv, and the listings that `judge_tables` prints: for each byte the listing of a line 0 that holds it alone, then of
 # one that holds a quote and the byte. A 0D lists as a line feed, so that its row has a second line, which is empty.
 function value(h) { return (index(hex, substr(h, 1, 1)) - 1) * 16 + index(hex, substr(h, 2, 1)) - 1 }
 # 60 to 7F and A1 to BF are graphics; C0 to DF are as 60 to 7F, E0 to FE as A0 to BE, FF as 7E

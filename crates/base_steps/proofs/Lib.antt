@@ -1,2 +1,4 @@
+pub mod Digits
+pub mod Each
 pub mod Nearer
 pub mod The

@@ -12,7 +12,7 @@ use Rattle.word_search.specs.Compare.{same}
 use Rattle.word_search.specs.Find.{nameIn, meaning}
 use Rattle.word_search.specs.Spelling.{bytesOf}
 use Rattle.word_tables.specs.Escapes.{escapeNames}
-use Rattle.escape_keys.specs.KeyCodes.{cbmLetters, ctrlDigits}
+use Rattle.escape_bytes.specs.KeyCodes.{cbmLetters, ctrlDigits}
 use Rattle.word_tables.specs.Rom.{v2Words, operators}
 use Rattle.word_match.specs.Sets.{liveWord, plainWord}
 use Rattle.word_tables.specs.Basic35.{basic35Words}

@@ -42,7 +42,7 @@ fn format(payload: &[u8], disk: &mut [u8]) -> bool
     requires { ⌜ length (now payload) ≤ length (now disk) ⌝ }
 {
     let size = bytes::copy(payload, disk);
-    let changed = disk_formats::format(&mut disk[0..size]);
+    let changed = disk::format(&mut disk[0..size]);
     send_changed(changed, &disk[0..size])
 }
 

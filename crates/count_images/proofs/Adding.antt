@@ -12,8 +12,8 @@ use lib.Seq.{ext-getD, getD-set-same, getD-set-other}
 use mir.Syntax.{w64}
 use mir.Val.{Fits}
 use Rattle.count_totals.specs.TotalsHelpers.{Small}
-use Rattle.count_tallies.specs.Tallies.{added}
-use Rattle.count_tallies.proofs.Tallying.{length-added, getD-added}
+use Rattle.count_images.specs.Tallies.{added}
+use Rattle.count_images.proofs.Tallying.{length-added, getD-added}
 
 -- the first k places are added
 pub record AddedUpTo (t u : List ℕ) (now : List ℕ) (k : ℕ) : Type 0 where

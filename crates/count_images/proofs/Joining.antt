@@ -15,8 +15,8 @@ use Rattle.count_tokens.specs.Tokens.{tokensIn}
 use Rattle.count_totals.specs.TokenTotals.{imagesTaken, isTotals}
 use Rattle.count_totals.specs.TotalsHelpers.{Small}
 use Rattle.count_totals.proofs.Bounds.{are-totals, totals-small}
-use Rattle.count_tallies.specs.Tallies.{added}
-use Rattle.count_tallies.specs.TallyHelpers.{Raisable}
+use Rattle.count_images.specs.Tallies.{added}
+use Rattle.count_images.specs.TallyHelpers.{Raisable}
 use Rattle.count_images.specs.Carried.{Kept, counted, noTotals, withMarks, withImage, joined}
 
 pub small-raisable : {t : List ℕ} → Small t → Raisable 1048577 t

@@ -6,9 +6,9 @@ use mathlib.Core.List.{List, [], _∷_, _++_, flatMap, append-assoc, List·Perm�
 use native.Mathlib.Omega.{arith}
 use Rattle.base_refusals.specs.Answer.{refused}
 use Rattle.count_tokens.specs.Tokens.{tokensIn}
-use Rattle.count_tallies.specs.Tallies.{occurrences, tally, added}
+use Rattle.count_images.specs.Tallies.{occurrences, tally, added}
 use Rattle.count_images.specs.Totals.{imageMarks, totalsOf}
-use Rattle.count_tallies.proofs.Tallying.{occurrences-append, tally-append, tally-alike}
+use Rattle.count_images.proofs.Tallying.{occurrences-append, tally-append, tally-alike}
 
 -- the marks that images make
 abbrev pub marksOf : List (List ℕ) → List ℕ

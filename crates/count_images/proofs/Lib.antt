@@ -1,6 +1,9 @@
 pub mod Adding
+pub mod Bodies
 pub mod Joining
 pub mod Laws
+pub mod Raising
 pub mod Taking
+pub mod Tallying
 pub mod Thousand
 pub mod Tight

@@ -18,11 +18,11 @@ use Rattle.image_readers.specs.Readers.{stepBy}
 use Rattle.image_readers.proofs.Finding.{told-checked}
 use Rattle.image_readers.proofs.Reading.{overview-bodies}
 use Rattle.count_tokens.specs.Tokens.{tokensOf, tokensFrom, tokensIn}
-use Rattle.count_tallies.specs.Tallies.{tally, added}
+use Rattle.count_images.specs.Tallies.{tally, added}
 use Rattle.count_images.specs.Carried.{Kept, counted, countedApart, withMarks}
-use Rattle.count_tallies.specs.TallyHelpers.{Raisable, Tallied}
-use Rattle.count_tallies.proofs.Tallying.{tally-on}
-use Rattle.count_tallies.proofs.Raising.{raisable-less, raised}
+use Rattle.count_images.specs.TallyHelpers.{Raisable, Tallied}
+use Rattle.count_images.proofs.Tallying.{tally-on}
+use Rattle.count_images.proofs.Raising.{raisable-less, raised}
 
 pub once : {t : List ℕ} → Raisable 1048577 t → Raisable 1 t
 once r = raisable-less r (omega arith)

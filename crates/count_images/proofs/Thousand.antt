@@ -27,12 +27,12 @@ use Rattle.image_units.specs.declared.Unit.the-variants.{Char, Token, Token35, 
 use Rattle.image_units.specs.Units.{unitsOf}
 use Rattle.count_tokens.specs.Tokens.{countRules, ifWord, countedAs, tokensOf, tokensFrom, tokensIn}
 use Rattle.count_totals.specs.TokenTotals.{sumBelow, tokensSum, imagesTaken, imagesRefused}
-use Rattle.count_tallies.specs.Tallies.{occurrences, tally, added}
+use Rattle.count_images.specs.Tallies.{occurrences, tally, added}
 use Rattle.count_images.specs.Totals.{imageMarks, totalsOf}
 use Rattle.count_images.specs.Carried.{counted, fate, withImage, joined}
-use Rattle.count_tallies.proofs.Tallying.{occurrences-append, tally-length, tally-at, getD-added}
+use Rattle.count_images.proofs.Tallying.{occurrences-append, tally-length, tally-at, getD-added}
 use Rattle.count_tokens.proofs.UnitTokens.{below-or-not}
-use Rattle.count_tallies.proofs.Bodies.{left-end, left-line, left-refused, few-tokens}
+use Rattle.count_images.proofs.Bodies.{left-end, left-line, left-refused, few-tokens}
 use Rattle.count_totals.proofs.Bounds.{AreTotals, totals-true}
 use Rattle.count_images.proofs.Laws.{marksOf, totals-join}
 

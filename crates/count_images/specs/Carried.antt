@@ -11,7 +11,7 @@ use Rattle.count_images.specs.declared.Carried.{Carried}
 use Rattle.count_images.specs.declared.Carried.the-variants.{Taken, Apart, Refused, NoTotals}
 use Rattle.count_tokens.specs.Tokens.{tokensFrom, tokensIn}
 use Rattle.count_totals.specs.TokenTotals.{imagesTaken, isTotals}
-use Rattle.count_tallies.specs.Tallies.{tally, added}
+use Rattle.count_images.specs.Tallies.{tally, added}
 use Rattle.count_images.specs.Totals.{imageMarks}
 
 -- what became of an image, or of totals to be joined; "is counted apart" with its refusal, which is none of the call

@@ -1,2 +1,4 @@
 pub mod Carried
+pub mod Tallies
+pub mod TallyHelpers
 pub mod Totals

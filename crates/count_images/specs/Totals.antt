@@ -6,7 +6,7 @@ use Prim.Native.Nat.{ℕ}
 use mathlib.Core.List.{List, [], _∷_, flatMap}
 use Rattle.base_refusals.specs.Answer.{Answer, done, refused}
 use Rattle.count_tokens.specs.Tokens.{tokensFrom, tokensIn}
-use Rattle.count_tallies.specs.Tallies.{tally}
+use Rattle.count_images.specs.Tallies.{tally}
 
 -- the marks that an image makes
 abbrev pub imageMarks : Answer (List ℕ) → List ℕ

@@ -6,18 +6,20 @@ ghost use mathlib.Core.Path.{_≡_};
 ghost use lib.ListN.{getD};
 ghost use Rattle.count_tokens.specs.Tokens.{tokensIn, countedTokens};
 ghost use Rattle.count_totals.specs.TotalsHelpers.{Small};
-ghost use Rattle.count_tallies.specs.Tallies.{added};
-ghost use Rattle.count_tallies.specs.TallyHelpers.{Raisable};
+ghost use Rattle.count_images.specs.Tallies.{added};
+ghost use Rattle.count_images.specs.TallyHelpers.{Raisable};
 ghost use Rattle.count_images.specs.Carried.{carried, withMarks, withImage, joined};
+use crate::tallies::count_image;
+use crate::tallies::raise;
 use base_refusals::Refusal;
-use count_tallies::count_image;
-use count_tallies::raise;
 use count_totals::MOST_IMAGES;
 use count_totals::REFUSED;
 use count_totals::TAKEN;
 use count_totals::are_totals;
 use image_readers::By;
 use image_readers::Checked;
+
+mod tallies;
 
 // The tokens that are counted: those of V2, then those of TSB, each ascending.
 pub const TOKENS: [u8; 197] =

@@ -1,2 +1,3 @@
-pub mod Accepting
-pub mod Table
+pub mod ProfileAccepted
+pub mod ProfileTable
+pub mod ShortFormsOff

@@ -1,2 +1,3 @@
-pub mod Accepted
-pub mod Examples
+pub mod BeforeShortForms
+pub mod ProfileAccepted
+pub mod ProfileTable

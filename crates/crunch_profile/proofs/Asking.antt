@@ -1,61 +1,54 @@
 -- What the profile says of a line, test by test; and that a length may be cut to 65,536 before it is asked.
 -- Assumes nothing.
 use Prim.Native.Nat.{ℕ, _≤_, _<_, min}
-use mathlib.Core.Path.{_≡_, refl, sym, ap, _∙_}
+use mathlib.Core.Path.{_≡_, sym, ap, _∙_}
 use mathlib.Core.Bool.{Bool, true, false}
 use native.Mathlib.Decide.{decLt}
 use native.Mathlib.Omega.{arith}
-use lib.Dec.{leb, ltb}
-use borrow.Author.Tests.{lt-ltb, le-ltb, le-leb, lt-leb}
+use borrow.Author.Tests.{lt-ltb, le-ltb}
 use Rattle.base_refusals.specs.Numbers.{lineNumberTooHigh, notAscending, zeroInBody, bodyLength}
-use Rattle.base_refusals.specs.Answer.{Answer, done, refused}
-use Rattle.base_ascii.specs.Bytes.{between}
-use Rattle.base_ascii.proofs.Ranges.{in-between}
+use Rattle.base_refusals.specs.Answer.{done, refused}
+use Rattle.image_limits.specs.declared.Limits.{Limits}
+use Rattle.image_limits.specs.Limits.{c64, isTooHigh, isNotAscending, isBadLength}
 use Rattle.crunch_profile.specs.Profile.{profileSays}
 
-under : (size : ℕ) → size < 1 → between 1 250 size ≡ false
-unfolding between
-under size h = rw (lt-leb 1 size h)
+module _ (k least number size : ℕ) (zero : Bool) {m : Limits} (is : m ≡ c64) {high : Bool} (a : high ≡ isTooHigh m number) where
+  high-is : isTooHigh c64 number ≡ high
+  high-is = ap (λ (x : Limits). isTooHigh x number) (sym is) ∙ sym a
 
-over : (size : ℕ) → 250 < size → between 1 250 size ≡ false
-unfolding between
-over size h = rw (le-leb 1 size (omega arith), lt-leb size 250 h)
-
-module _ (k least number size : ℕ) (zero : Bool) where
-  pub says-high : 63999 < number → refused (lineNumberTooHigh k) ≡ profileSays k least number zero size
+  pub says-high : high ≡ true → refused (lineNumberTooHigh k) ≡ profileSays k least number zero size
   unfolding profileSays
-  says-high h = rw (lt-ltb 63999 number h)
+  says-high h = rw (high-is, h)
 
-  module _ (low : number ≤ 63999) where
-    pub says-behind : number < least → refused (notAscending k) ≡ profileSays k least number zero size
+  module _ (ok : high ≡ false) {low : Bool} (b : low ≡ isNotAscending least number) where
+    pub says-behind : low ≡ true → refused (notAscending k) ≡ profileSays k least number zero size
     unfolding profileSays
-    says-behind h = rw (le-ltb 63999 number low, lt-ltb number least h)
+    says-behind h = rw (high-is, ok, sym b, h)
 
-    module _ (up : least ≤ number) where
+    module _ (up : low ≡ false) where
       pub says-zero : zero ≡ true → refused (zeroInBody k) ≡ profileSays k least number zero size
       unfolding profileSays
-      says-zero z = rw (le-ltb 63999 number low, le-ltb number least up, z)
+      says-zero h = rw (high-is, ok, sym b, up, h)
 
-      module _ (z : zero ≡ false) where
-        pub says-none : size < 1 → refused (bodyLength k) ≡ profileSays k least number zero size
+      module _ (none : zero ≡ false) {bad : Bool} (c : bad ≡ isBadLength m size) where
+        bad-is : isBadLength c64 size ≡ bad
+        bad-is = ap (λ (x : Limits). isBadLength x size) (sym is) ∙ sym c
+
+        pub says-length : bad ≡ true → refused (bodyLength k) ≡ profileSays k least number zero size
         unfolding profileSays
-        says-none h = rw (le-ltb 63999 number low, le-ltb number least up, z, under size h)
+        says-length h = rw (high-is, ok, sym b, up, none, bad-is, h)
 
-        pub says-long : 250 < size → refused (bodyLength k) ≡ profileSays k least number zero size
+        pub says-yes : bad ≡ false → done tt ≡ profileSays k least number zero size
         unfolding profileSays
-        says-long h = rw (le-ltb 63999 number low, le-ltb number least up, z, over size h)
+        says-yes h = rw (high-is, ok, sym b, up, none, bad-is, h)
 
-        pub says-yes : 1 ≤ size → size ≤ 250 → done tt ≡ profileSays k least number zero size
-        unfolding profileSays
-        says-yes s f = rw (le-ltb 63999 number low, le-ltb number least up, z, in-between 1 250 size s f)
-
-cut-between : (n : ℕ) → between 1 250 (min n 65536) ≡ between 1 250 n
-cut-between n = go (decLt n 65536)
+cut-length : (n : ℕ) → isBadLength c64 (min n 65536) ≡ isBadLength c64 n
+cut-length n = go (decLt n 65536)
   where
-    go : Dec (n < 65536) → between 1 250 (min n 65536) ≡ between 1 250 n
-    go (yes h) = let e : min n 65536 ≡ n = omega arith in ap (between 1 250) e
-    go (no h) = over (min n 65536) (omega arith) ∙ sym (over n (omega arith))
+    go : Dec (n < 65536) → isBadLength c64 (min n 65536) ≡ isBadLength c64 n
+    go (yes h) = let e : min n 65536 ≡ n = omega arith in ap (isBadLength c64) e
+    go (no h) = let e : min n 65536 ≡ 65536 = omega arith in let f : 1 ≤ n = omega arith in let g : 250 < n = omega arith in rw e (simp (le-ltb _ _ f, lt-ltb _ _ g))
 
 pub says-cut : (k least number : ℕ) (zero : Bool) (n : ℕ) → profileSays k least number zero (min n 65536) ≡ profileSays k least number zero n
 unfolding profileSays
-says-cut k least number zero n = rw (cut-between n)
+says-cut k least number zero n = rw (cut-length n)

@@ -5,24 +5,23 @@
 use Prim.Native.Nat.{ℕ, suc}
 use mathlib.Core.Bool.{Bool, cond}
 use mathlib.Core.List.{List, [], _∷_}
-use lib.Dec.{ltb}
 use lib.ListN.{length}
 use Rattle.base_refusals.specs.Numbers.{lineNumberTooHigh, notAscending, zeroInBody, bodyLength}
 use Rattle.base_refusals.specs.Answer.{Answer, done, refused, numbered, andThen}
-use Rattle.base_ascii.specs.Bytes.{between}
 use Rattle.body.specs.Zero.{holdsZero}
+use Rattle.image_limits.specs.Limits.{c64, isTooHigh, isNotAscending, isBadLength}
 use Rattle.image_readers.specs.NumberedBody.{NumberedBody}
 use Rattle.crunch_profile.specs.declared.Allowed.{Allowed}
 use Rattle.crunch_profile.specs.declared.Allowed.the-variants.{Yes, Refused}
 
 -- a line that the k-th text line gives, by its number and the least that may stand there, whether its body holds a zero, and the body's length
 unfoldable pub profileSays : ℕ → ℕ → ℕ → Bool → ℕ → Answer (Unit {0})
-unfolding between
 profileSays k least number zero size =
-    cond (ltb 63999 number) (refused (lineNumberTooHigh k))
-    (cond (ltb number least) (refused (notAscending k))
+    cond (isTooHigh c64 number) (refused (lineNumberTooHigh k))
+    (cond (isNotAscending least number) (refused (notAscending k))
     (cond zero (refused (zeroInBody k))
-    (cond (between 1 250 size) (done tt) (refused (bodyLength k)))))
+    (cond (isBadLength c64 size) (refused (bodyLength k))
+    (done tt))))
 
 unfoldable pub lineAllowed : ℕ → ℕ → NumberedBody → Answer (Unit {0})
 unfolding profileSays holdsZero

@@ -14,20 +14,17 @@ pub enum Allowed {
 pub fn allow_line(k: usize, least: usize, number: u16, zero: bool, length: usize) -> Allowed
     ensures { λ r. ⌜ allowedAnswer r ≡ profileSays k least number zero length ⌝ }
 {
-    if number > 63_999 {
+    let machine = image_limits::commodore_64();
+    if image_limits::is_too_high(machine, number) {
         return Allowed::Refused(Refusal::NumberTooHigh { line: k });
     }
-    let n = number as usize;
-    if n < least {
+    if image_limits::is_not_ascending(least, number) {
         return Allowed::Refused(Refusal::NotAscending { line: k });
     }
     if zero {
         return Allowed::Refused(Refusal::ZeroInBody { line: k });
     }
-    if length < 1 {
-        return Allowed::Refused(Refusal::BodyLength { line: k });
-    }
-    if length > 250 {
+    if image_limits::is_bad_length(machine, length) {
         return Allowed::Refused(Refusal::BodyLength { line: k });
     }
     Allowed::Yes

@@ -25,7 +25,8 @@ use Rattle.image_readers.specs.Bodies.{bodiesOf}
 use Rattle.image_readers.specs.Links.{linkStep}
 use Rattle.image_readers.specs.Terminators.{terminatorStep}
 use Rattle.image_readers.specs.declared.Checked.the-variants.{Image}
-use Rattle.image_layout.specs.Each.{Each}
+use Rattle.base_steps.specs.Each.{Each}
+use Rattle.base_steps.proofs.Each.{each-append}
 use Rattle.image_layout.specs.Layout.{endAddress, imageOf, Laid}
 use Rattle.image_layout.specs.Reads.{ReadAs, NoZeros, leastLoad, linesFound}
 use Rattle.image_layout.specs.Changed.{ChangedLines, ChangedLinks, linesNow}
@@ -59,10 +60,6 @@ new-fit words k line new q = go (readLine line) refl q
     go (numberedText n t) e p =
         let s : record { number = n; body = crunchedBody words t } ∷ [] ≡ new = cc in subst FitEach s (number-fits line e, tt)
 
-each-append : (ls ms : List NumberedBody) → FitEach ls → FitEach ms → FitEach (ls ++ ms)
-each-append [] ms p q = q
-each-append (l ∷ ls) ms p q = (p .0, each-append ls ms (p .1) q)
-
 -- what is put in front of an answer's lines
 pub record Behind (new ls : List NumberedBody) (a : Answer (List NumberedBody)) : Type 0 where
   pub rest : List NumberedBody
@@ -90,7 +87,7 @@ lines-laid profile words (line ∷ lines) k least address ls h e = go (addressBe
         subst (Laid address) (sym (b .whole))
         (record {
           fits = rw (end-append address (t .new) (b .rest), sym (t .next-is)) (r .fits);
-          numbers = each-append (t .new) (b .rest) (new-fit words k line (t .new) (under-plain profile words k least line (t .line-is))) (r .numbers);
+          numbers = each-append (λ (l : NumberedBody). l .number ≤ 65535) (t .new) (b .rest) (new-fit words k line (t .new) (under-plain profile words k least line (t .line-is))) (r .numbers);
         })
     go (refused n) p more = let c : refused n ≡ done ls = sym (cons-refused profile words k least address line lines p) ∙ e in let z : _≡_ {A = ℕ} 0 1 = cc in absurd (omega arith)
 

@@ -6,7 +6,7 @@ use Rattle.base_ascii.specs.Search.{last}
 use Rattle.base_ascii.specs.Trim.{trim}
 use Rattle.word_search.specs.Find.{nameIn, meaning}
 use Rattle.word_tables.specs.Escapes.{escapeNames}
-use Rattle.escape_keys.specs.KeyCodes.{cbmLetters, ctrlDigits}
+use Rattle.escape_bytes.specs.KeyCodes.{cbmLetters, ctrlDigits}
 use Rattle.word_tables.specs.Rom.{v2Words, operators}
 use Rattle.word_tables.specs.Tsb.{tsbWords}
 use Rattle.escape_numbers.specs.Numbers.{digitOf, numberAfter, numberOf, hexOf, unsigned, countOf}

@@ -9,7 +9,7 @@ use Rattle.image_faults.specs.declared.Fault.{Fault}
 use Rattle.image_fitness.specs.declared.Place.{Place}
 use Rattle.image_fitness.specs.declared.Found.{Found}
 use Rattle.image_fitness.specs.declared.Found.the-variants.{Fault as FoundFault}
-use Rattle.image_faults.specs.ToldHelpers.{hasMark}
+use Rattle.image_marks.specs.Marks.{hasMark}
 use Rattle.image_fitness.specs.FaultHelpers.{faultsAt, FaultIs}
 
 pub fewer-left : (marked s : List ℕ) (x : Place) {r : Found} {f : Fault} {q : Place} → r ≡ FoundFault f q → FaultIs (hasMark marked) s x r

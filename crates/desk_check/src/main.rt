@@ -46,7 +46,7 @@ pub fn worse(first: Run, second: Run) -> Run {
 // Walks over the faults of an image that was read, and says each.
 fn walk(name: &[u8], image: &[u8], is_quiet: bool) -> Run {
     let mut marked = [0u8; 65536];
-    image_fitness::mark_numbers(image, &mut marked);
+    image_marks::mark_numbers(image, &mut marked);
     let mut place = image_fitness::first();
     let mut run = Run::Fit;
     loop {

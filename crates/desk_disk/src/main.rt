@@ -33,7 +33,7 @@ fn format() {
         return output::fail();
     }
     let mut disk = [0u8; 174_848];
-    match disk_formats::format(&mut disk) {
+    match disk::format(&mut disk) {
         Changed::Done => saving::save_files(&mut disk),
         Changed::Refused(refusal) => output::refuse(refusal, b""),
     }

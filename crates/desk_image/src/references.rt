@@ -94,7 +94,7 @@ fn show_marked(index: &[u8], marked: &[u8]) {
 
 fn show_index(image: &[u8], index: &[u8]) {
     let mut marked = [0u8; 65_536];
-    image_fitness::mark_numbers(image, &mut marked);
+    image_marks::mark_numbers(image, &mut marked);
     show_marked(index, &marked);
 }
 

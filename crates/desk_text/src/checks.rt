@@ -11,7 +11,6 @@ use desk_text_told::steps;
 use desk_text_told::strange;
 use editor_findings::deciding;
 use editor_findings::deciding::Decided;
-use editor_findings::line_faults;
 use guess::resolve;
 use guess::resolve::Resolved;
 use guess_evidence::DecidingWord;
@@ -37,7 +36,7 @@ pub struct Lined {
 
 // A number alone.
 fn check_height(tally: Tally, name: &[u8], k: usize, number: u16, digits: &[u8]) -> Tally {
-    if line_faults::is_too_high(number) {
+    if image_limits::is_too_high(image_limits::commodore_64(), number) {
         return sentence::tell_line(tally, name, k, sayings::TOO_HIGH, digits);
     }
     tally
@@ -55,7 +54,7 @@ fn check_order(
     match last {
         Last::First => tally,
         Last::Number(before) => {
-            if line_faults::is_not_above(before, number) {
+            if image_limits::is_not_ascending(before as usize + 1, number) {
                 return sentence::tell_line(tally, name, k, sayings::NOT_ABOVE, digits);
             }
             tally
@@ -72,7 +71,10 @@ fn check_number(tally: Tally, name: &[u8], k: usize, number: u16, last: Last) ->
 
 // The length of a body once it is crunched, and its steps.
 fn check_body(tally: Tally, name: &[u8], from: Place, body: &[u8], sets: Sets) -> Tally {
-    if line_faults::is_bad_length(deciding::body_length(body, sets)) {
+    if image_limits::is_bad_length(
+        image_limits::commodore_64(),
+        deciding::body_length(body, sets),
+    ) {
         let t = sentence::tell_line(tally, name, from.line, sayings::BAD_LENGTH, b"");
         return steps::check_steps(t, name, from, body, sets);
     }
@@ -152,10 +154,10 @@ fn room_fault(text: &[u8]) -> usize {
     };
     match crunch_image::room(text, options) {
         Outcome::Done(n) => {
-            if line_faults::is_beyond_memory(n) {
-                return sayings::BEYOND_MEMORY;
+            if image_limits::is_in_basic_memory(image_limits::commodore_64(), options.load, n) {
+                return sayings::REMARKS;
             }
-            sayings::REMARKS
+            sayings::BEYOND_MEMORY
         }
         Outcome::Refused(refusal) => {
             if let Refusal::AddressOverflow = refusal {

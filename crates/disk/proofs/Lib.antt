@@ -1,3 +1,4 @@
 pub mod Calling
+pub mod Formatting
 pub mod Locating
 pub mod Saving

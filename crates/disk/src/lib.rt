@@ -1,7 +1,8 @@
-// The calls over a lent disk: the check, reading, scratching and saving.
+// The calls over a lent disk: formatting, the check, reading, scratching and saving.
 use base_lent::Outcome;
 use base_refusals::Refusal;
 use disk_bytes::measure;
+use disk_bytes::store;
 use disk_bytes::take_out;
 use disk_chains::free_sectors;
 use disk_chains::mark_all;
@@ -14,14 +15,29 @@ use disk_saves::save_new;
 ghost use mathlib.Core.Path.{_≡_};
 ghost use mathlib.Core.Bool.{true};
 ghost use Prim.Native.Nat.{_+_, _≤_};
-ghost use lib.ListN.{length, set};
+ghost use lib.ListN.{length, set, replicate};
 ghost use Rattle.base_refusals.specs.Answer.{done};
 ghost use Rattle.base_lent.specs.Lent.{intoBuffer, left};
 ghost use Rattle.disk_rules.specs.Lists.{isIn};
 ghost use Rattle.disk_rules.specs.Entries.{chainOf};
 ghost use Rattle.disk_rules.specs.Free.{markedAll};
-ghost use Rattle.disk_rules.specs.Calls.{isFileName, diskAnswer, diskHolding, chainBytes, fileBytes, scratched, saved, ontoDisk, leaving};
+ghost use Rattle.disk_rules.specs.Calls.{isFileName, diskAnswer, diskHolding, chainBytes, fileBytes, formatted, scratched, saved, ontoDisk, leaving};
 ghost use Rattle.disk.specs.LocateHelpers.{Locates, Seeks};
+
+// What 18/0 begins with: the first directory sector, the format, the map, and a name and an id of A0.
+const HEADER: [u8; 171] = *b"\x12\x01\x41\x00\
+\x15\xFF\xFF\x1F\x15\xFF\xFF\x1F\x15\xFF\xFF\x1F\x15\xFF\xFF\x1F\x15\xFF\xFF\x1F\x15\xFF\xFF\x1F\
+\x15\xFF\xFF\x1F\x15\xFF\xFF\x1F\x15\xFF\xFF\x1F\x15\xFF\xFF\x1F\x15\xFF\xFF\x1F\x15\xFF\xFF\x1F\
+\x15\xFF\xFF\x1F\x15\xFF\xFF\x1F\x15\xFF\xFF\x1F\x15\xFF\xFF\x1F\x15\xFF\xFF\x1F\
+\x11\xFC\xFF\x07\
+\x13\xFF\xFF\x07\x13\xFF\xFF\x07\x13\xFF\xFF\x07\x13\xFF\xFF\x07\x13\xFF\xFF\x07\x13\xFF\xFF\x07\
+\x12\xFF\xFF\x03\x12\xFF\xFF\x03\x12\xFF\xFF\x03\x12\xFF\xFF\x03\x12\xFF\xFF\x03\x12\xFF\xFF\x03\
+\x11\xFF\xFF\x01\x11\xFF\xFF\x01\x11\xFF\xFF\x01\x11\xFF\xFF\x01\x11\xFF\xFF\x01\
+\xA0\xA0\xA0\xA0\xA0\xA0\xA0\xA0\xA0\xA0\xA0\xA0\xA0\xA0\xA0\xA0\xA0\xA0\xA0\xA0\xA0\
+2A\xA0\xA0\xA0\xA0";
+
+// What 18/1 begins with: the end of the directory's chain.
+const LAST: [u8; 2] = [0x00, 0xFF];
 
 // What is known of a sound disk and a name: how many sectors the directory has, how many files are listed, and the place of the first
 // with the name, or their number.
@@ -34,6 +50,29 @@ enum Sought {
 enum Located {
     At(usize),
     Refused(Refusal),
+}
+
+fn clear(disk: &mut [u8])
+    ensures { λ r. ⌜ now (disk .exit) ≡ replicate (length (now (disk .entry))) 0 ⌝ }
+{
+    let mut i: usize = 0;
+    while i < disk.len() {
+        disk[i] = 0;
+        i += 1;
+    }
+}
+
+// Formats a disk of the right length.
+pub fn format(disk: &mut [u8]) -> Changed
+    ensures { λ r. ⌜ leaving r (now (disk .exit)) ≡ ontoDisk (formatted (now (disk .entry))) (now (disk .entry)) ⌝ }
+{
+    if disk.len() != 174848 {
+        return Changed::Refused(Refusal::BadDisk);
+    }
+    clear(disk);
+    store(disk, 91392, &HEADER);
+    store(disk, 91648, &LAST);
+    Changed::Done
 }
 
 // Checks a disk, and answers how many files it lists and how many sectors off track 18 are free.

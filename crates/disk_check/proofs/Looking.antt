@@ -1,13 +1,14 @@
 -- The sectors of chains are sectors, and entries in them stand on the disk; a log's start is what was logged.
 -- Assumes nothing.
-use Prim.Native.Nat.{ℕ, zero, suc, _+_, _-_, _*_, _/_, _%_, _≤_, _<_}
-use mathlib.Core.Path.{_≡_, refl, sym, ap, _∙_}
+use Prim.Native.Nat.{ℕ, zero, suc, _+_, _-_, _*_, _/_, _≤_, _<_}
+use mathlib.Core.Path.{_≡_, refl, sym, ap}
 use mathlib.Core.Bool.{Bool, true, false, cond}
 use mathlib.Core.List.{List, [], _∷_, _++_, map}
-use lib.ListN.{length, getD, take, drop, length-append, List·getD-append, length-map}
-use lib.Seq.{sets, sets-eq, take-at, getD-append-add}
-use native.Mathlib.Decide.{decLt}
+use lib.ListN.{length, take, drop, length-map}
+use lib.Seq.{sets, sets-eq, take-at}
 use native.Mathlib.Omega.{arith}
+use Rattle.base_steps.specs.Each.{Each}
+use Rattle.base_steps.proofs.Each.{each-append, each-map, each-at}
 use Rattle.disk_rules.specs.Lists.{numbersFrom, those}
 use Rattle.disk_rules.specs.Links.{linkAt}
 use Rattle.disk_rules.specs.declared.Link.{Link}
@@ -20,73 +21,60 @@ use Rattle.disk_chains.proofs.Tracing.{held-below}
 use Rattle.disk_entries.specs.EntryHelpers.{Entries}
 use Rattle.disk_rules.specs.Check.{sound}
 use Rattle.disk_check.specs.SoundHelpers.{Looks}
-use Rattle.disk_check.specs.declared.Seen.{Seen}
 
--- ---- what holds of each number of a list
+-- ---- numbers
 
--- of each number of a list, by its place
-pub record Each (P : ℕ → Type 0) (l : List ℕ) : Type 0 where
-  pub at : (i : ℕ) → i < length l → P (getD l i 0)
+-- what holds of each number of a list holds of those that pass a test
+pub each-those : (P : ℕ → Type 0) (test : ℕ → Bool) (l : List ℕ) → Each P l → Each P (those test l)
+unfolding those
+each-those P test [] e = tt
+each-those P test (n ∷ l) e = go (test n) (each-those P test l (e .1)) where
+  go : (q : Bool) → Each P (those test l) → Each P (cond q (n ∷ those test l) (those test l))
+  go true f = (e .0, f)
+  go false f = f
 
-module _ {P : ℕ → Type 0} where
-  pub each-none : Each P []
-  each-none = record { at = λ i h. absurd (omega arith) }
-
-  pub each-one : {n : ℕ} {l : List ℕ} → P n → Each P l → Each P (n ∷ l)
-  each-one {n} {l} p e = record { at = go } where
-    go : (i : ℕ) → i < suc (length l) → P (getD (n ∷ l) i 0)
-    go zero h = p
-    go (suc i) h = e .at i (omega arith)
-
-  each-both : (a : List ℕ) {b : List ℕ} → Each P a → Each P b → Each P (a ++ b)
-  each-both [] e f = f
-  each-both (n ∷ a) e f = each-one (e .at 0 (omega arith)) (each-both a (record { at = λ i h. e .at (suc i) (omega arith) }) f)
-
-  pub each-those : (test : ℕ → Bool) (l : List ℕ) → Each P l → Each P (those test l)
-  unfolding those
-  each-those test [] e = each-none
-  each-those test (n ∷ l) e = go (test n) (each-those test l (record { at = λ i h. e .at (suc i) (omega arith) })) where
-    go : (q : Bool) → Each P (those test l) → Each P (cond q (n ∷ those test l) (those test l))
-    go true f = each-one (e .at 0 (omega arith)) f
-    go false f = f
+pub numbers-each : (P : ℕ → Type 0) (from k : ℕ) → ((n : ℕ) → from ≤ n → n < from + k → P n) → Each P (numbersFrom from k)
+unfolding numbersFrom
+numbers-each P from zero h = tt
+numbers-each P from (suc k) h = (h from (omega arith) (omega arith), numbers-each P (from + 1) k (λ n a b. h n (omega arith) (omega arith)))
 
 -- ---- sectors
 
 abbrev pub Sector : ℕ → Type 0
 Sector n = n < 683
 
-pub as-sectors : {l : List ℕ} → Each Sector l → Sectors l
-as-sectors e = record { below = e .at }
+as-sectors : (l : List ℕ) → Each Sector l → Sectors l
+as-sectors l e = record { below = each-at Sector 0 l e }
 
 chain-each : (dir : Bool) (k : ℕ) (d : List ℕ) (n : ℕ) → Each Sector (chain dir k d n .sectors)
 unfolding chain
-chain-each dir zero d n = each-none
+chain-each dir zero d n = tt
 chain-each dir (suc k) d n = go (mayHold dir n) refl (linkAt d (256 * n)) (chain-each dir k d) where
   go : (q : Bool) → mayHold dir n ≡ q → (l : Link) → ((m : ℕ) → Each Sector (chain dir k d m .sectors))
       → Each Sector (cond q (chainOnward dir n (chain dir k d) l) brokenChain .sectors)
-  go false e l f = each-none
-  go true e (Last b) f = each-one (held-below dir n e) each-none
-  go true e (To m) f = each-one (held-below dir n e) (f m)
-  go true e Astray f = each-one (held-below dir n e) each-none
+  go false e l f = tt
+  go true e (Last b) f = (held-below dir n e, tt)
+  go true e (To m) f = (held-below dir n e, f m)
+  go true e Astray f = (held-below dir n e, tt)
 
 pub chain-sectors : (d : List ℕ) → Sectors (directory d .sectors)
 unfolding directory
-chain-sectors d = as-sectors (chain-each true 18 d 358)
+chain-sectors d = as-sectors (chain true 18 d 358 .sectors) (chain-each true 18 d 358)
 
 by-each : (d : List ℕ) (k : ℕ) (l : Link) → Each Sector (chainBy d k l .sectors)
-by-each d k (Last b) = each-none
+by-each d k (Last b) = tt
 by-each d k (To n) = chain-each false k d n
-by-each d k Astray = each-none
+by-each d k Astray = tt
 
 pub known-sectors : (d : List ℕ) {l : List ℕ} → l ≡ directory d .sectors → Sectors l
 known-sectors d e = rw e (chain-sectors d)
 
 pub entry-sectors : (k : ℕ) (d : List ℕ) (p : ℕ) → Sectors (chainOf k d p .sectors)
-entry-sectors k d p = as-sectors (by-each d k (linkAt d (p + 1)))
+entry-sectors k d p = as-sectors (chainOf k d p .sectors) (by-each d k (linkAt d (p + 1)))
 
 chains-each : (k : ℕ) (d l : List ℕ) → Each Sector (chains k d l .sectors)
 unfolding chains
-chains-each k d [] = each-none
+chains-each k d [] = tt
 chains-each k d (p ∷ l) = go (chainOf k d p) (by-each d k (linkAt d (p + 1))) (λ n. chains-each (k - n) d l) where
   go : (c : Chain) → Each Sector (c .sectors) → ((n : ℕ) → Each Sector (chains (k - n) d l .sectors))
       → Each Sector (chainsBehind c (λ n. chains (k - n) d l) .sectors)
@@ -94,30 +82,26 @@ chains-each k d (p ∷ l) = go (chainOf k d p) (by-each d k (linkAt d (p + 1))) 
     by : (q : Bool)
         → Each Sector
         (cond q (record { sectors = c .sectors ++ chains (k - length (c .sectors)) d l .sectors; ends = chains (k - length (c .sectors)) d l .ends }) c .sectors)
-    by true = each-both (c .sectors) e (f (length (c .sectors)))
+    by true = each-append Sector (c .sectors) (chains (k - length (c .sectors)) d l .sectors) e (f (length (c .sectors)))
     by false = e
 
 pub files-sectors : (k : ℕ) (d l : List ℕ) → Sectors (chains k d l .sectors)
-files-sectors k d l = as-sectors (chains-each k d l)
+files-sectors k d l = as-sectors (chains k d l .sectors) (chains-each k d l)
 
 -- ---- entries
 
 OnDisk : ℕ → Type 0
 OnDisk p = p + 30 ≤ 174848
 
-numbers-each : {P : ℕ → Type 0} (f : ℕ → ℕ) (from k : ℕ) → ((e : ℕ) → from ≤ e → e < from + k → P (f e)) → Each P (map f (numbersFrom from k))
-unfolding numbersFrom
-numbers-each f from zero h = each-none
-numbers-each f from (suc k) h =
-    each-one (h from (omega arith) (omega arith)) (numbers-each f (from + 1) k (λ e a b. h e (omega arith) (omega arith)))
-
 pub that-entries : (which : Bool) (d l : List ℕ) → Sectors l → Entries (entriesThat which d l)
 unfolding entriesThat OnDisk
 that-entries which d l s =
-    let e : Each OnDisk (map (entryAt l) (numbersFrom 0 (8 * length l))) =
-    numbers-each (entryAt l) 0 (8 * length l) (λ e a b. omega (arith, s .below (e / 8) (omega arith)))
+    let all = map (entryAt l) (numbersFrom 0 (8 * length l)) in
+    let e : Each OnDisk all =
+    each-map OnDisk (entryAt l) (numbersFrom 0 (8 * length l))
+    (numbers-each (λ e. OnDisk (entryAt l e)) 0 (8 * length l) (λ e a b. omega (arith, s .below (e / 8) (omega arith))))
     in
-    record { within = each-those (isThat which d) (map (entryAt l) (numbersFrom 0 (8 * length l))) e .at }
+    record { within = each-at OnDisk 0 (those (isThat which d) all) (each-those OnDisk (isThat which d) all e) }
 
 pub known-entries : (d : List ℕ) {l : List ℕ} → l ≡ listed d → Entries l
 known-entries d e = rw e (that-entries true d (directory d .sectors) (chain-sectors d))

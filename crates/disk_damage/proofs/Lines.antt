@@ -12,7 +12,7 @@ use Rattle.image_readers.specs.Links.{linkStep}
 use Rattle.image_readers.specs.Terminators.{terminatorStep}
 use Rattle.image_layout.specs.Layout.{imageOf}
 use Rattle.image_layout.specs.Reads.{linesAt, NoZeros, leastLoad}
-use Rattle.image_layout.specs.Each.{Each}
+use Rattle.base_steps.specs.Each.{Each}
 use Rattle.image_layout.specs.Changed.{ChangedAt, inSome, numberOrBody, linkByte, linesNow}
 use Rattle.crunch_rules.specs.Crunched.{crunchedLines}
 use Rattle.crunch_rules.specs.declared.Options.{Options}

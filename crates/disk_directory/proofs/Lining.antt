@@ -11,7 +11,7 @@ use Rattle.base_refusals.specs.Answer.{numbered}
 use Rattle.base_refusals.specs.declared.Refusal.the-variants.{BadDisk}
 use Rattle.word_search.specs.Spelling.{bytesOf}
 use Rattle.base_ascii.proofs.Searching.{here}
-use Rattle.base_decimals.specs.Decimal.{decimal}
+use Rattle.base_steps.specs.Decimal.{decimal}
 use Rattle.say_sentences.specs.Clipped.{Clipped}
 use Rattle.say_sentences.proofs.Clipping.{Owes, owes-all, owes-less, owes-none, clip-as, clip-both}
 use Rattle.disk_rules.specs.Entries.{listed, nameAt, chainOf}

@@ -11,7 +11,7 @@ use Rattle.base_refusals.specs.Answer.{numbered}
 use Rattle.base_lent.specs.declared.Outcome.{Outcome}
 use Rattle.base_lent.specs.declared.Outcome.the-variants.{Done, Refused}
 use Rattle.word_search.specs.Spelling.{bytesOf}
-use Rattle.base_decimals.specs.Decimal.{decimal}
+use Rattle.base_steps.specs.Decimal.{decimal}
 use Rattle.say_sentences.specs.Clipped.{Clipped}
 use Rattle.disk_rules.specs.Entries.{listed, nameAt, chainOf}
 use Rattle.disk_rules.specs.Free.{freeSectors}

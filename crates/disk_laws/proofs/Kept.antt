@@ -3,13 +3,15 @@
 use Prim.Native.Nat.{ℕ, zero, suc, _+_, _-_, _*_, _/_, _≤_, _<_}
 use mathlib.Core.Path.{_≡_, refl, sym, subst, _∙_}
 use mathlib.Core.Bool.{Bool, true, false, not, cond, _&&_, _||_}
-use mathlib.Core.List.{List, [], _∷_, map}
+use mathlib.Core.List.{List, [], _∷_}
 use lib.Dec.{eqb, leb, ltb}
 use lib.ListN.{length, getD, take, set, length-append, length-replicate}
 use lib.Seq.{sets}
 use native.Mathlib.Decide.{decLt}
 use native.Mathlib.Omega.{arith}
 use borrow.Author.Tests.{eqb-true, eq-eqb, leb-true, ltb-true, le-ltb}
+use Rattle.base_steps.specs.Each.{Each}
+use Rattle.base_steps.proofs.Each.{each-map}
 use Rattle.base_refusals.specs.Numbers.{nameTaken, directoryFull, diskFull}
 use Rattle.base_refusals.specs.Answer.{Answer, done, refused}
 use Rattle.disk_rules.specs.Places.{trackOf, sectorOf, offTrack18}
@@ -20,7 +22,7 @@ use Rattle.disk_rules.specs.Entries.{directory, entryAt, entriesOf, isThat, ent
 use Rattle.disk_rules.specs.Free.{freeSectors, markedAll}
 use Rattle.disk_rules.specs.Check.{files, sound}
 use Rattle.disk_rules.specs.Calls.{isFileName, onSound, ofFile, entriesNamed, sectorsFor, taken, laid, sectorBytes, entryBytes, outside, grown, withEntry, withFile, saved, scratched, ontoDisk}
-use Rattle.disk_check.proofs.Looking.{Each, each-none, each-one, each-those}
+use Rattle.disk_check.proofs.Looking.{each-those, numbers-each}
 use Rattle.disk_saves.specs.SaveHelpers.{savedNew}
 use Rattle.disk_saves.proofs.Placing.{directory-some}
 use Rattle.disk_laws.specs.Runs.{Call, Format, Check, Read, Save, Scratch, isFormat, afterCall}
@@ -92,12 +94,6 @@ pub record OnTrack18 (size p : ℕ) : Type 0 where
   pub from : 91648 ≤ p
   pub to : p + size ≤ 96256
 
-run-each : {P : ℕ → Type 0} (f : ℕ → ℕ) (from k : ℕ) → ((e : ℕ) → from ≤ e → e < from + k → P (f e)) → Each P (map f (numbersFrom from k))
-unfolding numbersFrom
-run-each f from zero h = each-none
-run-each f from (suc k) h =
-    each-one (h from (omega arith) (omega arith)) (run-each f (from + 1) k (λ e a b. h e (omega arith) (omega arith)))
-
 -- a sector of the directory
 pub dir-sector : (d : List ℕ) (i : ℕ) → i < length (directory d .sectors) → (358 ≤ getD (directory d .sectors) i 0) × (getD (directory d .sectors) i 0 ≤ 375)
 unfolding directory
@@ -109,18 +105,18 @@ dir-sector d i h =
 pub entries-on : (which : Bool) (d : List ℕ) → Each (OnTrack18 30) (entriesThat which d (directory d .sectors))
 unfolding entriesThat
 entries-on which d =
-    each-those (isThat which d) (entriesOf (directory d .sectors)) (run-each (entryAt (directory d .sectors)) 0 (8 * length (directory d .sectors)) at) where
+    each-those (OnTrack18 30) (isThat which d) (entriesOf (directory d .sectors))
+    (each-map (OnTrack18 30) (entryAt (directory d .sectors)) (numbersFrom 0 (8 * length (directory d .sectors)))
+    (numbers-each (λ e. OnTrack18 30 (entryAt (directory d .sectors) e)) 0 (8 * length (directory d .sectors)) at)) where
       at : (e : ℕ) → 0 ≤ e → e < 0 + 8 * length (directory d .sectors) → OnTrack18 30 (entryAt (directory d .sectors) e)
       at e a b =
           let s : (358 ≤ getD (directory d .sectors) (e / 8) 0) × (getD (directory d .sectors) (e / 8) 0 ≤ 375) = dir-sector d (e / 8) (omega arith) in
           record { from = omega arith; to = omega arith }
 
 pub outside-on : (sectors : List ℕ) → Each (λ n. (358 ≤ n) × (n ≤ 375)) (outside sectors)
-unfolding numbersFrom
-outside-on sectors = each-those (λ n. not (isIn sectors n)) (numbersFrom 358 18) (plain 358 18 (omega arith) (omega arith)) where
-  plain : (from k : ℕ) → 358 ≤ from → from + k ≤ 376 → Each (λ n. (358 ≤ n) × (n ≤ 375)) (numbersFrom from k)
-  plain from zero a b = each-none
-  plain from (suc k) a b = each-one (a, omega arith) (plain (from + 1) k (omega arith) (omega arith))
+outside-on sectors =
+    let on : ℕ → Type 0 = λ n. (358 ≤ n) × (n ≤ 375) in
+    each-those on (λ n. not (isIn sectors n)) (numbersFrom 358 18) (numbers-each on 358 18 (λ n a b. (a, omega arith)))
 
 -- ---- a byte off track 18
 
@@ -137,10 +133,10 @@ module _ (j : ℕ) (off : Off 91392 96256 j) where
   pub placed-18 : (x y entry sectors l out : List ℕ) → getD x j 0 ≡ getD y j 0 → length entry ≡ 30 → Each (OnTrack18 30) l → Each (λ k. (358 ≤ k) × (k ≤ 375)) out
       → (358 ≤ getD sectors (length sectors - 1) 0) × (getD sectors (length sectors - 1) 0 ≤ 375)
       → getD (ontoDisk (withEntry x entry sectors l out) y .disk) j 0 ≡ getD y j 0
-  placed-18 x y entry sectors (p ∷ l) out h n e f g = let o : OnTrack18 30 p = e .at 0 (omega arith) in sets-18 x p entry (rw n o) ∙ h
+  placed-18 x y entry sectors (p ∷ l) out h n e f g = let o : OnTrack18 30 p = e .0 in sets-18 x p entry (rw n o) ∙ h
   placed-18 x y entry sectors [] [] h n e f g = refl
   placed-18 x y entry sectors [] (k ∷ out) h n e f g =
-      let o : (358 ≤ k) × (k ≤ 375) = f .at 0 (omega arith) in
+      let o : (358 ≤ k) × (k ≤ 375) = f .0 in
       let last : ℕ = getD sectors (length sectors - 1) 0 in
       let whole : List ℕ = sets x (256 * k) (sectorBytes 0 0xFF []) in
       sets-18 (grown x last k) (256 * k + 2) entry (record { from = omega arith; to = omega arith })
@@ -220,7 +216,7 @@ module _ (d : List ℕ) (n j : ℕ) (u : isIn (files d .sectors) n ≡ true) (w 
   kept-first : (l : List ℕ) → Each (OnTrack18 30) l → Kept (ofFile l (λ p. done (markedAll (set d p 0) (chainOf 683 d p .sectors) true)))
   kept-first [] e = refl
   kept-first (p ∷ l) e =
-      let o : OnTrack18 30 p = e .at 0 (omega arith) in
+      let o : OnTrack18 30 p = e .0 in
       marks-18 j off-18 (set d p 0) (chainOf 683 d p .sectors) true
       (λ m i. ltb-true m 683 (and-left (ltb m 683) (offTrack18 m) (by-held d 683 (linkAt d (p + 1)) m i)))
       ∙ set-off d p 0 j (narrow off-18 (omega (arith, o .from)) (omega (arith, o .to)))
@@ -228,7 +224,7 @@ module _ (d : List ℕ) (n j : ℕ) (u : isIn (files d .sectors) n ≡ true) (w 
   kept-scratched : (name : List ℕ) → Kept (scratched d name)
   unfolding scratched
   kept-scratched name =
-      kept-behind name _ (λ s m. kept-first (entriesNamed d name) (each-those (isNamed d name) (listed d) (entries-on true d)))
+      kept-behind name _ (λ s m. kept-first (entriesNamed d name) (each-those (OnTrack18 30) (isNamed d name) (listed d) (entries-on true d)))
 
   kept-new : (name image : List ℕ) → sound d ≡ true → isFileName name ≡ true → Kept (savedNew d name image)
   unfolding savedNew

@@ -1,6 +1,6 @@
 -- How many sectors an image takes, and the lowest free ones.
 -- Assumes nothing.
-use Prim.Native.Nat.{ℕ, zero, suc, _+_, _≤_, _<_}
+use Prim.Native.Nat.{ℕ, _≤_, _<_}
 use mathlib.Core.Path.{_≡_, sym, ap, _∙_}
 use mathlib.Core.Bool.{Bool, cond}
 use mathlib.Core.List.{List}
@@ -8,6 +8,8 @@ use lib.ListN.{length, take}
 use lib.Seq.{take-take, getD-take, length-take-le}
 use native.Mathlib.Omega.{arith}
 use borrow.Author.Tests.{lt-ltb, le-ltb}
+use Rattle.base_steps.specs.Each.{Each}
+use Rattle.base_steps.proofs.Each.{each-at}
 use Rattle.base_refusals.specs.Numbers.{diskFull}
 use Rattle.base_refusals.specs.Answer.{refused}
 use Rattle.disk_rules.specs.Lists.{numbersFrom, those}
@@ -15,18 +17,13 @@ use Rattle.disk_rules.specs.Map.{isFree}
 use Rattle.disk_rules.specs.Free.{freeSectors}
 use Rattle.disk_rules.specs.Calls.{sectorsFor, taken, After, ontoDisk, withFile}
 use Rattle.disk_chains.specs.ChainHelpers.{Lists}
-use Rattle.disk_check.proofs.Looking.{Each, each-none, each-one, each-those, Sector, numbers-long, those-few, listed-start}
-use Rattle.disk_file_entries.specs.FileHelpers.{Chosen}
+use Rattle.disk_check.proofs.Looking.{each-those, numbers-each, Sector, numbers-long, those-few, listed-start}
+use Rattle.disk_saves.specs.FileHelpers.{Chosen}
 use Rattle.disk_saves.specs.SaveHelpers.{savedNew}
-
-run-each : (from k : ℕ) → from + k ≤ 683 → Each Sector (numbersFrom from k)
-unfolding numbersFrom
-run-each from zero h = each-none
-run-each from (suc k) h = each-one (omega arith) (run-each (from + 1) k (omega arith))
 
 pub free-each : (d : List ℕ) → Each Sector (freeSectors d)
 unfolding freeSectors
-free-each d = each-those (isFree d) (numbersFrom 0 683) (run-each 0 683 (omega arith))
+free-each d = each-those Sector (isFree d) (numbersFrom 0 683) (numbers-each Sector 0 683 (λ n a b. omega arith))
 
 run-few : (test : ℕ → Bool) (from k : ℕ) → length (those test (numbersFrom from k)) ≤ k
 run-few test from k = omega (arith, those-few test (numbersFrom from k), numbers-long from k)
@@ -56,7 +53,7 @@ module _ (d image : List ℕ) {buffer after : List ℕ} {count needed : ℕ} (l 
     pub chosen-good : Chosen (take needed after) image
     chosen-good =
         record {
-          are = record { below = λ i g. rw chosen-are (rw (getD-take (sectorsFor image) (freeSectors d) i 0 (omega (arith, chosen-long))) (free-each d .at i (omega (arith, chosen-long, l .counts)))) };
+          are = record { below = λ i g. rw chosen-are (rw (getD-take (sectorsFor image) (freeSectors d) i 0 (omega (arith, chosen-long))) (each-at Sector 0 (freeSectors d) (free-each d) i (omega (arith, chosen-long, l .counts)))) };
           some = omega (arith, chosen-long);
           few = omega (arith, chosen-long, free-few d, l .counts);
           low = omega (arith, chosen-long);

@@ -1,1 +1,2 @@
+pub mod FileHelpers
 pub mod SaveHelpers

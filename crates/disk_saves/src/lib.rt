@@ -1,9 +1,9 @@
-// Saving a file whose name is free: the sectors that it takes, and where its entry goes.
+// Saving a file whose name is free: the sectors that it takes, where its entry goes, and what is written there.
+use crate::file::put_file;
+use crate::file::put_grown;
 use base_refusals::Refusal;
 use disk_chains::free_sectors;
 use disk_entries::entries_that;
-use disk_file_entries::put_file;
-use disk_file_entries::put_grown;
 use disk_rules::Changed;
 ghost use mathlib.Core.Path.{_≡_};
 ghost use Prim.Native.Nat.{_≤_};
@@ -11,8 +11,10 @@ ghost use lib.ListN.{length, getD};
 ghost use Rattle.disk_rules.specs.Lists.{isIn};
 ghost use Rattle.disk_rules.specs.Entries.{directory};
 ghost use Rattle.disk_rules.specs.Calls.{sectorsFor, outside, withFile, ontoDisk, leaving};
-ghost use Rattle.disk_file_entries.specs.FileHelpers.{Chosen};
+ghost use Rattle.disk_saves.specs.FileHelpers.{Chosen};
 ghost use Rattle.disk_saves.specs.SaveHelpers.{savedNew};
+
+mod file;
 
 // How many sectors an image takes.
 fn sectors_for(image: &[u8]) -> usize

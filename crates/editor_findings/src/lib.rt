@@ -1,5 +1,4 @@
 // What an editor asks of a text before it is crunched: nothing here changes an image.
 pub mod braces;
 pub mod deciding;
-pub mod line_faults;
 pub mod sights;

@@ -6,7 +6,7 @@ use mathlib.Core.Bool.{Bool, true, false, not}
 use lib.ListN.{getD}
 use borrow.Author.Tests.{not-true, not-false}
 use Rattle.base_ascii.specs.Bytes.{isDigit, isLetter, upper}
-use Rattle.escape_keys.specs.KeyCodes.{cbmLetters, ctrlDigits}
+use Rattle.escape_bytes.specs.KeyCodes.{cbmLetters, ctrlDigits}
 use Rattle.escape_bytes.specs.Keys.{controlByte, keyWith}
 use Rattle.escape_bytes.specs.declared.Key.the-variants.{Commodore, Shift}
 use Rattle.escape_bytes.specs.declared.Escape.the-variants.{Byte, Unknown}

@@ -9,7 +9,7 @@ use Rattle.word_search.specs.Compare.{begins, alike}
 use Rattle.word_search.specs.Find.{firstThat, nameIn, meaning}
 use Rattle.word_search.specs.Spelling.{bytesOf}
 use Rattle.word_tables.specs.Escapes.{escapeNames}
-use Rattle.escape_keys.specs.KeyCodes.{cbmLetters, ctrlDigits}
+use Rattle.escape_bytes.specs.KeyCodes.{cbmLetters, ctrlDigits}
 use Rattle.escape_numbers.specs.Numbers.{digitOf, numberAfter, numberOf, hexOf, unsigned, countOf}
 use Rattle.escape_bytes.specs.Keys.{keyNames, controlByte, keyWith, keyed, keyEscape}
 use Rattle.escape_bytes.specs.Escape.{nameEscape, repeated, starred, countedName, escapeOf}

@@ -11,7 +11,7 @@ use Rattle.base_ascii.specs.Search.{isMark, before}
 use Rattle.base_ascii.specs.Trim.{trim}
 use Rattle.word_search.specs.Find.{Name, meaning}
 use Rattle.word_search.specs.Spelling.{_means_}
-use Rattle.escape_keys.specs.KeyCodes.{cbmLetters, ctrlDigits}
+use Rattle.escape_bytes.specs.KeyCodes.{cbmLetters, ctrlDigits}
 use Rattle.escape_bytes.specs.declared.Key.{Key}
 use Rattle.escape_bytes.specs.declared.Key.the-variants.{Control, Commodore, Shift}
 use Rattle.escape_bytes.specs.declared.Escape.{Escape}

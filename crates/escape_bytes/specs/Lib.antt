@@ -1,2 +1,3 @@
 pub mod Escape
+pub mod KeyCodes
 pub mod Keys

@@ -5,15 +5,15 @@ use mathlib.Core.Path.{_≡_, refl, sym, ap, _∙_}
 use mathlib.Core.Bool.{Bool, true, false}
 use mathlib.Core.List.{List, [], _∷_}
 use native.Mathlib.Omega.{arith}
-use lib.Dec.{leb}
 use lib.ListN.{length, getD, drop, length-drop, List·getD-eq-default}
 use lib.Seq.{length-take-le}
 use mir.Syntax.{w64}
 use mir.Val.{Fits}
-use borrow.Author.Tests.{le-leb, lt-leb, le-ltb, lt-ltb}
-use Rattle.base_ascii.specs.Bytes.{between}
+use borrow.Author.Tests.{le-ltb, lt-ltb}
 use Rattle.base_refusals.specs.declared.Refusal.{Refusal}
 use Rattle.base_refusals.specs.Answer.{Answer, done}
+use Rattle.image_limits.specs.declared.Limits.{Limits}
+use Rattle.image_limits.specs.Limits.{c64, isTooHigh, isNotAscending, isBadLength, inBasicMemory}
 use Rattle.image_readers.specs.declared.Line.{Line}
 use Rattle.image_readers.specs.Bodies.{bodyOf, bodyFound, bodyAt}
 use Rattle.image_bytes.specs.ImageBytes.{lowFirstAt, beforeZero, bodyEnd}
@@ -28,10 +28,10 @@ use Rattle.image_relink.specs.declared.Relinked.{Relinked}
 use Rattle.image_relink.specs.declared.Relinked.the-variants.{Same, Changed, Leaves, Endless, Refused}
 use Rattle.image_relink.specs.Relinking.{relinking, relinkedAnswer}
 use Rattle.image_faults.specs.declared.Fault.the-variants.{OutsideMemory, NumberTooHigh, NotAscending, ZeroInBody, BodyLength, LinkChanges, LinksLeave, LinksEndless}
-use Rattle.image_faults.specs.Faults.{inBasicMemory, memoryFaults, numberFaults, orderFaults, firstZero, zeroFaults, lengthFaults, relinkFault, relinkFaults}
-use Rattle.image_faults.specs.ToldHelpers.{hasMark, LineIs}
+use Rattle.image_faults.specs.Faults.{memoryFaults, numberFaults, orderFaults, firstZero, zeroFaults, lengthFaults, relinkFault, relinkFaults}
+use Rattle.image_faults.specs.ToldHelpers.{LineIs}
 
--- ---- bytes and marks
+-- ---- bytes
 
 module _ (s : List ℕ) {p : ℕ} (h : length s ≤ p) where
   pub byte-beyond : 0 ≡ getD s p 0
@@ -43,53 +43,41 @@ module _ (s : List ℕ) {p : ℕ} (h : length s ≤ p) where
       let high : getD s (p + 2 + 1) 0 ≡ 0 = List·getD-eq-default s 0 (omega arith) in
       omega arith
 
-  pub mark-beyond : false ≡ hasMark s p
-  mark-beyond = rw (List·getD-eq-default s 0 h)
+-- ---- the machine's limits
 
--- ---- memory
+module _ {m : Limits} (is : m ≡ c64) where
+  module _ (s : List ℕ) {load : ℕ} {b : Bool} (e : load ≡ lowFirstAt s 0) (d : b ≡ inBasicMemory m load (length s)) where
+    within : inBasicMemory c64 (lowFirstAt s 0) (length s) ≡ b
+    within = rw (← is, ← e) (sym d)
 
-module _ (load size : ℕ) where
-  pub memory-below : load < 0x0801 → false ≡ inBasicMemory load size
-  unfolding inBasicMemory
-  memory-below h = simp (lt-leb _ _ h)
+    pub memory-none : b ≡ true → [] ≡ memoryFaults s
+    unfolding memoryFaults
+    memory-none h = rw (within, h)
 
-  module _ (h : 0x0801 ≤ load) where
-    pub memory-long : 0xA002 < size → false ≡ inBasicMemory load size
-    unfolding inBasicMemory
-    memory-long g = let f : 0xA002 < load + size = omega arith in simp (le-leb _ _ h, lt-leb _ _ f)
+    pub memory-told : b ≡ false → OutsideMemory load (length s) ∷ [] ≡ memoryFaults s
+    unfolding memoryFaults
+    memory-told h = rw (within, h, e)
 
-    pub memory-end : leb (load + size) 0xA002 ≡ inBasicMemory load size
-    unfolding inBasicMemory
-    memory-end = simp (le-leb _ _ h)
+  module _ (l : Line) {b : Bool} (d : b ≡ isTooHigh m (l .number)) where
+    high : isTooHigh c64 (l .number) ≡ b
+    high = rw (← is) (sym d)
 
-module _ (s : List ℕ) {load : ℕ} {b : Bool} (e : load ≡ lowFirstAt s 0) (d : b ≡ inBasicMemory load (length s)) where
-  pub memory-none : b ≡ true → [] ≡ memoryFaults s
-  unfolding memoryFaults
-  memory-none is = let w : inBasicMemory (lowFirstAt s 0) (length s) ≡ true = rw (← e) (sym d ∙ is) in rw w
+    pub number-told : b ≡ true → NumberTooHigh (l .number) ∷ [] ≡ numberFaults l
+    unfolding numberFaults
+    number-told h = rw (high, h)
 
-  pub memory-told : b ≡ false → OutsideMemory load (length s) ∷ [] ≡ memoryFaults s
-  unfolding memoryFaults
-  memory-told is = let w : inBasicMemory (lowFirstAt s 0) (length s) ≡ false = rw (← e) (sym d ∙ is) in rw (w, e)
+    pub number-none : b ≡ false → [] ≡ numberFaults l
+    unfolding numberFaults
+    number-none h = rw (high, h)
 
--- ---- a line's number
+module _ (least : ℕ) (l : Line) {b : Bool} (d : b ≡ isNotAscending least (l .number)) where
+  pub order-told : b ≡ true → NotAscending (l .number) ∷ [] ≡ orderFaults least l
+  unfolding orderFaults
+  order-told h = rw (sym d, h)
 
-module _ (l : Line) where
-  pub number-told : 63999 < l .number → NumberTooHigh (l .number) ∷ [] ≡ numberFaults l
-  unfolding numberFaults
-  number-told h = simp (lt-ltb _ _ h)
-
-  pub number-none : l .number ≤ 63999 → [] ≡ numberFaults l
-  unfolding numberFaults
-  number-none h = simp (le-ltb _ _ h)
-
-  module _ (least : ℕ) where
-    pub order-told : l .number < least → NotAscending (l .number) ∷ [] ≡ orderFaults least l
-    unfolding orderFaults
-    order-told h = simp (lt-ltb _ _ h)
-
-    pub order-none : least ≤ l .number → [] ≡ orderFaults least l
-    unfolding orderFaults
-    order-none h = simp (le-ltb _ _ h)
+  pub order-none : b ≡ false → [] ≡ orderFaults least l
+  unfolding orderFaults
+  order-none h = rw (sym d, h)
 
 -- ---- its body
 
@@ -112,17 +100,17 @@ module _ (s : List ℕ) (p : ℕ) {l : Line} (is : LineIs s p l) where
   low-length : length (bodyOf s l) ≡ l .to - l .from
   low-length = body-length lies
 
-  pub length-none : 1 ≤ l .to - l .from → l .to - l .from ≤ 250 → [] ≡ lengthFaults s l
-  unfolding lengthFaults between
-  length-none low high = rw low-length (simp (le-leb _ _ low, le-leb _ _ high))
+  module _ {m : Limits} (machine : m ≡ c64) {b : Bool} (d : b ≡ isBadLength m (l .to - l .from)) where
+    bad : isBadLength c64 (l .to - l .from) ≡ b
+    bad = rw (← machine) (sym d)
 
-  pub length-low : l .to - l .from < 1 → BodyLength (l .number) (l .to - l .from) ∷ [] ≡ lengthFaults s l
-  unfolding lengthFaults between
-  length-low h = rw low-length (simp (lt-leb _ _ h))
+    pub length-told : b ≡ true → BodyLength (l .number) (l .to - l .from) ∷ [] ≡ lengthFaults s l
+    unfolding lengthFaults
+    length-told h = rw (low-length, bad, h)
 
-  pub length-high : 1 ≤ l .to - l .from → 250 < l .to - l .from → BodyLength (l .number) (l .to - l .from) ∷ [] ≡ lengthFaults s l
-  unfolding lengthFaults between
-  length-high low high = rw low-length (simp (le-leb _ _ low, lt-leb _ _ high))
+    pub length-none : b ≡ false → [] ≡ lengthFaults s l
+    unfolding lengthFaults
+    length-none h = rw (low-length, bad, h)
 
   -- the body by terminators ends at the first zero
   from-is : l .from ≡ p + 4

@@ -1,21 +1,20 @@
--- The faults that make a program unfit for the master disk: by document 01's reader by links, the limits of document 02, No. 1 ("numbers at
--- most 63999 and strictly ascending, no zero in any body, bodies of 1 to 250 bytes"), the jumps of No. 13, the machine's relinking, and its
--- BASIC memory, 0801 to 9FFF.
+-- The faults that make a program unfit for the master disk: by document 01's reader by links, the machine's limits (document 02, No. 1) and its
+-- BASIC memory, the jumps of No. 13, and the machine's relinking.
 -- Assumes nothing.
-use Prim.Native.Nat.{ℕ, _+_, min}
-use mathlib.Core.Bool.{Bool, true, false, cond, _&&_}
+use Prim.Native.Nat.{ℕ, _+_}
+use mathlib.Core.Bool.{Bool, true, false, cond, not, _&&_}
 use mathlib.Core.List.{List, [], _∷_, _++_, map}
-use lib.Dec.{leb, ltb}
+use lib.Dec.{ltb}
 use lib.ListN.{length, drop}
-use Rattle.base_ascii.specs.Bytes.{between}
 use Rattle.base_refusals.specs.Answer.{Answer, done, refused, mapDone}
+use Rattle.image_limits.specs.Limits.{c64, isTooHigh, isNotAscending, isBadLength, inBasicMemory}
 use Rattle.image_readers.specs.declared.Line.{Line}
 use Rattle.image_readers.specs.Bodies.{bodyOf}
 use Rattle.image_bytes.specs.ImageBytes.{lowFirstAt, addressAt, beforeZero}
+use Rattle.image_readers.specs.IndexLines.{indexLine, hasLine}
 use Rattle.image_readers.specs.Lines.{linesFrom, linesOf}
 use Rattle.image_readers.specs.Links.{linkStep}
-use Rattle.image_jumps.specs.Jumps.{jumpsFrom, jumpsOf}
-use Rattle.image_index.specs.Index.{indexLine, hasLine}
+use Rattle.image_jumps.specs.Jumps.{jumpsFrom, jumpsOf, low}
 use Rattle.image_relink.specs.Relinking.{Relinking, same, changed, leaves, endless, relinking}
 use Rattle.image_faults.specs.declared.Fault.{Fault}
 use Rattle.image_faults.specs.declared.Fault.the-variants.{OutsideMemory, NumberTooHigh, NotAscending, ZeroInBody, BodyLength, NoTarget, LinkChanges, LinksLeave, LinksEndless}
@@ -26,13 +25,8 @@ faultIf b f = cond b (f ∷ []) []
 
 -- ---- the whole image
 
--- an image of so many bytes, the load address among them, lies in 0801 to 9FFF
-unfoldable pub inBasicMemory : ℕ → ℕ → Bool
-inBasicMemory load size = leb 0x0801 load && leb (load + size) 0xA002
-
 unfoldable pub memoryFaults : List ℕ → List Fault
-unfolding inBasicMemory
-memoryFaults s = cond (inBasicMemory (lowFirstAt s 0) (length s)) [] (OutsideMemory (lowFirstAt s 0) (length s) ∷ [])
+memoryFaults s = faultIf (not (inBasicMemory c64 (lowFirstAt s 0) (length s))) (OutsideMemory (lowFirstAt s 0) (length s))
 
 -- what the machine does to the links; the line's number stands behind its link
 abbrev pub relinkFault : List ℕ → Answer Relinking → List Fault
@@ -49,11 +43,11 @@ relinkFaults s = relinkFault s (relinking s)
 -- ---- a line
 
 unfoldable pub numberFaults : Line → List Fault
-numberFaults l = faultIf (ltb 63999 (l .number)) (NumberTooHigh (l .number))
+numberFaults l = faultIf (isTooHigh c64 (l .number)) (NumberTooHigh (l .number))
 
 -- the least number that the line may have is one more than that of the line before
 unfoldable pub orderFaults : ℕ → Line → List Fault
-orderFaults least l = faultIf (ltb (l .number) least) (NotAscending (l .number))
+orderFaults least l = faultIf (isNotAscending least (l .number)) (NotAscending (l .number))
 
 -- where the first zero stands from a body's start on
 abbrev pub firstZero : List ℕ → Line → ℕ
@@ -64,8 +58,7 @@ unfolding beforeZero
 zeroFaults s l = faultIf (ltb (firstZero s l) (l .to)) (ZeroInBody (l .number) (addressAt s (firstZero s l)))
 
 unfoldable pub lengthFaults : List ℕ → Line → List Fault
-unfolding between
-lengthFaults s l = cond (between 1 250 (length (bodyOf s l))) [] (BodyLength (l .number) (length (bodyOf s l)) ∷ [])
+lengthFaults s l = faultIf (isBadLength c64 (length (bodyOf s l))) (BodyLength (l .number) (length (bodyOf s l)))
 
 -- the targets that a test does not pass
 unfoldable pub unmet : (ℕ → Bool) → List ℕ → List ℕ
@@ -75,7 +68,7 @@ unmet has (t ∷ ts) = elim (has t) [ true ↦ unmet has ts | false ↦ t ∷ un
 -- targets above 65535 are told as 65536
 unfoldable pub jumpFaults : (ℕ → Bool) → List ℕ → Line → List Fault
 unfolding jumpsFrom unmet
-jumpFaults has s l = map (NoTarget (l .number)) (unmet has (map (λ t. min t 65536) (jumpsOf (bodyOf s l))))
+jumpFaults has s l = map (NoTarget (l .number)) (unmet has (map low (jumpsOf (bodyOf s l))))
 
 unfoldable pub lineFaults : (ℕ → Bool) → List ℕ → ℕ → Line → List Fault
 unfolding numberFaults orderFaults zeroFaults lengthFaults jumpFaults

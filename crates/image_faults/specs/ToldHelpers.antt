@@ -1,11 +1,9 @@
--- What the contracts of the single faults say. A target is met where its number is marked.
+-- What the contracts of the single faults say.
 -- Assumes nothing.
 use Prim.Native.Nat.{ℕ}
 use mathlib.Core.Path.{_≡_}
-use mathlib.Core.Bool.{Bool, not}
+use mathlib.Core.Bool.{Bool}
 use mathlib.Core.List.{List, [], _∷_}
-use lib.Dec.{eqb}
-use lib.ListN.{getD}
 use Rattle.base_refusals.specs.Answer.{done}
 use Rattle.image_readers.specs.declared.Line.{Line}
 use Rattle.image_readers.specs.Image.{line}
@@ -18,9 +16,6 @@ use Rattle.image_faults.specs.declared.Fault.{Fault}
 use Rattle.image_faults.specs.declared.Told.{Told}
 use Rattle.image_faults.specs.declared.Told.the-variants.{Fault as ToldFault, Nothing}
 use Rattle.image_faults.specs.Faults.{unmet}
-
-abbrev pub hasMark : List ℕ → ℕ → Bool
-hasMark marked t = not (eqb (getD marked t 0) 0)
 
 abbrev pub toldFault : Told → List Fault
 toldFault (ToldFault f) = f ∷ []

@@ -1,10 +1,11 @@
 // The faults that make a program unfit for the master disk: of the whole image, of a line, of a jump.
 ghost use mathlib.Core.Path.{_≡_};
-ghost use Prim.Native.Nat.{_+_, _≤_, min};
+ghost use Prim.Native.Nat.{_+_, _≤_};
 ghost use lib.ListN.{getD};
 ghost use Rattle.image_bytes.specs.ImageBytes.{lowFirstAt};
-ghost use Rattle.image_faults.specs.Faults.{inBasicMemory, memoryFaults, numberFaults, orderFaults, zeroFaults, lengthFaults, relinkFaults};
-ghost use Rattle.image_faults.specs.ToldHelpers.{hasMark, toldFault, UnmetIs, LineIs};
+ghost use Rattle.image_marks.specs.Marks.{hasMark};
+ghost use Rattle.image_faults.specs.Faults.{memoryFaults, numberFaults, orderFaults, zeroFaults, lengthFaults, relinkFaults};
+ghost use Rattle.image_faults.specs.ToldHelpers.{toldFault, UnmetIs, LineIs};
 use image_jumps::Cursor;
 use image_jumps::Next;
 use image_readers::Line;
@@ -41,30 +42,17 @@ pub fn memory_fault(image: &[u8]) -> Told
 {
     let load = low_first_at(image, 0);
     let length = image.len();
-    if is_in_basic_memory(load, length) {
+    if image_limits::is_in_basic_memory(image_limits::commodore_64(), load, length) {
         return Told::Nothing;
     }
     Told::Fault(Fault::OutsideMemory { load, length })
-}
-
-// Whether an image of so many bytes lies in 0801 to 9FFF: its first two bytes are its load address.
-fn is_in_basic_memory(load: u16, length: usize) -> bool
-    ensures { λ r. ⌜ r ≡ inBasicMemory load length ⌝ }
-{
-    if load < 0x0801 {
-        return false;
-    }
-    if length > 0xA002 {
-        return false;
-    }
-    load as usize + length <= 0xA002
 }
 
 pub fn number_fault(line: Line) -> Told
     ensures { λ r. ⌜ toldFault r ≡ numberFaults line ⌝ }
 {
     let number = line.number;
-    if number > 63999 {
+    if image_limits::is_too_high(image_limits::commodore_64(), number) {
         return Told::Fault(Fault::NumberTooHigh { number });
     }
     Told::Nothing
@@ -74,7 +62,7 @@ pub fn order_fault(line: Line, least: usize) -> Told
     ensures { λ r. ⌜ toldFault r ≡ orderFaults least line ⌝ }
 {
     let number = line.number;
-    if (number as usize) < least {
+    if image_limits::is_not_ascending(least, number) {
         return Told::Fault(Fault::NotAscending { number });
     }
     Told::Nothing
@@ -100,16 +88,13 @@ pub fn length_fault(image: &[u8], offset: usize, line: Line) -> Told
 {
     let number = line.number;
     let length = line.to - line.from;
-    if length < 1 {
-        return Told::Fault(Fault::BodyLength { number, length });
-    }
-    if length > 250 {
+    if image_limits::is_bad_length(image_limits::commodore_64(), length) {
         return Told::Fault(Fault::BodyLength { number, length });
     }
     Told::Nothing
 }
 
-// The next jump of a body whose target is not marked, cut at 65536.
+// The next jump of a body whose target is not marked.
 pub fn unmet_jump(body: &[u8], marked: &[u8], cursor: Cursor) -> Next
     ensures { λ r. ⌜ UnmetIs (hasMark (now (marked .entry))) (now (body .entry)) cursor r ⌝ }
 {
@@ -120,10 +105,9 @@ pub fn unmet_jump(body: &[u8], marked: &[u8], cursor: Cursor) -> Next
                 target,
                 cursor: behind,
             } => {
-                let low = cut(target);
-                if !has_mark(marked, low) {
+                if !image_marks::has_mark(marked, target) {
                     return Next::Jump {
-                        target: low,
+                        target,
                         cursor: behind,
                     };
                 }
@@ -134,21 +118,6 @@ pub fn unmet_jump(body: &[u8], marked: &[u8], cursor: Cursor) -> Next
             }
         }
     }
-}
-
-fn cut(target: usize) -> usize
-    ensures { λ r. ⌜ r ≡ min target 65536 ⌝ }
-{
-    if target > 65536 { 65536 } else { target }
-}
-
-fn has_mark(marked: &[u8], target: usize) -> bool
-    ensures { λ r. ⌜ r ≡ hasMark (now (marked .entry)) target ⌝ }
-{
-    if target < marked.len() {
-        return marked[target] != 0;
-    }
-    false
 }
 
 pub fn relink_fault(image: &[u8]) -> Told

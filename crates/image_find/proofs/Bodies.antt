@@ -1,9 +1,9 @@
 -- The line that is answered is one that a step gives, and its body is the body of that step, a part of the image.
 -- Assumes nothing.
 use Prim.Native.Nat.{ℕ, _+_, _-_, _≤_, _<_}
-use mathlib.Core.Path.{_≡_, refl, sym, ap, _∙_, subst}
+use mathlib.Core.Path.{_≡_, sym, ap, _∙_}
 use mathlib.Core.Bool.{Bool, true, false, cond}
-use mathlib.Core.List.{List, [], _∷_}
+use mathlib.Core.List.{List, []}
 use native.Mathlib.Omega.{arith}
 use lib.Dec.{eqb, leb, ltb}
 use lib.ListN.{length, take, drop}
@@ -13,15 +13,15 @@ use Rattle.base_refusals.specs.Numbers.{imageTooLong, tooShort}
 use Rattle.image_readers.specs.declared.Line.{Line}
 use Rattle.image_readers.specs.Bodies.{bodyFound, bodyAt}
 use Rattle.image_readers.specs.Chain.{Chain, here, on, Leads}
-use Rattle.image_readers.specs.Image.{line, end}
+use Rattle.image_readers.specs.Image.{line}
+use Rattle.image_readers.specs.Lined.{Ending, ended, faulted, Lined, linedFrom}
 use Rattle.image_readers.specs.Lines.{linesOf}
 use Rattle.image_readers.specs.Links.{linkStep}
 use Rattle.image_readers.proofs.ByLinks.{link-sound}
 use Rattle.image_readers.proofs.Equations.{LiesAt}
+use Rattle.image_readers.proofs.Lined.{lined-end, lined-refused, chain-lined}
 use Rattle.image_readers.proofs.Reading.{lines-lead}
-use Rattle.image_find.proofs.Seeking.{lined-end, lined-refused}
-use Rattle.image_find.proofs.Limits.{chain-lined}
-use Rattle.image_find.specs.Sought.{limitReached, Ending, ended, faulted, Lined, Visit, at, nowhere, within, linedFrom, lineSought, bodyIn}
+use Rattle.image_find.specs.Sought.{limitReached, at, within, lineSought, bodyIn}
 
 -- ---- `body` meets its contract, case by case
 
@@ -74,9 +74,9 @@ module _ (number limit : ℕ) (s : List ℕ) where
   chained = go (linesOf linkStep s) (lines-lead link-sound s 2)
     where
       go : (a : Answer (List Line)) → Leads linkStep s 2 a → Chained
-      go (done ls) k = record { lines = ls; ending = ended; behind = k .0; chain = k .1; whole = chain-lined s (k .1) (lined-end link-sound s (k .0) (k .2)) }
+      go (done ls) k = record { lines = ls; ending = ended; behind = k .0; chain = k .1; whole = chain-lined link-sound s (k .1) (lined-end link-sound s (k .0) (k .2)) }
       go (refused n) k =
-          record { lines = k .0; ending = faulted n; behind = k .1; chain = k .2; whole = chain-lined s (k .2) (lined-refused link-sound s (k .1) (k .3)) }
+          record { lines = k .0; ending = faulted n; behind = k .1; chain = k .2; whole = chain-lined link-sound s (k .2) (lined-refused link-sound s (k .1) (k .3)) }
 
   module _ {v : ℕ} {l : Line} (f : lineSought number limit s ≡ done (at v l)) where
     pub sought-step : Stepped s l

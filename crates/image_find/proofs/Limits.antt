@@ -12,15 +12,15 @@ use borrow.Author.Tests.{lt-leb, leb-false, ltb-true, ltb-false}
 use Rattle.base_refusals.specs.Numbers.{Numbered, imageTooLong, tooShort}
 use Rattle.base_refusals.specs.Answer.{Answer, done, refused}
 use Rattle.image_readers.specs.declared.Line.{Line}
-use Rattle.image_readers.specs.Image.{sized}
-use Rattle.image_readers.specs.Chain.{Chain, here, on, Leads}
+use Rattle.image_readers.specs.Chain.{Leads}
+use Rattle.image_readers.specs.Lined.{Ending, ended, faulted, Lined, linedFrom}
 use Rattle.image_readers.specs.Lines.{linesOf}
 use Rattle.image_readers.specs.Links.{linkStep}
 use Rattle.image_readers.proofs.ByLinks.{link-sound, link-long, link-short}
 use Rattle.image_readers.proofs.Finding.{sized-long, sized-short, sized-right}
+use Rattle.image_readers.proofs.Lined.{accepted, refused-at, lined-refused}
 use Rattle.image_readers.proofs.Reading.{lines-lead}
-use Rattle.image_find.proofs.Seeking.{lined-line, lined-end, lined-refused}
-use Rattle.image_find.specs.Sought.{limitReached, Ending, ended, faulted, Lined, Visit, at, nowhere, firstIn, orFault, within, linedFrom, lineSought}
+use Rattle.image_find.specs.Sought.{limitReached, at, nowhere, firstIn, orFault, within, lineSought}
 
 -- where the answer is not 19, the limit was not reached, and the test of it may be left out
 below : {A : Type 0} (limit v : ℕ) (a : Answer A) → (cond (leb limit v) (refused limitReached) a ≡ refused limitReached → ⊥) → v < limit
@@ -86,26 +86,10 @@ module _ (number : ℕ) where
 
 -- ---- the lines of an image
 
--- lines found one after the other, and what stands behind the last
-pub chain-lined : (s : List ℕ) {p q : ℕ} {ls : List Line} {e : Ending} → Chain (linkStep s) p ls q → linedFrom linkStep s q ≡ record { lines = []; ending = e }
-    → linedFrom linkStep s p ≡ record { lines = ls; ending = e }
-chain-lined s here f = f
-chain-lined s (on {p = p} {l = l} h c) f =
-    lined-line link-sound s p h ∙ ap (λ (x : Lined). record { lines = l ∷ x .lines; ending = x .ending }) (chain-lined s c f)
-
 right-length : (s : List ℕ) {ls : List Line} → linesOf linkStep s ≡ done ls → (length s ≤ 1048576) × (2 ≤ length s)
 right-length s e =
     let k = subst (Leads linkStep s 2) e (lines-lead link-sound s 2) in
     (link-sound .not-too-long s (k .0) (k .2), link-sound .long-enough s (k .0) (k .2))
-
--- an image that the reader accepts: its lines, and then the end; one that it refuses: some lines, and then the fault
-pub accepted : (s : List ℕ) {ls : List Line} → linesOf linkStep s ≡ done ls → linedFrom linkStep s 2 ≡ record { lines = ls; ending = ended }
-accepted s {ls} e = let k = subst (Leads linkStep s 2) e (lines-lead link-sound s 2) in chain-lined s (k .1) (lined-end link-sound s (k .0) (k .2))
-
-pub refused-at : (s : List ℕ) {n : Numbered} → linesOf linkStep s ≡ refused n → linedFrom linkStep s 2 .ending ≡ faulted n
-refused-at s e =
-    let k = subst (Leads linkStep s 2) e (lines-lead link-sound s 2) in
-    ap (λ (x : Lined). x .ending) (chain-lined s (k .2) (lined-refused link-sound s (k .1) (k .3)))
 
 -- document 02: on an image that the link reader accepts the answer equals, save for 19, a search of the full list
 pub sought-in-full : (number limit : ℕ) (s : List ℕ) {ls : List Line} → linesOf linkStep s ≡ done ls → (lineSought number limit s ≡ refused limitReached → ⊥)
@@ -113,7 +97,7 @@ pub sought-in-full : (number limit : ℕ) (s : List ℕ) {ls : List Line} → li
 unfolding lineSought
 sought-in-full number limit s {ls} e other =
     let w : within number limit 0 (linedFrom linkStep s 2 .lines) (linedFrom linkStep s 2 .ending) ≡ within number limit 0 ls ended =
-    ap (λ (x : Lined). within number limit 0 (x .lines) (x .ending)) (accepted s e) in
+    ap (λ (x : Lined). within number limit 0 (x .lines) (x .ending)) (accepted link-sound s e) in
     let r = right-length s e in
     let z : within number limit 0 ls ended ≡ lineSought number limit s = sym w ∙ sized-right s _ (r .0) (r .1) in
     sym z ∙ full-search number limit 0 ls (λ q. other (sym z ∙ q))
@@ -150,7 +134,7 @@ module _ (number limit : ℕ) (s : List ℕ) {n : Numbered} (e : linesOf linkSte
   unfolding firstIn
   fault-first {m} h q =
       let lined = lined-refused link-sound s 2 h in
-      let same : faulted m ≡ faulted n = ap (λ (x : Lined). x .ending) (sym lined) ∙ refused-at s e in
+      let same : faulted m ≡ faulted n = ap (λ (x : Lined). x .ending) (sym lined) ∙ refused-at link-sound s e in
       let is : m ≡ n = cc in
       q ∙ ap refused is ∙ sym (ap (λ (x : Lined). orFault n (firstIn number 0 (x .lines))) lined)
 
@@ -167,5 +151,5 @@ module _ (number limit : ℕ) (s : List ℕ) {n : Numbered} (e : linesOf linkSte
       go false p true q = let h = ltb-true (length s) 2 q in fault-first (sym (link-short s 2 h)) (sym (sized-short s _ h))
       go false p false q =
           let w : within number limit 0 ls (faulted n) ≡ lineSought number limit s =
-          ap (within number limit 0 ls) (sym (refused-at s e)) ∙ sized-right s _ (ltb-false 1048576 (length s) p) (ltb-false (length s) 2 q) in
+          ap (within number limit 0 ls) (sym (refused-at link-sound s e)) ∙ sized-right s _ (ltb-false 1048576 (length s) p) (ltb-false (length s) 2 q) in
           sym w ∙ fault-search number limit 0 ls n (λ z. other (sym w ∙ z))

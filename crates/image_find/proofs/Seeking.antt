@@ -1,52 +1,27 @@
--- The loop over the headers: the equations of `linedFrom`, the invariant, a turn, and the ends.
+-- The loop over the headers: the invariant, a turn, and the ends.
 -- Assumes nothing.
-use Prim.Native.Nat.{ℕ, suc, _+_, _-_, _≤_, _<_}
-use mathlib.Core.Path.{_≡_, refl, sym, ap, _∙_}
+use Prim.Native.Nat.{ℕ, _+_, _-_, _≤_, _<_}
+use mathlib.Core.Path.{_≡_, sym, ap, _∙_}
 use mathlib.Core.List.{List, [], _∷_}
 use native.Mathlib.Omega.{arith}
 use lib.ListN.{length}
 use mir.Syntax.{w64}
 use mir.Val.{Fits}
 use borrow.Author.Tests.{le-leb, lt-leb, eq-eqb, ne-eqb}
-use Rattle.base_steps.proofs.Nearer.{Nearer, again-once}
-use Rattle.base_refusals.specs.Numbers.{Numbered, imageTooLong, tooShort}
+use Rattle.base_refusals.specs.Numbers.{imageTooLong, tooShort}
 use Rattle.base_refusals.specs.Answer.{Answer, done, refused, numbered}
 use Rattle.base_refusals.specs.declared.Refusal.{Refusal}
 use Rattle.image_readers.specs.declared.Line.{Line}
 use Rattle.image_readers.specs.declared.Step.{Step}
 use Rattle.image_readers.specs.declared.Step.the-variants.{Found as FoundLine, End, Refused}
 use Rattle.image_readers.specs.Answers.{stepAnswer}
-use Rattle.image_readers.specs.Image.{Found, line, end}
-use Rattle.image_readers.specs.Lines.{Reader}
+use Rattle.image_readers.specs.Lined.{faulted, Lined, linedFrom}
 use Rattle.image_readers.specs.Links.{linkStep}
 use Rattle.image_readers.proofs.ByLinks.{link-sound}
-use Rattle.image_readers.proofs.Equations.{LiesAt, Sound, next-nearer}
+use Rattle.image_readers.proofs.Equations.{LiesAt, next-nearer}
 use Rattle.image_readers.proofs.Finding.{told, sized-long, sized-short, sized-right}
-use Rattle.image_find.specs.Sought.{limitReached, Ending, ended, faulted, Lined, linedBy, linedOn, linedFrom, Visit, at, nowhere, within, lineSought}
-
-module _ {step : Reader} (sound : Sound step) (s : List ℕ) where
-  nearer : Nearer (λ p. length s - p) (linedOn step s)
-  nearer p f g alike = go (step s p) refl
-    where
-      go : (r : Answer Found) → step s p ≡ r → linedBy f r ≡ linedBy g r
-      go (done (line l)) e = ap (λ (x : Lined). record { lines = l ∷ x .lines; ending = x .ending }) (alike (l .next) (next-nearer sound s p e))
-      go (done end) e = refl
-      go (refused n) e = refl
-
-  lined-on : (p : ℕ) → linedFrom step s p ≡ linedBy (linedFrom step s) (step s p)
-  unfolding linedFrom
-  lined-on p = again-once nearer (record { lines = []; ending = ended }) (suc (length s)) p (omega arith)
-
-  module _ (p : ℕ) where
-    pub lined-line : {l : Line} → step s p ≡ done (line l)
-        → linedFrom step s p ≡ record { lines = l ∷ linedFrom step s (l .next) .lines; ending = linedFrom step s (l .next) .ending }
-    lined-line e = lined-on p ∙ ap (linedBy (linedFrom step s)) e
-
-    pub lined-end : step s p ≡ done end → linedFrom step s p ≡ record { lines = []; ending = ended }
-    lined-end e = lined-on p ∙ ap (linedBy (linedFrom step s)) e
-
-    pub lined-refused : {n : Numbered} → step s p ≡ refused n → linedFrom step s p ≡ record { lines = []; ending = faulted n }
-    lined-refused e = lined-on p ∙ ap (linedBy (linedFrom step s)) e
+use Rattle.image_readers.proofs.Lined.{lined-line, lined-end, lined-refused}
+use Rattle.image_find.specs.Sought.{limitReached, Visit, at, nowhere, within, lineSought}
 
 -- the search from p on, v headers being visited
 abbrev soughtFrom : ℕ → ℕ → List ℕ → ℕ → ℕ → Answer Visit

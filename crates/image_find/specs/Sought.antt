@@ -1,18 +1,17 @@
 -- A line by its number (document 02, No. 4: "a call that follows links and stops at the first line with that number. The answer carries
 -- the number of line headers visited"), over the lines before the fault and what stands behind them.
 -- Assumes nothing.
-use Prim.Native.Nat.{ℕ, suc, _+_}
+use Prim.Native.Nat.{ℕ, _+_}
 use mathlib.Core.Bool.{cond}
 use mathlib.Core.List.{List, [], _∷_}
 use lib.Dec.{eqb, leb, ltb}
 use lib.ListN.{length}
-use Rattle.base_steps.specs.Again.{again}
 use Rattle.base_refusals.specs.Numbers.{Numbered}
 use Rattle.base_refusals.specs.Answer.{Answer, done, refused, numbered}
 use Rattle.image_readers.specs.Bodies.{bodyOf}
 use Rattle.image_readers.specs.declared.Line.{Line}
-use Rattle.image_readers.specs.Image.{Found, line, end, sized}
-use Rattle.image_readers.specs.Lines.{Reader}
+use Rattle.image_readers.specs.Image.{sized}
+use Rattle.image_readers.specs.Lined.{Ending, ended, faulted, linedFrom}
 use Rattle.image_readers.specs.Links.{linkStep}
 use Rattle.image_find.specs.declared.Sought.{Sought}
 use Rattle.image_find.specs.declared.Sought.the-variants.{Found as FoundLine, Nowhere, LimitReached, Refused}
@@ -20,30 +19,6 @@ use Rattle.image_find.specs.declared.Sought.the-variants.{Found as Found
 -- "19 LimitReached", which carries nothing
 abbrev pub limitReached : Numbered
 limitReached = record { number = 19; carries = [] }
-
--- what stands behind the lines that are read: the end, or a fault
-pub data Ending : Type 0 where
-  ended : Ending
-  faulted : Numbered → Ending
-
--- lines, and what stands behind them
-pub record Lined : Type 0 where
-  pub lines : List Line
-  pub ending : Ending
-
--- the step at p, and what f reads from the next offset on
-abbrev pub linedBy : (ℕ → Lined) → Answer Found → Lined
-linedBy f (done (line l)) = record { lines = l ∷ f (l .next) .lines; ending = f (l .next) .ending }
-linedBy f (done end) = record { lines = []; ending = ended }
-linedBy f (refused n) = record { lines = []; ending = faulted n }
-
-abbrev pub linedOn : Reader → List ℕ → (ℕ → Lined) → ℕ → Lined
-linedOn step s f p = linedBy f (step s p)
-
--- the lines from p on before a fault, if there is one, and what stands behind them
-unfoldable pub linedFrom : Reader → List ℕ → ℕ → Lined
-unfolding again
-linedFrom step s p = again (record { lines = []; ending = ended }) (linedOn step s) (suc (length s)) p
 
 -- the headers visited, and the line with the number, if there is one
 pub data Visit : Type 0 where

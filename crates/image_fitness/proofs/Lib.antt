@@ -1,5 +1,4 @@
 pub mod Alike
 pub mod Moving
 pub mod Table
-pub mod Walking
 pub mod Whole

@@ -17,8 +17,8 @@ use Rattle.image_readers.specs.Links.{linkStep}
 use Rattle.image_readers.proofs.ByLinks.{link-sound}
 use Rattle.image_readers.proofs.Equations.{next-nearer}
 use Rattle.image_readers.proofs.Finding.{told}
-use Rattle.image_find.specs.Sought.{Lined, linedFrom}
-use Rattle.image_find.proofs.Seeking.{lined-line, lined-end, lined-refused}
+use Rattle.image_readers.specs.Lined.{Lined, linedFrom}
+use Rattle.image_readers.proofs.Lined.{lined-line, lined-end, lined-refused}
 use Rattle.image_units.specs.declared.Mode.the-variants.{Plain}
 use Rattle.image_jumps.specs.declared.Part.the-variants.{Empty}
 use Rattle.image_jumps.specs.declared.Cursor.{Cursor}
@@ -39,7 +39,8 @@ use Rattle.image_fitness.specs.declared.Moved.{Moved}
 use Rattle.image_fitness.specs.declared.Moved.the-variants.{Told as MovedTold, On, End}
 use Rattle.image_fitness.specs.declared.Found.the-variants.{Fault as FoundFault, None as NoFault}
 use Rattle.image_faults.specs.Faults.{memoryFaults, relinkFaults, numberFaults, orderFaults, zeroFaults, lengthFaults, unmet, jumpFaults, lineFaults, linesFaults}
-use Rattle.image_faults.specs.ToldHelpers.{hasMark, toldFault, LineIs, UnmetIs}
+use Rattle.image_marks.specs.Marks.{hasMark}
+use Rattle.image_faults.specs.ToldHelpers.{toldFault, LineIs, UnmetIs}
 use Rattle.image_fitness.specs.FaultHelpers.{restFrom, faultsBy, checkFaults, stageFaults, faultsAt, placeAhead, movedBy, WalksOn, MovedIs, FaultIs}
 
 -- ---- what is led on

@@ -4,13 +4,13 @@ use Prim.Native.Nat.{ℕ, _+_, _-_, _*_, _<_}
 use mathlib.Core.Path.{_≡_}
 use mathlib.Core.Bool.{Bool}
 use mathlib.Core.List.{List, [], _∷_, _++_, map}
-use lib.ListN.{length, set}
+use lib.ListN.{length}
 use Rattle.base_refusals.specs.Answer.{Answer, done, refused}
 use Rattle.image_readers.specs.declared.Line.{Line}
 use Rattle.image_readers.specs.Bodies.{bodyOf}
 use Rattle.image_readers.specs.Image.{Found, line, end}
 use Rattle.image_readers.specs.Links.{linkStep}
-use Rattle.image_find.specs.Sought.{linedFrom}
+use Rattle.image_readers.specs.Lined.{linedFrom}
 use Rattle.image_jumps.specs.JumpHelpers.{leftOf}
 use Rattle.image_faults.specs.declared.Fault.{Fault}
 use Rattle.image_faults.specs.declared.Fault.the-variants.{NoTarget}
@@ -26,13 +26,6 @@ use Rattle.image_fitness.specs.declared.Moved.the-variants.{Told as Move
 use Rattle.image_fitness.specs.declared.Found.{Found as NextFault}
 use Rattle.image_fitness.specs.declared.Found.the-variants.{Fault as FoundFault, None as NoFault}
 use Rattle.image_faults.specs.Faults.{memoryFaults, relinkFaults, orderFaults, zeroFaults, lengthFaults, unmet, jumpFaults, lineFaults, linesFaults}
-
--- ---- marks
-
--- the numbers of lines marked, as far as the marks reach
-unfoldable pub lineMarks : List ℕ → List Line → List ℕ
-lineMarks marked [] = marked
-lineMarks marked (l ∷ ls) = lineMarks (set marked (l .number) 1) ls
 
 -- ---- places
 

@@ -1,9 +1,8 @@
 // Whether a program is fit for the master disk: its faults, one after the other.
 ghost use mathlib.Core.Path.{_≡_};
-ghost use Rattle.image_readers.specs.Links.{linkStep};
-ghost use Rattle.image_find.specs.Sought.{linedFrom};
-ghost use Rattle.image_faults.specs.ToldHelpers.{hasMark, LineIs};
-ghost use Rattle.image_fitness.specs.FaultHelpers.{lineMarks, movedBy, MovedIs, FaultIs};
+ghost use Rattle.image_marks.specs.Marks.{hasMark};
+ghost use Rattle.image_faults.specs.ToldHelpers.{LineIs};
+ghost use Rattle.image_fitness.specs.FaultHelpers.{movedBy, MovedIs, FaultIs};
 use image_faults::Fault;
 use image_faults::Told;
 use image_jumps::Cursor;
@@ -56,30 +55,6 @@ pub fn first() -> Place
         stage: Stage::Memory,
         offset: 2,
         least: 0,
-    }
-}
-
-// Marks the numbers that lines have, as far as the links lead.
-pub fn mark_numbers(image: &[u8], marked: &mut [u8])
-    ensures { λ r. ⌜ now (marked .exit) ≡ lineMarks (now (marked .entry)) (linedFrom linkStep (now (image .entry)) 2 .lines) ⌝ }
-{
-    let mut offset: usize = 2;
-    loop {
-        match links::step(image, offset) {
-            Step::Found(line) => {
-                let number = line.number as usize;
-                if number < marked.len() {
-                    marked[number] = 1;
-                }
-                offset = line.next;
-            }
-            Step::End => {
-                return;
-            }
-            Step::Refused(_) => {
-                return;
-            }
-        }
     }
 }
 
@@ -223,5 +198,3 @@ fn lead(told: Told, place: Place) -> Moved
         Told::Nothing => Moved::On(place),
     }
 }
-
-// ---- the faults

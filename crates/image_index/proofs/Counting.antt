@@ -1,13 +1,13 @@
 -- Counting the jumps: the loop over a body, and the loop over an image's lines.
 -- Assumes nothing.
-use Prim.Native.Nat.{ℕ, _+_, _-_, _*_, _≤_, _<_, min}
+use Prim.Native.Nat.{ℕ, _+_, _-_, _*_, _≤_, _<_}
 use mathlib.Core.Path.{_≡_, refl, sym, ap, _∙_, subst}
-use mathlib.Core.Bool.{Bool, true, false, cond}
+use mathlib.Core.Bool.{Bool, true, false, cond, not}
 use mathlib.Core.List.{List, [], _∷_, _++_}
 use native.Mathlib.Omega.{arith}
-use lib.Dec.{eqb, ltb}
-use lib.ListN.{length, getD, List·getD-eq-default}
-use borrow.Author.Tests.{lt-ltb, le-ltb, eq-eqb, ne-eqb}
+use lib.Dec.{ltb}
+use lib.ListN.{length}
+use borrow.Author.Tests.{lt-ltb, le-ltb, not-true, not-false}
 use Rattle.base_refusals.specs.declared.Refusal.{Refusal}
 use Rattle.image_readers.specs.declared.Line.{Line}
 use Rattle.image_readers.specs.declared.Step.{Step}
@@ -15,31 +15,19 @@ use Rattle.image_readers.specs.declared.Step.the-variants.{Found as FoundLine, 
 use Rattle.image_readers.specs.Answers.{stepAnswer}
 use Rattle.image_readers.specs.Bodies.{bodyOf}
 use Rattle.image_readers.specs.Links.{linkStep}
-use Rattle.image_readers.proofs.Equations.{LiesAt}
 use Rattle.image_readers.proofs.Reading.{body-length}
+use Rattle.image_marks.specs.Marks.{hasMark}
 use Rattle.image_units.specs.declared.Mode.the-variants.{Plain}
 use Rattle.image_jumps.specs.declared.Part.the-variants.{Empty}
 use Rattle.image_jumps.specs.declared.Cursor.{Cursor}
 use Rattle.image_jumps.specs.declared.Next.{Next}
 use Rattle.image_jumps.specs.declared.Next.the-variants.{Jump, None}
-use Rattle.image_jumps.specs.JumpHelpers.{low, leftOf, distance, JumpsTo, NextIs}
+use Rattle.image_jumps.specs.JumpHelpers.{leftOf, distance, JumpsTo, NextIs}
 use Rattle.image_jumps.proofs.Stepping.{left-text}
 use Rattle.image_index.specs.declared.Counted.{Counted}
 use Rattle.image_index.specs.declared.Counted.the-variants.{TooHigh, Jumps}
 use Rattle.image_index.specs.IndexHelpers.{foundFrom, Sound, lowJumps, lowTargets, targetsCounted, AtMost, CountedIs}
 use Rattle.image_index.proofs.Sounding.{SoundLine, sound-line, sound-end, sound-refused}
-
--- ---- a mark
-
-module _ (marked : List ℕ) (target : ℕ) where
-  pub mark-set : (getD marked target 0 ≡ 0 → ⊥) → _≡_ {A = ℕ} 0 (cond (eqb (getD marked target 0) 0) 1 0)
-  mark-set n = simp (ne-eqb _ _ n)
-
-  pub mark-none : getD marked target 0 ≡ 0 → _≡_ {A = ℕ} 1 (cond (eqb (getD marked target 0) 0) 1 0)
-  mark-none e = simp (eq-eqb _ _ e)
-
-  pub mark-beyond : length marked ≤ target → _≡_ {A = ℕ} 1 (cond (eqb (getD marked target 0) 0) 1 0)
-  mark-beyond h = mark-none (List·getD-eq-default marked 0 h)
 
 -- ---- the cases of `counted`
 
@@ -48,7 +36,7 @@ module _ (marked : List ℕ) (n t : ℕ) (ts : List ℕ) where
   unfolding targetsCounted
   counted-high h = simp (lt-ltb _ _ h)
 
-  counted-more : t ≤ 65535 → targetsCounted marked n (t ∷ ts) ≡ targetsCounted marked (n + cond (eqb (getD marked t 0) 0) 1 0) ts
+  counted-more : t ≤ 65535 → targetsCounted marked n (t ∷ ts) ≡ targetsCounted marked (n + cond (hasMark marked t) 0 1) ts
   unfolding targetsCounted
   counted-more h = simp (le-ltb _ _ h)
 
@@ -64,10 +52,10 @@ thenCounted marked us (Jumps m) = targetsCounted marked m us
 counted-both : (marked ts us : List ℕ) (n : ℕ) → targetsCounted marked n (ts ++ us) ≡ thenCounted marked us (targetsCounted marked n ts)
 unfolding targetsCounted
 counted-both marked [] us n = refl
-counted-both marked (t ∷ ts) us n = go (ltb 65535 t) (counted-both marked ts us (n + cond (eqb (getD marked t 0) 0) 1 0))
+counted-both marked (t ∷ ts) us n = go (ltb 65535 t) (counted-both marked ts us (n + cond (hasMark marked t) 0 1))
   where
     m : ℕ
-    m = n + cond (eqb (getD marked t 0) 0) 1 0
+    m = n + cond (hasMark marked t) 0 1
 
     go : (b : Bool) → targetsCounted marked m (ts ++ us) ≡ thenCounted marked us (targetsCounted marked m ts)
         → cond b TooHigh (targetsCounted marked m (ts ++ us)) ≡ thenCounted marked us (cond b TooHigh (targetsCounted marked m ts))
@@ -95,19 +83,20 @@ module _ {marked body : List ℕ} {n₀ n : ℕ} {c : Cursor} (k : CountingBody 
     pub counting-high : 65535 < target → CountedIs marked n₀ (lowJumps body) (n₀ + 2 * length body) TooHigh
     counting-high h =
         record {
-          is = sym (counted-high marked n (low target) (leftOf body d) (omega arith)) ∙ ap (targetsCounted marked n) (sym (jumped .same)) ∙ k .same;
+          is = sym (counted-high marked n target (leftOf body d) h) ∙ ap (targetsCounted marked n) (sym (jumped .same)) ∙ k .same;
           few = tt;
         }
 
-    pub counting-turn : target ≤ 65535 → {u : ℕ} → u ≡ cond (eqb (getD marked target 0) 0) 1 0 → u ≤ 1 → CountingBody marked body n₀ (n + u) d
-    counting-turn h {u} f g =
-        let w : low target ≡ target = omega arith in
-        record {
-          same =
-              ap (λ (m : ℕ). targetsCounted marked (n + m) (leftOf body d)) f ∙ sym (counted-more marked n target (leftOf body d) h)
-              ∙ ap (λ (t : ℕ). targetsCounted marked n (t ∷ leftOf body d)) (sym w) ∙ ap (targetsCounted marked n) (sym (jumped .same)) ∙ k .same;
-          few = omega (arith, k .few, jumped .nearer);
-        }
+    module _ (h : target ≤ 65535) {b : Bool} (e : b ≡ hasMark marked target) where
+      turned : targetsCounted marked (n + cond b 0 1) (leftOf body d) ≡ targetsCounted marked n₀ (lowJumps body)
+      turned = rw e (sym (counted-more marked n target (leftOf body d) h) ∙ ap (targetsCounted marked n) (sym (jumped .same)) ∙ k .same)
+
+      -- a target that is not marked counts
+      pub counting-turn : not b ≡ true → CountingBody marked body n₀ (n + 1) d
+      counting-turn f = record { same = rw (not-true b f) at turned; few = omega (arith, k .few, jumped .nearer) }
+
+      pub counting-past : not b ≡ false → CountingBody marked body n₀ n d
+      counting-past f = record { same = rw (not-false b f) at turned; few = omega (arith, k .few, jumped .nearer) }
 
     pub counting-less : distance body d < distance body c
     counting-less = jumped .nearer

@@ -11,7 +11,7 @@ use Rattle.image_readers.specs.declared.Line.{Line}
 use Rattle.image_readers.specs.Image.{line}
 use Rattle.image_readers.specs.Links.{linkStep}
 use Rattle.image_readers.proofs.ByLinks.{link-found, link-sound}
-use Rattle.image_index.specs.Index.{indexLine}
+use Rattle.image_readers.specs.IndexLines.{indexLine}
 
 module _ (s : List ℕ) (bytes : (i : ℕ) → getD s i 0 < 256) (p : ℕ) {l : Line} (e : linkStep s p ≡ done (line l)) where
   pub offset-fits : indexLine l .offset < 65536

@@ -1,6 +1,5 @@
 pub mod Counting
 pub mod Fitting
-pub mod Marking
 pub mod Putting
 pub mod Reporting
 pub mod Sounding

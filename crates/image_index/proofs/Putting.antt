@@ -1,12 +1,11 @@
 -- Writing the lines and the jumps: what is left to write does the rest.
 -- Assumes nothing.
-use Prim.Native.Nat.{ℕ, _+_, _-_, _*_, _≤_, _<_, min}
+use Prim.Native.Nat.{ℕ, _+_, _-_, _≤_, _<_}
 use mathlib.Core.Path.{_≡_, refl, sym, ap, _∙_, subst}
 use mathlib.Core.Bool.{Bool, true, false, cond}
 use mathlib.Core.List.{List, [], _∷_, _++_, append-nil}
 use native.Mathlib.Omega.{arith}
-use lib.Dec.{eqb}
-use lib.ListN.{length, getD}
+use lib.ListN.{length}
 use mir.Syntax.{w64}
 use mir.Val.{Fits}
 use Rattle.base_refusals.specs.declared.Refusal.{Refusal}
@@ -16,13 +15,13 @@ use Rattle.image_readers.specs.declared.Step.the-variants.{Found as FoundLine, 
 use Rattle.image_readers.specs.Answers.{stepAnswer}
 use Rattle.image_readers.specs.Bodies.{bodyOf}
 use Rattle.image_readers.specs.Links.{linkStep}
-use Rattle.image_readers.proofs.Equations.{LiesAt}
+use Rattle.image_marks.specs.Marks.{hasMark}
 use Rattle.image_units.specs.declared.Mode.the-variants.{Plain}
 use Rattle.image_jumps.specs.declared.Part.the-variants.{Empty}
 use Rattle.image_jumps.specs.declared.Cursor.{Cursor}
 use Rattle.image_jumps.specs.declared.Next.{Next}
 use Rattle.image_jumps.specs.declared.Next.the-variants.{Jump, None}
-use Rattle.image_jumps.specs.JumpHelpers.{low, leftOf, distance, JumpsTo, NextIs}
+use Rattle.image_jumps.specs.JumpHelpers.{leftOf, distance, JumpsTo, NextIs}
 use Rattle.image_jumps.proofs.Stepping.{left-text}
 use Rattle.base_lent.specs.Stores.{Room, Put}
 use Rattle.base_bits.specs.Bits.{bitsOf, packFrom}
@@ -78,40 +77,28 @@ module _ (w a b : ℕ) {out : List ℕ} {pen : Pen} (r : Ready out pen (pairBits
 -- ---- a jump
 
 module _ (marked : List ℕ) (place target : ℕ) where
-  kept : {u : ℕ} → u ≡ cond (eqb (getD marked target 0) 0) 1 0 → u ≡ 1 → targetBit marked place target ≡ pairBits 13 place target
-  kept {u} e f = go (eqb (getD marked target 0) 0) refl (sym e ∙ f)
-    where
-      go : (t : Bool) → eqb (getD marked target 0) 0 ≡ t → _≡_ {A = ℕ} (cond t 1 0) 1 → targetBit marked place target ≡ pairBits 13 place target
-      go true g h = unfold targetBit in simp g
-      go false g h = absurd (omega arith)
+  module _ {b : Bool} (e : b ≡ hasMark marked target) where
+    kept : b ≡ false → targetBit marked place target ≡ pairBits 13 place target
+    unfolding targetBit
+    kept f = simp (sym e ∙ f)
 
-  left : {u : ℕ} → u ≡ cond (eqb (getD marked target 0) 0) 1 0 → (u ≡ 1 → ⊥) → targetBit marked place target ≡ []
-  left {u} e f = go (eqb (getD marked target 0) 0) refl (λ q. f (e ∙ q))
-    where
-      go : (t : Bool) → eqb (getD marked target 0) 0 ≡ t → (_≡_ {A = ℕ} (cond t 1 0) 1 → ⊥) → targetBit marked place target ≡ []
-      go true g h = absurd (h refl)
-      go false g h = unfold targetBit in simp g
+    pub kept-ready : {out : List ℕ} {pen : Pen} → b ≡ false → Ready out pen (targetBit marked place target) → Ready out pen (pairBits 13 place target)
+    kept-ready f r = rw (kept f) at r
 
-  pub kept-ready : {u : ℕ} {out : List ℕ} {pen : Pen} → u ≡ cond (eqb (getD marked target 0) 0) 1 0 → u ≡ 1 → Ready out pen (targetBit marked place target)
-      → Ready out pen (pairBits 13 place target)
-  kept-ready e f r = rw (kept e f) at r
+    pub kept-drawn : (out : List ℕ) (pen : Pen) {d : Drawn} → b ≡ false → d ≡ drawn out pen (pairBits 13 place target) → d ≡ drawn out pen (targetBit marked place target)
+    kept-drawn out pen f g = g ∙ ap (drawn out pen) (sym (kept f))
 
-  pub kept-drawn : {u : ℕ} (out : List ℕ) (pen : Pen) {d : Drawn} → u ≡ cond (eqb (getD marked target 0) 0) 1 0 → u ≡ 1 → d ≡ drawn out pen (pairBits 13 place target)
-      → d ≡ drawn out pen (targetBit marked place target)
-  kept-drawn out pen e f g = g ∙ ap (drawn out pen) (sym (kept e f))
-
-  pub left-drawn : {u : ℕ} {out : List ℕ} {pen : Pen} → u ≡ cond (eqb (getD marked target 0) 0) 1 0 → (u ≡ 1 → ⊥)
-      → record { pen = pen; out = out } ≡ drawn out pen (targetBit marked place target)
-  unfolding drawn
-  left-drawn {out = out} {pen = pen} e f = ap (drawn out pen) (sym (left e f))
+    pub left-drawn : {out : List ℕ} {pen : Pen} → b ≡ true → record { pen = pen; out = out } ≡ drawn out pen (targetBit marked place target)
+    unfolding drawn targetBit
+    left-drawn f = simp (sym e ∙ f)
 
   pub target-are : AreBits (targetBit marked place target)
   unfolding targetBit
-  target-are = go (eqb (getD marked target 0) 0)
+  target-are = go (hasMark marked target)
     where
-      go : (t : Bool) → AreBits (cond t (pairBits 13 place target) [])
-      go true = pair-are 13 place target
-      go false = tt
+      go : (t : Bool) → AreBits (cond t [] (pairBits 13 place target))
+      go true = tt
+      go false = pair-are 13 place target
 
 -- ---- the loop over a body
 
@@ -140,15 +127,14 @@ module _ {marked : List ℕ} {place : ℕ} {body out₀ : List ℕ} {pen₀ : Pe
     pub body-less : distance body d < distance body c
     body-less = jumped .nearer
 
-    module _ {t : ℕ} (f : t ≡ min target 65536) where
-      here : targetBits marked place (leftOf body c) ≡ targetBit marked place t ++ targetBits marked place (leftOf body d)
-      here = ap (targetBits marked place) (jumped .same ∙ ap (λ (x : ℕ). x ∷ leftOf body d) (sym f)) ∙ targets-more marked place t (leftOf body d)
+    here : targetBits marked place (leftOf body c) ≡ targetBit marked place target ++ targetBits marked place (leftOf body d)
+    here = ap (targetBits marked place) (jumped .same) ∙ targets-more marked place target (leftOf body d)
 
-      pub body-ready : Ready out pen (targetBit marked place t)
-      body-ready = owed-first (k .owed) (targetBit marked place t) (targetBits marked place (leftOf body d)) here
+    pub body-ready : Ready out pen (targetBit marked place target)
+    body-ready = owed-first (k .owed) (targetBit marked place target) (targetBits marked place (leftOf body d)) here
 
-      pub body-turn : {q : Pen} {after : List ℕ} → record { pen = q; out = after } ≡ drawn out pen (targetBit marked place t) → PuttingBody marked place body out₀ pen₀ after q d
-      body-turn g = record { owed = owed-turn (k .owed) (targetBit marked place t) (targetBits marked place (leftOf body d)) here (target-are marked place t) g }
+    pub body-turn : {q : Pen} {after : List ℕ} → record { pen = q; out = after } ≡ drawn out pen (targetBit marked place target) → PuttingBody marked place body out₀ pen₀ after q d
+    body-turn g = record { owed = owed-turn (k .owed) (targetBit marked place target) (targetBits marked place (leftOf body d)) here (target-are marked place target) g }
 
   pub body-end : r ≡ None → record { pen = pen; out = out } ≡ drawn out₀ pen₀ (targetBits marked place (lowJumps body))
   body-end is = owed-end (k .owed) (ap (targetBits marked place) (subst (NextIs body c) is next) ∙ targets-none marked place)

@@ -1,12 +1,14 @@
 -- The whole report: from what was marked, counted and written to the definition.
 -- Assumes nothing.
 use Prim.Native.Nat.{ℕ, _+_, _*_, _/_, _≤_, _<_}
-use mathlib.Core.Path.{_≡_, refl, sym, ap, _∙_, subst}
-use mathlib.Core.List.{List, [], _∷_, _++_, map, append-nil}
+use mathlib.Core.Path.{_≡_, sym, ap, _∙_, subst}
+use mathlib.Core.Bool.{Bool, _&&_}
+use mathlib.Core.List.{List, [], map, append-nil}
 use native.Mathlib.Omega.{arith}
-use lib.ListN.{length}
+use lib.ListN.{length, replicate}
+use borrow.Author.Tests.{lt-ltb}
 use Rattle.base_refusals.specs.Numbers.{Numbered, tooManyLines, targetTooHigh, noRoom}
-use Rattle.base_refusals.specs.Answer.{Answer, done, refused, mapDone, numbered}
+use Rattle.base_refusals.specs.Answer.{done, refused, mapDone, numbered}
 use Rattle.base_refusals.specs.declared.Refusal.{Refusal}
 use Rattle.base_lent.specs.Lent.{Lent, intoBuffer}
 use Rattle.base_lent.specs.Stores.{Room, Put, HasRoom}
@@ -14,8 +16,14 @@ use Rattle.base_lent.proofs.Outcomes.{into-refused, into-none, into-done}
 use Rattle.image_readers.specs.declared.Checked.{Checked}
 use Rattle.image_readers.specs.declared.Checked.the-variants.{Image, Refused as RefusedImage}
 use Rattle.image_readers.specs.Answers.{checkedAnswer}
+use Rattle.image_readers.specs.IndexLines.{indexLine, hasLine}
+use Rattle.image_readers.specs.Lined.{Lined, linedFrom}
 use Rattle.image_readers.specs.Lines.{overview}
 use Rattle.image_readers.specs.Links.{linkStep}
+use Rattle.image_readers.proofs.ByLinks.{link-sound}
+use Rattle.image_readers.proofs.Lined.{accepted}
+use Rattle.image_marks.specs.Marks.{lineMarks, hasMark}
+use Rattle.image_marks.proofs.Numbers.{numbers-marked}
 use Rattle.base_bits.specs.Bits.{packFrom, packed}
 use Rattle.base_bits.specs.PenHelpers.{Ready, drawn}
 use Rattle.base_bits.specs.declared.Pen.{Pen}
@@ -23,10 +31,10 @@ use Rattle.base_bits.proofs.Bytes.{pack-length}
 use Rattle.base_bits.proofs.Pens.{ready-behind, put-behind}
 use Rattle.image_index.specs.declared.Counted.{Counted}
 use Rattle.image_index.specs.declared.Counted.the-variants.{TooHigh, Jumps}
-use Rattle.image_index.specs.Index.{LineIndex, indexLine, indexed, jumpFields, withoutLine, jumpReport}
-use Rattle.image_index.specs.IndexHelpers.{foundFrom, Sound, lowTargets, CountedIs, jumpBits, Faultless, NumbersMarked}
+use Rattle.image_index.specs.Index.{LineIndex, indexed, jumpFields, withoutLine, jumpReport}
+use Rattle.image_index.specs.IndexHelpers.{foundFrom, lowTargets, CountedIs, jumpBits, Faultless, NumbersMarked}
 use Rattle.image_index.proofs.Putting.{jumps-are}
-use Rattle.image_index.proofs.Whole.{IndexedIs, too-many, too-high, indexed-is, check-faultless, checked-refused}
+use Rattle.image_index.proofs.Whole.{too-many, too-high, indexed-is, check-faultless, checked-refused}
 
 -- ---- all of a report
 
@@ -98,8 +106,14 @@ module _ (out : List ℕ) {s : List ℕ} {n : ℕ} (k : Faultless s n) where
 -- ---- from the check of an image
 
 module _ (s : List ℕ) {r : Checked} (e : checkedAnswer r ≡ overview linkStep s) where
-  pub check-sound : {load n : ℕ} → r ≡ Image load n → Sound s 2
-  check-sound is = check-faultless s e is .sound
+  pub check-marked : {load n : ℕ} {marked : List ℕ} → r ≡ Image load n → marked ≡ lineMarks (replicate 65536 0) (linedFrom linkStep s 2 .lines)
+      → NumbersMarked (map indexLine (foundFrom s 2)) marked
+  check-marked is m =
+      let lines = ap (λ (x : Lined). lineMarks (replicate 65536 0) (x .lines)) (accepted link-sound s (check-faultless s e is .sound)) in
+      record {
+        tells = λ t h. let low : t < 65536 = omega arith in
+            ap (λ (x : List ℕ). hasMark x t) (m ∙ lines) ∙ numbers-marked (foundFrom s 2) t ∙ ap (λ (b : Bool). b && hasLine (map indexLine (foundFrom s 2)) t) (lt-ltb t 65536 low);
+      }
 
   pub report-unread : (out : List ℕ) {f : Refusal} → r ≡ RefusedImage f
       → _≡_ {A = Lent} (record { answer = refused (numbered f); buffer = out }) (intoBuffer (jumpReport s) out)

@@ -1,14 +1,14 @@
 -- The whole index: from what was counted and written to the definition.
 -- Assumes nothing.
-use Prim.Native.Nat.{ℕ, _+_, _-_, _*_, _/_, _≤_, _<_, min}
+use Prim.Native.Nat.{ℕ, _+_, _-_, _*_, _/_, _≤_, _<_}
 use mathlib.Core.Path.{_≡_, refl, sym, ap, _∙_, subst}
-use mathlib.Core.Bool.{Bool, true, false, cond, not, _||_}
+use mathlib.Core.Bool.{Bool, true, false, cond, _||_}
 use mathlib.Core.List.{List, [], _∷_, _++_, map, map-append, append-assoc}
 use native.Mathlib.Omega.{arith}
 use mir.Syntax.{w64}
 use mir.Val.{Fits}
-use lib.Dec.{eqb, ltb}
-use lib.ListN.{length, getD, length-append, length-map}
+use lib.Dec.{ltb}
+use lib.ListN.{length, length-append, length-map}
 use borrow.Author.Tests.{lt-ltb, le-ltb, ltb-true, ltb-false}
 use Rattle.base_refusals.specs.Numbers.{Numbered, tooManyLines, targetTooHigh, noRoom}
 use Rattle.base_refusals.specs.Answer.{Answer, done, refused, mapDone, andThen, numbered}
@@ -22,19 +22,20 @@ use Rattle.image_readers.specs.declared.Checked.the-variants.{Image, Refused as
 use Rattle.image_readers.specs.Answers.{checkedAnswer}
 use Rattle.image_readers.specs.Bodies.{bodyOf}
 use Rattle.image_readers.specs.Chain.{Leads}
-use Rattle.image_readers.specs.Lines.{Overview, linesFrom, linesOf, overviewOf, overview}
+use Rattle.image_readers.specs.Lines.{Overview, linesOf, overviewOf, overview}
 use Rattle.image_readers.specs.Links.{linkStep}
 use Rattle.image_readers.proofs.ByLinks.{link-sound}
 use Rattle.image_readers.proofs.Finding.{told-checked}
 use Rattle.image_readers.proofs.Reading.{lines-lead, overview-lines, overview-refused}
-use Rattle.image_jumps.specs.Jumps.{jumpsOf}
-use Rattle.image_jumps.specs.JumpHelpers.{low}
-use Rattle.base_bits.specs.Bits.{Field, field, bitsOf, fieldBits, packFrom, packed}
+use Rattle.image_marks.specs.Marks.{hasMark}
+use Rattle.image_jumps.specs.Jumps.{jumpsOf, low}
+use Rattle.base_bits.specs.Bits.{Field, bitsOf, fieldBits, packFrom, packed}
 use Rattle.base_bits.proofs.Bytes.{length-bits, pack-length}
 use Rattle.image_index.specs.declared.Counted.{Counted}
 use Rattle.image_index.specs.declared.Counted.the-variants.{TooHigh, Jumps}
-use Rattle.image_index.specs.Index.{IndexLine, IndexJump, LineIndex, indexLine, jumpTo, jumpsIn, anyTooHigh, indexLines, indexed, lineFields, jumpFields, indexFields, lineIndex, hasLine, withoutLine}
-use Rattle.image_index.specs.IndexHelpers.{linesListed, foundFrom, Sound, lowJumps, lowTargets, targetsCounted, AtMost, CountedIs, pairBits, lineBits, targetBit, targetBits, jumpBits, indexBits, Faultless, NumbersMarked}
+use Rattle.image_readers.specs.IndexLines.{IndexLine, indexLine, hasLine}
+use Rattle.image_index.specs.Index.{IndexJump, LineIndex, jumpTo, jumpsIn, anyTooHigh, indexLines, indexed, lineFields, jumpFields, indexFields, lineIndex, withoutLine}
+use Rattle.image_index.specs.IndexHelpers.{linesListed, foundFrom, lowJumps, lowTargets, targetsCounted, AtMost, CountedIs, pairBits, lineBits, targetBit, targetBits, jumpBits, indexBits, Faultless, NumbersMarked}
 
 -- ---- the jumps, one by one
 
@@ -62,21 +63,21 @@ unfolding targetsCounted anyTooHigh targetLow withoutLine
 counts k n [] = ap Jumps (omega arith)
 counts {lines} {marked} k n (j ∷ js) = go (ltb 65535 (j .target)) refl (λ (m : ℕ). counts k m js)
   where
-    size : (b : Bool) → n + cond (not b) 1 0 + length (withoutLine lines js) ≡ n + length {A = IndexJump} (elim b [ true ↦ withoutLine lines js | false ↦ j ∷ withoutLine lines js ])
+    size : (b : Bool) → n + cond b 0 1 + length (withoutLine lines js) ≡ n + length {A = IndexJump} (elim b [ true ↦ withoutLine lines js | false ↦ j ∷ withoutLine lines js ])
     size true = omega arith
     size false = omega arith
 
-    turn : (b : Bool) → eqb (getD marked (j .target) 0) 0 ≡ not b
+    turn : (b : Bool) → hasMark marked (j .target) ≡ b
         → ((m : ℕ) → targetsCounted marked m (map targetLow js) ≡ cond (anyTooHigh js) TooHigh (Jumps (m + length (withoutLine lines js))))
-        → targetsCounted marked (n + cond (eqb (getD marked (j .target) 0) 0) 1 0) (map targetLow js)
+        → targetsCounted marked (n + cond (hasMark marked (j .target)) 0 1) (map targetLow js)
         ≡ cond (anyTooHigh js) TooHigh (Jumps (n + length {A = IndexJump} (elim b [ true ↦ withoutLine lines js | false ↦ j ∷ withoutLine lines js ])))
     turn b f ih =
-        ap (λ (x : Bool). targetsCounted marked (n + cond x 1 0) (map targetLow js)) f ∙ ih (n + cond (not b) 1 0)
+        ap (λ (x : Bool). targetsCounted marked (n + cond x 0 1) (map targetLow js)) f ∙ ih (n + cond b 0 1)
         ∙ ap (λ (m : ℕ). cond (anyTooHigh js) TooHigh (Jumps m)) (size b)
 
     go : (b : Bool) → ltb 65535 (j .target) ≡ b
         → ((m : ℕ) → targetsCounted marked m (map targetLow js) ≡ cond (anyTooHigh js) TooHigh (Jumps (m + length (withoutLine lines js))))
-        → cond (ltb 65535 (low (j .target))) TooHigh (targetsCounted marked (n + cond (eqb (getD marked (low (j .target)) 0) 0) 1 0) (map targetLow js))
+        → cond (ltb 65535 (low (j .target))) TooHigh (targetsCounted marked (n + cond (hasMark marked (low (j .target))) 0 1) (map targetLow js))
         ≡ cond (ltb 65535 (j .target) || anyTooHigh js) TooHigh (Jumps (n + length (withoutLine lines (j ∷ js))))
     go true e ih =
         let h : 65535 < low (j .target) = omega (arith, ltb-true 65535 (j .target) e) in
@@ -86,7 +87,7 @@ counts {lines} {marked} k n (j ∷ js) = go (ltb 65535 (j .target)) refl (λ (m 
         let h : low (j .target) ≤ 65535 = omega arith in
         let w : low (j .target) ≡ j .target = omega arith in
         simp (le-ltb _ _ h, e) (
-        ap (λ (t : ℕ). targetsCounted marked (n + cond (eqb (getD marked t 0) 0) 1 0) (map targetLow js)) w
+        ap (λ (t : ℕ). targetsCounted marked (n + cond (hasMark marked t) 0 1) (map targetLow js)) w
         ∙ turn (hasLine lines (j .target)) (k .tells (j .target) g) ih)
 
 -- where no number is marked, all jumps are meant
@@ -131,7 +132,7 @@ each-bits {lines} {marked} k (j ∷ js) e = go (ltb 65535 (j .target)) refl e (e
     rest : List IndexJump
     rest = withoutLine lines js
 
-    kept : (b : Bool) → eqb (getD marked (j .target) 0) 0 ≡ not b
+    kept : (b : Bool) → hasMark marked (j .target) ≡ b
         → targetBit marked (j .place) (j .target) ++ fieldBits (jumpFields rest) ≡ fieldBits (jumpFields (elim b [ true ↦ rest | false ↦ j ∷ rest ]))
     kept true f = simp f
     kept false f = simp f (append-assoc (bitsOf 13 (j .place)) (bitsOf 16 (j .target)) (fieldBits (jumpFields rest)))

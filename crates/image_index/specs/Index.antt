@@ -2,24 +2,20 @@
 -- per jump 13 bits of its line's place from 1 and 16 bits of target number, fields packed most significant bit first, with zero bits to
 -- the last byte's end"), and the report ("A report packs each jump with no target alike, in image order").
 -- Assumes nothing.
-use Prim.Native.Nat.{ℕ, _+_, _-_}
+use Prim.Native.Nat.{ℕ, _+_}
 use mathlib.Core.Bool.{Bool, true, false, cond, _||_}
 use mathlib.Core.List.{List, [], _∷_, _++_, map}
-use lib.Dec.{eqb, ltb}
+use lib.Dec.{ltb}
 use lib.ListN.{length}
 use Rattle.base_refusals.specs.Answer.{Answer, done, refused, mapDone, andThen}
 use Rattle.base_refusals.specs.Numbers.{tooManyLines, targetTooHigh}
 use Rattle.image_readers.specs.declared.Line.{Line}
 use Rattle.image_readers.specs.Bodies.{bodyOf}
+use Rattle.image_readers.specs.IndexLines.{IndexLine, indexLine, hasLine}
 use Rattle.image_readers.specs.Lines.{linesFrom, linesOf}
 use Rattle.image_readers.specs.Links.{linkStep}
 use Rattle.image_jumps.specs.Jumps.{jumpsFrom, jumpsOf}
 use Rattle.base_bits.specs.Bits.{Field, field, packed}
-
--- a line of an index: its number, and the offset of its own link
-pub record IndexLine : Type 0 where
-  pub number : ℕ
-  pub offset : ℕ
 
 -- a jump: its line's place from 1, and its target
 pub record IndexJump : Type 0 where
@@ -29,10 +25,6 @@ pub record IndexJump : Type 0 where
 pub record LineIndex : Type 0 where
   pub lines : List IndexLine
   pub jumps : List IndexJump
-
--- link and number stand before a body
-abbrev pub indexLine : Line → IndexLine
-indexLine l = record { number = l .number; offset = l .from - 4 }
 
 abbrev pub jumpTo : ℕ → ℕ → IndexJump
 jumpTo place target = record { place = place; target = target }
@@ -80,11 +72,6 @@ unfolding indexed indexFields packed
 lineIndex s = mapDone (λ x. packed (indexFields x)) (indexed s)
 
 -- ---- the report
-
--- a line has this number
-unfoldable pub hasLine : List IndexLine → ℕ → Bool
-hasLine [] n = false
-hasLine (l ∷ ls) n = eqb (l .number) n || hasLine ls n
 
 -- the jumps whose target no line has
 unfoldable pub withoutLine : List IndexLine → List IndexJump → List IndexJump

@@ -1,21 +1,21 @@
--- What the contracts of the passes over an image say. Targets are cut at 65536, as the steps over a body tell them. The report leaves
+-- What the contracts of the passes over an image say. Targets are cut, as the steps over a body tell them. The report leaves
 -- out the jumps to marked numbers; the index leaves out none, since nothing is marked.
 -- Assumes nothing.
 use Prim.Native.Nat.{ℕ, _+_, _-_, _≤_}
 use mathlib.Core.Path.{_≡_}
-use mathlib.Core.Bool.{cond, not}
+use mathlib.Core.Bool.{cond}
 use mathlib.Core.List.{List, [], _∷_, _++_, map}
-use lib.Dec.{eqb, ltb}
-use lib.ListN.{length, getD}
+use lib.Dec.{ltb}
+use lib.ListN.{length}
 use Rattle.base_refusals.specs.Answer.{Answer, done, refused}
 use Rattle.image_readers.specs.declared.Line.{Line}
 use Rattle.image_readers.specs.Bodies.{bodyOf}
 use Rattle.image_readers.specs.Lines.{linesFrom}
 use Rattle.image_readers.specs.Links.{linkStep}
-use Rattle.image_jumps.specs.Jumps.{jumpsFrom, jumpsOf}
-use Rattle.image_jumps.specs.JumpHelpers.{low}
+use Rattle.image_marks.specs.Marks.{hasMark}
+use Rattle.image_jumps.specs.Jumps.{jumpsFrom, jumpsOf, low}
 use Rattle.base_bits.specs.Bits.{bitsOf}
-use Rattle.image_index.specs.Index.{IndexLine, hasLine}
+use Rattle.image_readers.specs.IndexLines.{IndexLine, hasLine}
 use Rattle.image_index.specs.declared.Counted.{Counted}
 use Rattle.image_index.specs.declared.Counted.the-variants.{TooHigh, Jumps}
 
@@ -43,12 +43,12 @@ lowTargets s (l ∷ ls) = lowJumps (bodyOf s l) ++ lowTargets s ls
 
 -- the marks are at the numbers up to 65535 that lines have
 pub record NumbersMarked (lines : List IndexLine) (marked : List ℕ) : Type 0 where
-  pub tells : (t : ℕ) → t ≤ 65535 → eqb (getD marked t 0) 0 ≡ not (hasLine lines t)
+  pub tells : (t : ℕ) → t ≤ 65535 → hasMark marked t ≡ hasLine lines t
 
 -- how many of the targets are not marked, behind n of them, unless one is too high
 unfoldable pub targetsCounted : List ℕ → ℕ → List ℕ → Counted
 targetsCounted marked n [] = Jumps n
-targetsCounted marked n (t ∷ ts) = cond (ltb 65535 t) TooHigh (targetsCounted marked (n + cond (eqb (getD marked t 0) 0) 1 0) ts)
+targetsCounted marked n (t ∷ ts) = cond (ltb 65535 t) TooHigh (targetsCounted marked (n + cond (hasMark marked t) 0 1) ts)
 
 -- so many, and no more than a count
 abbrev pub AtMost : ℕ → Counted → Type 0
@@ -72,7 +72,7 @@ lineBits (l ∷ ls) = pairBits 16 (l .number) (l .from - 4) ++ lineBits ls
 -- the bits of a jump, unless its target is marked
 unfoldable pub targetBit : List ℕ → ℕ → ℕ → List ℕ
 unfolding bitsOf
-targetBit marked place t = cond (eqb (getD marked t 0) 0) (pairBits 13 place t) []
+targetBit marked place t = cond (hasMark marked t) [] (pairBits 13 place t)
 
 -- those of a line's jumps
 unfoldable pub targetBits : List ℕ → ℕ → List ℕ → List ℕ

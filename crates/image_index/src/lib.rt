@@ -1,20 +1,18 @@
 // A line index beside an image, and a report of its jumps with no target.
 ghost use mathlib.Core.Path.{_≡_};
-ghost use Prim.Native.Nat.{_+_, _*_, _≤_, min};
-ghost use mathlib.Core.Bool.{cond};
-ghost use lib.Dec.{eqb};
-ghost use lib.ListN.{length, getD};
+ghost use Prim.Native.Nat.{_+_, _*_, _≤_};
+ghost use lib.ListN.{length};
 ghost use Rattle.base_lent.specs.Lent.{intoBuffer, left};
 ghost use Rattle.base_lent.specs.Stores.{Room, Put};
 ghost use Rattle.base_bits.specs.Bits.{packFrom};
-ghost use mathlib.Core.List.{[], map};
-ghost use Rattle.image_index.specs.Index.{indexLine, lineIndex, jumpReport};
+ghost use mathlib.Core.List.{map};
+ghost use Rattle.image_readers.specs.IndexLines.{indexLine};
+ghost use Rattle.image_index.specs.Index.{lineIndex, jumpReport};
 ghost use Rattle.base_bits.specs.PenHelpers.{Ready, drawn};
 ghost use Rattle.image_index.specs.IndexHelpers.{Sound, foundFrom, lowJumps, lowTargets, CountedIs, pairBits, lineBits, targetBit, targetBits, jumpBits, indexBits, Faultless, NumbersMarked};
 use base_bits::Pen;
 use base_lent::Outcome;
 use base_refusals::Refusal;
-use image_jumps::Cursor;
 use image_jumps::Next;
 use image_readers::Checked;
 use image_readers::Step;
@@ -74,34 +72,10 @@ pub fn write_report(image: &[u8], out: &mut [u8]) -> Outcome
     match links::check(image) {
         Checked::Image { load: _, lines } => {
             let mut marked = [0u8; 65536];
-            mark_lines(image, &mut marked);
+            image_marks::mark_numbers(image, &mut marked);
             report_lines(image, out, lines, &marked)
         }
         Checked::Refused(refusal) => Outcome::Refused(refusal),
-    }
-}
-
-// Marks the lines' numbers.
-fn mark_lines(image: &[u8], marked: &mut [u8])
-    requires { ⌜ Sound (now image) 2 × (length (now marked) ≡ 65536) × NumbersMarked [] (now marked) ⌝ }
-    ensures { λ r. ⌜ NumbersMarked (map indexLine (foundFrom (now (image .entry)) 2)) (now (marked .exit)) ⌝ }
-{
-    let mut offset: usize = 2;
-    loop {
-        match links::step(image, offset) {
-            Step::Found(line) => {
-                let number = line.number as usize;
-                marked[number] = 1;
-                offset = line.next;
-            }
-            Step::End => {
-                return;
-            }
-            // An image without a fault is refused nowhere.
-            Step::Refused(_) => {
-                return;
-            }
-        }
     }
 }
 
@@ -150,7 +124,9 @@ fn count_body(body: &[u8], marked: &[u8], n: usize) -> Counted
                 if target > 65535 {
                     return Counted::TooHigh;
                 }
-                n += unmarked(marked, target);
+                if !image_marks::has_mark(marked, target) {
+                    n += 1;
+                }
                 cursor = behind;
             }
             Next::None => {
@@ -158,19 +134,6 @@ fn count_body(body: &[u8], marked: &[u8], n: usize) -> Counted
             }
         }
     }
-}
-
-// 1 where a number is not marked, 0 where it is.
-fn unmarked(marked: &[u8], target: usize) -> usize
-    ensures { λ r. ⌜ (r ≡ cond (eqb (getD (now (marked .entry)) target 0) 0) 1 0) × (r ≤ 1) ⌝ }
-{
-    if target < marked.len() {
-        if marked[target] == 0 {
-            return 1;
-        }
-        return 0;
-    }
-    1
 }
 
 // The jumps of an image without a fault, to numbers that are not marked.
@@ -246,17 +209,10 @@ fn put_jump(out: &mut [u8], pen: Pen, place: usize, target: usize, marked: &[u8]
     requires { ⌜ Ready (now out) pen (targetBit (now marked) place target) ⌝ }
     ensures { λ r. ⌜ record { pen = r; out = now (out .exit) } ≡ drawn (now (out .entry)) pen (targetBit (now (marked .entry)) place target) ⌝ }
 {
-    if unmarked(marked, target) == 1 {
-        return put_pair(out, pen, 13, place, target);
+    if image_marks::has_mark(marked, target) {
+        return pen;
     }
-    pen
-}
-
-// A target, cut at 65536.
-fn cut(target: usize) -> usize
-    ensures { λ r. ⌜ r ≡ min target 65536 ⌝ }
-{
-    if target > 65536 { 65536 } else { target }
+    put_pair(out, pen, 13, place, target)
 }
 
 // The jumps of a body.
@@ -273,7 +229,7 @@ fn put_body(out: &mut [u8], pen: Pen, place: usize, body: &[u8], marked: &[u8]) 
                 cursor: behind,
             } => {
                 cursor = behind;
-                pen = put_jump(out, pen, place, cut(target), marked);
+                pen = put_jump(out, pen, place, target, marked);
             }
             Next::None => {
                 return pen;

@@ -10,7 +10,8 @@ use lib.Seq.{drop-drop, take-at, drop-at}
 use Rattle.base_bits.specs.Bits.{Field, field, bitsOf, fieldBits, bytesBits, numberFrom, fieldAt, packed}
 use Rattle.base_bits.proofs.Bytes.{Padded, packed-back, length-bits}
 use Rattle.base_bits.proofs.Reading.{number-bits, length-bytes}
-use Rattle.image_index.specs.Index.{IndexLine, IndexJump, LineIndex, lineFields, jumpFields, indexFields}
+use Rattle.image_readers.specs.IndexLines.{IndexLine}
+use Rattle.image_index.specs.Index.{IndexJump, LineIndex, lineFields, jumpFields, indexFields}
 use Rattle.image_index_entries.specs.declared.Held.{Held}
 use Rattle.image_index_entries.specs.Entries.{Two, twoAt, pairsRead, countHeld, linePairs, jumpPairs, lineOf, jumpOf, linesHeld, jumpsHeld, firstLine, lookUp}
 

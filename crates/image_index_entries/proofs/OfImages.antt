@@ -19,7 +19,8 @@ use Rattle.image_readers.proofs.ByLinks.{link-sound}
 use Rattle.image_readers.proofs.Reading.{lines-lead}
 use Rattle.image_jumps.specs.Jumps.{jumpsOf}
 use Rattle.base_bits.specs.Bits.{packed}
-use Rattle.image_index.specs.Index.{IndexLine, IndexJump, LineIndex, indexLine, jumpTo, jumpsIn, anyTooHigh, indexLines, indexed, indexFields}
+use Rattle.image_readers.specs.IndexLines.{IndexLine, indexLine}
+use Rattle.image_index.specs.Index.{IndexJump, LineIndex, jumpTo, jumpsIn, anyTooHigh, indexLines, indexed, indexFields}
 use Rattle.image_index.proofs.Fitting.{offset-fits, number-fits}
 use Rattle.image_index_entries.specs.Entries.{Two, linesHeld, jumpsHeld, firstLine, lookUp}
 use Rattle.image_index_entries.proofs.Back.{Fit, Fits, lineTwo, jumpTwo, lines-back, jumps-back, look-up-searches}

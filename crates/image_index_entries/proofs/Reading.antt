@@ -13,7 +13,7 @@ use borrow.Author.Tests.{eq-eqb, ne-eqb}
 use Rattle.base_bits.specs.Bits.{bitsOf, bytesBits, numberFrom, fieldAt}
 use Rattle.base_bits.proofs.Bytes.{length-bits}
 use Rattle.base_bits.proofs.Reading.{number-bits}
-use Rattle.image_index.specs.Index.{IndexLine}
+use Rattle.image_readers.specs.IndexLines.{IndexLine}
 use Rattle.image_index_entries.specs.declared.Held.{Held}
 use Rattle.image_index_entries.specs.declared.Held.the-variants.{Nothing, Numbers}
 use Rattle.image_index_entries.specs.Entries.{Two, twoAt, lineOf, pairsRead, countHeld, linePairs, jumpPairs, entryIn, linesHeld, firstLine, lookUp}

@@ -7,7 +7,8 @@ use mathlib.Core.List.{List, [], _∷_, map}
 use lib.Dec.{eqb}
 use lib.ListN.{length}
 use Rattle.base_bits.specs.Bits.{fieldAt}
-use Rattle.image_index.specs.Index.{IndexLine, IndexJump}
+use Rattle.image_readers.specs.IndexLines.{IndexLine}
+use Rattle.image_index.specs.Index.{IndexJump}
 use Rattle.image_index_entries.specs.declared.Held.{Held}
 use Rattle.image_index_entries.specs.declared.Held.the-variants.{Nothing, Numbers}
 use Rattle.image_index_entries.specs.declared.Kind.{Kind}

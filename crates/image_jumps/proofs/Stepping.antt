@@ -1,6 +1,6 @@
 -- The steps over a body: one byte of a list, one unit of the text, and the loop over them.
 -- Assumes nothing.
-use Prim.Native.Nat.{ℕ, _+_, _-_, _*_, _≤_, _<_, min}
+use Prim.Native.Nat.{ℕ, _+_, _-_, _*_, _≤_, _<_}
 use mathlib.Core.Path.{_≡_, refl, sym, ap, _∙_}
 use mathlib.Core.Bool.{Bool, true, false, cond}
 use mathlib.Core.List.{List, [], _∷_, _++_, map, map-append, append-nil}
@@ -24,8 +24,8 @@ use Rattle.image_jumps.specs.declared.Cursor.{Cursor}
 use Rattle.image_jumps.specs.declared.Moved.{Moved}
 use Rattle.image_jumps.specs.declared.Next.{Next}
 use Rattle.image_jumps.specs.declared.Next.the-variants.{Jump, None}
-use Rattle.image_jumps.specs.Jumps.{withDigit, jumpTold, targetsFrom, openedList, heeded, jumpsFrom}
-use Rattle.image_jumps.specs.JumpHelpers.{low, lowPart, leftFrom, leftOf, distance, Moves, JumpsTo, NextIs, Begins}
+use Rattle.image_jumps.specs.Jumps.{withDigit, jumpTold, targetsFrom, openedList, heeded, jumpsFrom, low}
+use Rattle.image_jumps.specs.JumpHelpers.{lowPart, leftFrom, leftOf, distance, Moves, JumpsTo, NextIs, Begins}
 use Rattle.image_jumps.proofs.Targets.{targets-none, targets-digit, targets-space, targets-comma, targets-other, low-early}
 use Rattle.image_jumps.proofs.Walking.{Inert, jumps-none, jumps-more, jumps-pass}
 
@@ -38,11 +38,8 @@ module _ {part : Part} {v : ℕ} (d : ℕ) (e : part ≡ Worth v) where
   pub digit-cut : 6553 < v → Worth 65536 ≡ lowPart (withDigit part d)
   digit-cut h = rw e (ap Worth (omega arith))
 
-  pub digit-over : 65536 < v * 10 + d → Worth 65536 ≡ lowPart (withDigit part d)
-  digit-over h = rw e (ap Worth (omega arith))
-
-  pub digit-kept : v * 10 + d ≤ 65536 → Worth (v * 10 + d) ≡ lowPart (withDigit part d)
-  digit-kept h = rw e (ap Worth (omega arith))
+  pub digit-more : {n : ℕ} → n ≡ low (v * 10 + d) → Worth n ≡ lowPart (withDigit part d)
+  digit-more is = rw e (ap Worth is)
 
 pub digit-low : (b : ℕ) {r : Bool} → r ≡ isDigit b → r ≡ true → 48 ≤ b
 digit-low b e t = between-in 48 57 b (sym e ∙ t) .0
@@ -227,9 +224,12 @@ module _ {body : List ℕ} {c₀ c : Cursor} (o : Onwards body c₀ c) {m : Move
   onwards-turn e =
       record { same = o .same ∙ k .same ∙ ap (λ (p : Part). jumpTold (lowPart p) (leftOf body (m .cursor))) e; near = omega (arith, o .near, k .nearer) }
 
-  pub next-told : {target : ℕ} → m .told ≡ Worth target → JumpsTo body c₀ target (m .cursor)
-  next-told e =
-      record { same = o .same ∙ k .same ∙ ap (λ (p : Part). jumpTold (lowPart p) (leftOf body (m .cursor))) e; nearer = omega (arith, o .near, k .nearer) }
+  pub next-told : {target t : ℕ} → m .told ≡ Worth target → t ≡ low target → JumpsTo body c₀ t (m .cursor)
+  next-told e is =
+      record {
+        same = o .same ∙ k .same ∙ ap (λ (p : Part). jumpTold (lowPart p) (leftOf body (m .cursor))) e ∙ rw is;
+        nearer = omega (arith, o .near, k .nearer);
+      }
 
 pub next-last : {body : List ℕ} {c₀ c : Cursor} → Onwards body c₀ c → (r : Next) → NextIs body c r → NextIs body c₀ r
 next-last o (Jump target d) k = record { same = o .same ∙ k .same; nearer = omega (arith, o .near, k .nearer) }
@@ -250,13 +250,13 @@ module _ (body : List ℕ) (c : Cursor) (h : length body ≤ c .at) where
   pub last-empty : c .listed ≡ true → c .part ≡ Empty → leftOf body c ≡ []
   last-empty e f = last-list e ∙ ap (λ (p : Part). jumpTold (lowPart p) []) f
 
-  pub last-worth : c .listed ≡ true → {target : ℕ} → c .part ≡ Worth target
-      → JumpsTo body c target (record { at = c .at; mode = c .mode; listed = false; part = Empty })
-  last-worth e {target} f =
+  pub last-worth : c .listed ≡ true → {target t : ℕ} → c .part ≡ Worth target → t ≡ low target
+      → JumpsTo body c t (record { at = c .at; mode = c .mode; listed = false; part = Empty })
+  last-worth e {t = t} f is =
       record {
         same =
-            last-list e ∙ ap (λ (p : Part). jumpTold (lowPart p) []) f
-            ∙ ap (λ (x : List ℕ). low target ∷ x) (sym (left-text body d refl ∙ ap (λ (x : List ℕ). cut (jumpsFrom (c .mode) x)) (drop-of-length-le body h) ∙ ap cut (jumps-none (c .mode))));
+            last-list e ∙ ap (λ (p : Part). jumpTold (lowPart p) []) f ∙ ap (λ (n : ℕ). n ∷ []) (sym is)
+            ∙ ap (λ (x : List ℕ). t ∷ x) (sym (left-text body d refl ∙ ap (λ (x : List ℕ). cut (jumpsFrom (c .mode) x)) (drop-of-length-le body h) ∙ ap cut (jumps-none (c .mode))));
         nearer = let z : _≡_ {A = ℕ} (cond (c .listed) 1 0) 1 = ap (λ (t : Bool). cond t 1 0) e in omega arith;
       }
     where

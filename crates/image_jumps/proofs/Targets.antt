@@ -11,8 +11,8 @@ use Rattle.base_ascii.specs.Bytes.{between, isDigit}
 use Rattle.base_ascii.proofs.Ranges.{between-in}
 use Rattle.image_jumps.specs.declared.Part.{Part}
 use Rattle.image_jumps.specs.declared.Part.the-variants.{Empty, Worth}
-use Rattle.image_jumps.specs.Jumps.{withDigit, jumpTold, targetsFrom}
-use Rattle.image_jumps.specs.JumpHelpers.{low, lowPart}
+use Rattle.image_jumps.specs.Jumps.{withDigit, jumpTold, targetsFrom, low}
+use Rattle.image_jumps.specs.JumpHelpers.{lowPart}
 
 pub targets-none : (p : Part) → targetsFrom p [] ≡ jumpTold p []
 unfolding targetsFrom

@@ -1,7 +1,6 @@
--- What the contracts of the steps over a body say: what is left of its jumps at a place. Targets are cut at 65536, so that any number of
--- digits can be read. No 16 bits hold 65536, so a caller knows a target that was cut.
+-- What the contracts of the steps over a body say: what is left of its jumps at a place, targets cut.
 -- Assumes nothing.
-use Prim.Native.Nat.{ℕ, _+_, _*_, _-_, _≤_, _<_, min}
+use Prim.Native.Nat.{ℕ, _+_, _*_, _-_, _<_}
 use mathlib.Core.Path.{_≡_}
 use mathlib.Core.Bool.{Bool, true, false, cond}
 use mathlib.Core.List.{List, [], _∷_, _++_, map}
@@ -17,11 +16,7 @@ use Rattle.image_jumps.specs.declared.Next.the-variants.{Jump, None}
 use Rattle.image_jumps.specs.declared.Opened.{Opened}
 use Rattle.image_jumps.specs.declared.Opened.the-variants.{List as ListAt, Nothing}
 use Rattle.base_ascii.specs.Search.{equals, past}
-use Rattle.image_jumps.specs.Jumps.{behindTo, jumpTold, targetsFrom, openedList, jumpsFrom}
-
--- a target, cut
-abbrev pub low : ℕ → ℕ
-low v = min v 65536
+use Rattle.image_jumps.specs.Jumps.{behindTo, jumpTold, targetsFrom, openedList, jumpsFrom, low}
 
 abbrev pub lowPart : Part → Part
 lowPart Empty = Empty
@@ -48,7 +43,7 @@ pub record Moves (body : List ℕ) (c : Cursor) (r : Moved) : Type 0 where
 
 -- a jump, and what is left behind it, nearer to the end
 pub record JumpsTo (body : List ℕ) (c : Cursor) (target : ℕ) (d : Cursor) : Type 0 where
-  pub same : leftOf body c ≡ low target ∷ leftOf body d
+  pub same : leftOf body c ≡ target ∷ leftOf body d
   pub nearer : distance body d < distance body c
 
 -- the next jump

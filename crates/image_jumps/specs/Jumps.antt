@@ -2,7 +2,7 @@
 -- unquoted, outside remarks, DATA and 64 pairs count; spaces are skipped, even inside a number, an empty place gives no jump, and the
 -- first other byte ends the list").
 -- Assumes nothing.
-use Prim.Native.Nat.{ℕ, suc, _+_, _-_, _*_}
+use Prim.Native.Nat.{ℕ, suc, _+_, _-_, _*_, min}
 use mathlib.Core.Bool.{true, false, cond, _||_}
 use mathlib.Core.List.{List, [], _∷_, _++_}
 use lib.Dec.{eqb}
@@ -87,3 +87,7 @@ jumpsFrom mode s = again [] (λ f x. jumpsOn f (x .0) (x .1)) (suc (length s)) (
 -- the jumps of a body, by their targets
 abbrev pub jumpsOf : List ℕ → List ℕ
 jumpsOf body = jumpsFrom Plain body
+
+-- a target as it is told: cut at 65536, which no 16 bits hold, so that digits without end are read
+abbrev pub low : ℕ → ℕ
+low v = min v 65536

@@ -4,7 +4,7 @@ ghost use mathlib.Core.Bool.{true, false};
 ghost use mathlib.Core.List.{[]};
 ghost use Prim.Native.Nat.{_+_, _≤_, _<_};
 ghost use lib.ListN.{length, getD, drop};
-ghost use Rattle.image_jumps.specs.Jumps.{heeded, withDigit, targetsFrom, openedList};
+ghost use Rattle.image_jumps.specs.Jumps.{heeded, withDigit, targetsFrom, openedList, low};
 ghost use Rattle.image_jumps.specs.JumpHelpers.{lowPart, Opens, BehindGo, Moves, NextIs};
 use base_ascii::search;
 use base_ascii::search::Kind;
@@ -25,7 +25,7 @@ pub struct Cursor {
     pub part: Part,
 }
 
-// What follows a place: a jump and the place behind it, or no jump. A target above 65535 is told as some number above 65535.
+// What follows a place: a jump and the place behind it, or no jump. A target above 65535 is told as 65536.
 pub enum Next {
     Jump { target: usize, cursor: Cursor },
     None,
@@ -66,7 +66,10 @@ pub fn next_jump(body: &[u8], cursor: Cursor) -> Next
         cursor = moved.cursor;
         match told {
             Part::Worth(target) => {
-                return Next::Jump { target, cursor };
+                return Next::Jump {
+                    target: cut(target),
+                    cursor,
+                };
             }
             Part::Empty => {}
         }
@@ -86,7 +89,7 @@ fn last(body: &[u8], cursor: Cursor) -> Next
         match part {
             Part::Worth(target) => {
                 return Next::Jump {
-                    target,
+                    target: cut(target),
                     cursor: Cursor {
                         at,
                         mode,
@@ -157,13 +160,16 @@ fn with_digit(part: Part, digit: u8) -> Part
             if value > 6553 {
                 return Part::Worth(65536);
             }
-            let longer = value * 10 + digit as usize;
-            if longer > 65536 {
-                return Part::Worth(65536);
-            }
-            Part::Worth(longer)
+            Part::Worth(cut(value * 10 + digit as usize))
         }
     }
+}
+
+// A target, cut at 65536.
+fn cut(target: usize) -> usize
+    ensures { λ r. ⌜ r ≡ low target ⌝ }
+{
+    if target > 65536 { 65536 } else { target }
 }
 
 // One unit of the text, or all that opens a list.

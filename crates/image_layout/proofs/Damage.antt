@@ -22,7 +22,7 @@ use Rattle.image_readers.specs.Terminators.{terminatorStep}
 use Rattle.image_readers.proofs.Equations.{lines-line, lines-end}
 use Rattle.image_readers.proofs.ByTerminators.{terminator-sound}
 use Rattle.image_layout.specs.Changed.{ChangedAt, numberOrBody, linkByte, ChangedLines, ChangedLinks, lineNow, linesNow, KeptOutside}
-use Rattle.image_layout.specs.Each.{Each}
+use Rattle.base_steps.specs.Each.{Each}
 use Rattle.image_layout.specs.Layout.{twoBytes, linkedBytes, linkOf, linesBytes, imageOf, endAddress, Fits, Laid}
 use Rattle.image_layout.specs.Reads.{leastLoad, placedLine, linesAt, placeOf, ReadAs, NoZeros}
 use Rattle.image_layout.proofs.Kept.{and-false, none-in, number-or-body-in, link-byte-in, Kept, after, kept-beside, kept-outside, byte-there, kept-on, kept-end, readAt, stands-any, line-same}

@@ -23,7 +23,7 @@ use Rattle.image_readers.proofs.Equations.{Sound, lines-line, lines-end}
 use Rattle.image_readers.proofs.ByLinks.{link-sound}
 use Rattle.image_readers.proofs.ByTerminators.{terminator-sound}
 use Rattle.image_readers.proofs.Reading.{overview-bodies}
-use Rattle.image_layout.specs.Each.{Each}
+use Rattle.base_steps.specs.Each.{Each}
 use Rattle.image_layout.specs.Layout.{linkOf, lineBytes, linesBytes, imageOf, endAddress, Fits, Laid}
 use Rattle.image_layout.specs.Reads.{leastLoad, linesFound, placedLine, linesAt, LinksLead, ReadAs, NoZero, NoZeros}
 use Rattle.image_layout.proofs.Laying.{image-length, lines-length, end-above, first-fits}

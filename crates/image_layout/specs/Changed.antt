@@ -11,7 +11,7 @@ use Rattle.image_readers.specs.declared.Line.{Line}
 use Rattle.image_bytes.specs.ImageBytes.{lowFirstAt}
 use Rattle.image_readers.specs.Bodies.{bodyOf}
 use Rattle.image_readers.specs.NumberedBody.{NumberedBody}
-use Rattle.image_layout.specs.Each.{Each}
+use Rattle.base_steps.specs.Each.{Each}
 use Rattle.image_layout.specs.Layout.{imageOf}
 use Rattle.image_layout.specs.Reads.{linesAt}
 

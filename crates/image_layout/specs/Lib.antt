@@ -1,4 +1,3 @@
 pub mod Changed
-pub mod Each
 pub mod Layout
 pub mod Reads

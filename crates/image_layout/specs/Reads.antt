@@ -11,7 +11,7 @@ use Rattle.image_readers.specs.declared.Line.{Line}
 use Rattle.image_readers.specs.NumberedBody.{NumberedBody}
 use Rattle.image_readers.specs.Lines.{Reader, linesOf, overview}
 use Rattle.image_readers.specs.Bodies.{bodiesOf}
-use Rattle.image_layout.specs.Each.{Each}
+use Rattle.base_steps.specs.Each.{Each}
 use Rattle.image_layout.specs.Layout.{linkOf}
 
 -- the line at an address and an offset, with a link

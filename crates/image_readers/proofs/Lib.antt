@@ -3,6 +3,7 @@ pub mod ByTerminators
 pub mod Counting
 pub mod Equations
 pub mod Finding
+pub mod Lined
 pub mod Reading
 pub mod Steps
 pub mod Tight

@@ -2,6 +2,8 @@ pub mod Answers
 pub mod Bodies
 pub mod Chain
 pub mod Image
+pub mod IndexLines
+pub mod Lined
 pub mod Lines
 pub mod Links
 pub mod NumberedBody

@@ -15,7 +15,7 @@ use Rattle.base_refusals.specs.Answer.{done}
 use Rattle.image_bytes.specs.ImageBytes.{lowFirstAt, addressAt}
 use Rattle.image_readers.specs.NumberedBody.{NumberedBody}
 use Rattle.image_readers.proofs.Finding.{sized-right}
-use Rattle.image_layout.specs.Each.{Each}
+use Rattle.base_steps.specs.Each.{Each}
 use Rattle.image_layout.specs.Layout.{linkedBytes, linkOf, lineBytes, linesBytes, imageOf, endAddress, Fits, Laid}
 use Rattle.image_layout.specs.Reads.{NoZero}
 use Rattle.image_layout.proofs.Laying.{image-length, line-length, end-above, first-fits}

@@ -1,4 +1,7 @@
-// Numbers of the library for C and Rust (crates/moldthatch): the options that a caller gives in them, and what an image's check is told in.
+// Numbers of the library for C and Rust (crates/moldthatch): the options that a caller gives in them, what an image's check is told in, and the
+// walk over a program's faults.
+pub mod faults;
+
 use base_refusals::Code;
 use crunch_rules::Options;
 use image_readers::By;

@@ -29,7 +29,7 @@ use Rattle.image_units.specs.declared.Unit.the-variants.{Char, Remarked}
 use Rattle.image_units.specs.Units.{modeBehind, toggledMode, oneUnit, tokenUnit, unquotedUnit, quotedUnit, unitAt, unitsFrom}
 use Rattle.image_units.proofs.Walking.{units-none, units-more}
 use Rattle.list_spelling.specs.Pieces.{unitText, spelt}
-use Rattle.image_layout.specs.Each.{Each}
+use Rattle.base_steps.specs.Each.{Each}
 use Rattle.list_lines.specs.Body.{bodyListing, lineListing}
 use Rattle.list_image.specs.Listing.{linesListing, listingBy, listing, listingUnder}
 use Rattle.list_options.specs.Modes.{heedsPrefix, rulesUnder}

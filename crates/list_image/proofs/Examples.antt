@@ -23,7 +23,7 @@ use Rattle.image_bytes.specs.ImageBytes.{beforeZero}
 use Rattle.image_readers.specs.Terminators.{terminatorStep}
 use Rattle.image_units.specs.Units.{unitsFrom}
 use Rattle.list_spelling.specs.Pieces.{unknownPair, pairText, unitText, spelt}
-use Rattle.base_decimals.specs.Decimal.{decimal}
+use Rattle.base_steps.specs.Decimal.{decimal}
 use Rattle.list_lines.specs.Body.{bodyListing}
 use Rattle.list_image.specs.Listing.{listingBy, originalRules}
 use Rattle.list_options.specs.Modes.{heedsPrefix, rulesUnder}

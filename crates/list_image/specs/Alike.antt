@@ -6,7 +6,7 @@ use mathlib.Core.Path.{_≡_}
 use mathlib.Core.List.{List, [], _∷_}
 use lib.Dec.{eqb, leb}
 use Rattle.base_ascii.specs.Bytes.{between}
-use Rattle.image_layout.specs.Each.{Each}
+use Rattle.base_steps.specs.Each.{Each}
 
 -- what follows the first unquoted 8F, where bytes begin quoted or not; nothing where there is none
 unfoldable pub behindRemark : Bool → List ℕ → List ℕ

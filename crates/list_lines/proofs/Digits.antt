@@ -13,8 +13,8 @@ use lib.ListN.{length, take, drop, length-append, length-drop}
 use lib.Seq.{take-all}
 use borrow.Author.Tests.{ltb-false, ltb-true}
 use Rattle.base_steps.proofs.Nearer.{by-nearer}
-use Rattle.base_decimals.specs.Decimal.{decimal}
-use Rattle.base_decimals.proofs.Digits.{decimal-digit, decimal-more}
+use Rattle.base_steps.specs.Decimal.{decimal}
+use Rattle.base_steps.proofs.Digits.{decimal-digit, decimal-more}
 
 -- ---- how many
 

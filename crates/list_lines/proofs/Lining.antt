@@ -11,7 +11,7 @@ use Rattle.base_lent.specs.Stores.{Room, Put}
 use Rattle.base_lent.proofs.Storing.{room-first, room-second, put-both}
 use Rattle.image_units.specs.declared.Rules.{Rules}
 use Rattle.list_lines.specs.Body.{bodyListing, lineListing}
-use Rattle.base_decimals.specs.Decimal.{decimal}
+use Rattle.base_steps.specs.Decimal.{decimal}
 use Rattle.list_lines.specs.LineHelpers.{headListing, restListing, LineLength}
 use Rattle.list_lines.proofs.Digits.{places-most}
 use Rattle.list_lines.proofs.Progress.{body-short}

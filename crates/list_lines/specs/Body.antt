@@ -6,7 +6,7 @@ use mathlib.Core.List.{List, [], _∷_, _++_}
 use Rattle.image_units.specs.declared.Rules.{Rules}
 use Rattle.image_units.specs.Units.{unitsFrom, unitsOf}
 use Rattle.list_spelling.specs.Pieces.{spelt}
-use Rattle.base_decimals.specs.Decimal.{decimal}
+use Rattle.base_steps.specs.Decimal.{decimal}
 
 unfoldable pub bodyListing : Rules → List ℕ → List ℕ
 unfolding unitsFrom spelt

@@ -6,7 +6,7 @@ use mathlib.Core.List.{List, [], _∷_, _++_}
 use lib.ListN.{length}
 use Rattle.image_units.specs.declared.Rules.{Rules}
 use Rattle.list_lines.specs.Body.{bodyListing, lineListing}
-use Rattle.base_decimals.specs.Decimal.{decimal}
+use Rattle.base_steps.specs.Decimal.{decimal}
 
 -- the number and the space
 unfoldable pub headListing : ℕ → List ℕ

@@ -3,7 +3,7 @@ ghost use mathlib.Core.Path.{_≡_};
 ghost use Prim.Native.Nat.{_+_, _/_, _%_, _<_};
 ghost use lib.ListN.{length};
 ghost use Rattle.base_lent.specs.Stores.{Room, Put};
-ghost use Rattle.base_decimals.specs.Decimal.{decimal};
+ghost use Rattle.base_steps.specs.Decimal.{decimal};
 
 // How many digits a number takes.
 pub fn places(n: u16) -> usize

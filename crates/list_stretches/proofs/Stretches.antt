@@ -37,7 +37,7 @@ use Rattle.list_options.specs.declared.ListOptions.{ListOptions}
 use Rattle.list_lines.specs.LineHelpers.{headListing}
 use Rattle.list_options.specs.Modes.{rulesUnder}
 use Rattle.list_lines.proofs.Digits.{places-few}
-use Rattle.base_decimals.specs.Decimal.{decimal}
+use Rattle.base_steps.specs.Decimal.{decimal}
 
 and-false : (b : Bool) → (b && false) ≡ false
 and-false true = refl

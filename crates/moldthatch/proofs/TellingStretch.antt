@@ -14,8 +14,8 @@ use Rattle.word_dialects.specs.declared.Dialect.{Dialect}
 use Rattle.word_dialects.specs.declared.Named.{Named}
 use Rattle.word_dialects.specs.declared.Named.the-variants.{Known, Refused}
 use Rattle.image_units.specs.declared.Mode.{Mode}
-use Rattle.library_faults.specs.Numbers.{modeNumber, modeOf}
-use Rattle.library_faults.proofs.Walking.{mode-back}
+use Rattle.library_numbers.specs.FaultNumbers.{modeNumber, modeOf}
+use Rattle.library_numbers.proofs.Walking.{mode-back}
 use Rattle.list_options.specs.declared.ListOptions.{ListOptions}
 use Rattle.list_options.specs.Modes.{rulesUnder}
 use Rattle.list_stretches.specs.Stretch.{Stretched, stretchOf, stretchAnswer}

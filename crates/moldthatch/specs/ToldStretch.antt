@@ -7,7 +7,7 @@ use lib.Seq.{sets}
 use Rattle.base_refusals.specs.Answer.{Answer, done, refused, andThen}
 use Rattle.base_refusals.specs.Code.{codeOf, answerCode}
 use Rattle.word_dialects.specs.Dialects.{byNumber}
-use Rattle.library_faults.specs.Numbers.{modeNumber, modeOf}
+use Rattle.library_numbers.specs.FaultNumbers.{modeNumber, modeOf}
 use Rattle.list_options.specs.Modes.{rulesUnder}
 use Rattle.list_stretches.specs.Stretch.{Stretched, stretchOf, stretchAnswer}
 use Rattle.list_stretches.specs.declared.Place.{Place}

@@ -14,7 +14,7 @@ ghost use Rattle.moldthatch.specs.Told.{toldCode, bareCode, toldDisk, ho
 pub extern "C" fn moldthatch_disk_format(disk: &mut [u8]) -> Code
     ensures { λ r. ⌜ record { code = r; buffer = now (disk .exit) } ≡ toldDisk (ontoDisk (formatted (now (disk .entry))) (now (disk .entry))) ⌝ }
 {
-    changed_code(disk_formats::format(disk))
+    changed_code(disk::format(disk))
 }
 
 // Saves an image under a name.

@@ -1,21 +1,21 @@
 // What makes a program unfit for the master, one fault after the other: its lines' numbers are marked once, then the walk is carried from
 // call to call.
-use library_faults::FaultCode;
-use library_faults::WalkNumbers;
+use library_numbers::faults::FaultCode;
+use library_numbers::faults::WalkNumbers;
 ghost use mathlib.Core.Path.{_≡_};
 ghost use Rattle.image_readers.specs.Links.{linkStep};
-ghost use Rattle.image_find.specs.Sought.{linedFrom};
+ghost use Rattle.image_readers.specs.Lined.{linedFrom};
 ghost use Rattle.image_fitness.specs.declared.Stage.the-variants.{Memory};
-ghost use Rattle.image_faults.specs.ToldHelpers.{hasMark};
-ghost use Rattle.image_fitness.specs.FaultHelpers.{lineMarks, faultsAt};
-ghost use Rattle.library_faults.specs.Numbers.{walkPlace, FaultLeft};
+ghost use Rattle.image_marks.specs.Marks.{hasMark, lineMarks};
+ghost use Rattle.image_fitness.specs.FaultHelpers.{faultsAt};
+ghost use Rattle.library_numbers.specs.FaultNumbers.{walkPlace, FaultLeft};
 
 // Marks the numbers that an image's lines have, as far as its links lead.
 #[no_mangle]
 pub extern "C" fn moldthatch_mark_numbers(image: &[u8], marked: &mut [u8])
     ensures { λ r. ⌜ now (marked .exit) ≡ lineMarks (now (marked .entry)) (linedFrom linkStep (now (image .entry)) 2 .lines) ⌝ }
 {
-    image_fitness::mark_numbers(image, marked);
+    image_marks::mark_numbers(image, marked);
 }
 
 // The place before an image's first byte.
@@ -23,7 +23,7 @@ pub extern "C" fn moldthatch_mark_numbers(image: &[u8], marked: &mut [u8])
 pub extern "C" fn moldthatch_fault_start() -> WalkNumbers
     ensures { λ r. ⌜ walkPlace r ≡ record { stage = Memory; offset = 2; least = 0 } ⌝ }
 {
-    library_faults::start()
+    library_numbers::faults::start()
 }
 
 // The next fault from a place on, and the place behind it.
@@ -35,5 +35,5 @@ pub extern "C" fn moldthatch_next_fault(
 ) -> FaultCode
     ensures { λ r. ⌜ FaultLeft (hasMark (now (marked .entry))) (now (image .entry)) (faultsAt (hasMark (now (marked .entry))) (now (image .entry)) (walkPlace place)) r ⌝ }
 {
-    library_faults::next_fault(image, marked, place)
+    library_numbers::faults::next_fault(image, marked, place)
 }

@@ -76,7 +76,7 @@ fn place_of(given: PlaceNumbers) -> Place
         0 => Place::Number(given.number),
         1 => Place::Body {
             at: given.at,
-            mode: library_faults::mode_of(given.mode),
+            mode: library_numbers::faults::mode_of(given.mode),
         },
         _ => Place::Over,
     }
@@ -94,7 +94,7 @@ fn place_numbers(place: Place) -> PlaceNumbers
         },
         Place::Body { at, mode } => PlaceNumbers {
             kind: 1,
-            mode: library_faults::mode_number(mode),
+            mode: library_numbers::faults::mode_number(mode),
             number: 0,
             at,
         },

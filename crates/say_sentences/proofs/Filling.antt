@@ -9,7 +9,7 @@ use lib.ListN.{length, getD, take, drop, length-drop, drop-of-length-le}
 use lib.Seq.{drop-cons, take-all}
 use borrow.Author.Tests.{eq-eqb, ne-eqb}
 use Rattle.say_sentences.specs.Clipped.{Clipped}
-use Rattle.base_decimals.specs.Decimal.{decimal}
+use Rattle.base_steps.specs.Decimal.{decimal}
 use Rattle.say_sentences.specs.Sentence.{filled, behindRows}
 use Rattle.say_sentences.proofs.Clipping.{Owes, owes-all, owes-less, owes-none}
 

@@ -9,8 +9,8 @@ use lib.ListN.{length, take, drop, set, length-set, length-drop, drop-of-length-
 use lib.Seq.{take-all}
 use mir.Syntax.{w64}
 use mir.Val.{Fits}
-use Rattle.base_decimals.specs.Decimal.{decimal}
-use Rattle.base_decimals.proofs.Digits.{decimal-digit, decimal-more}
+use Rattle.base_steps.specs.Decimal.{decimal}
+use Rattle.base_steps.proofs.Digits.{decimal-digit, decimal-more}
 use Rattle.say_sentences.specs.Clipped.{Clipped}
 use Rattle.say_sentences.specs.SpeltHelpers.{Spelt}
 use Rattle.say_sentences.proofs.Clipping.{clip-as}

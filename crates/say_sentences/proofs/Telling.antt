@@ -9,7 +9,7 @@ use borrow.Author.Tests.{eq-eqb, ne-eqb}
 use Rattle.base_refusals.specs.declared.Code.{Code}
 use Rattle.word_search.specs.Spelling.{bytesOf}
 use Rattle.say_sentences.specs.Clipped.{Clipped}
-use Rattle.base_decimals.specs.Decimal.{decimal}
+use Rattle.base_steps.specs.Decimal.{decimal}
 use Rattle.text_places.specs.Place.{textPlace}
 use Rattle.text_places.specs.declared.Place.{Place}
 use Rattle.say_sentences.specs.Rows.{rows, placedRow}

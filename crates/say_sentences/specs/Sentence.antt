@@ -6,7 +6,7 @@ use mathlib.Core.List.{List, [], _∷_, _++_}
 use lib.Dec.{eqb}
 use Rattle.base_refusals.specs.declared.Code.{Code}
 use Rattle.word_search.specs.Spelling.{bytesOf}
-use Rattle.base_decimals.specs.Decimal.{decimal}
+use Rattle.base_steps.specs.Decimal.{decimal}
 use Rattle.text_places.specs.Place.{textPlace}
 use Rattle.say_sentences.specs.Rows.{rows, placedRow}
 

@@ -2,7 +2,7 @@
 ghost use mathlib.Core.Path.{_≡_};
 ghost use Prim.Native.Nat.{_+_, _≤_, _<_};
 ghost use lib.ListN.{length, drop};
-ghost use Rattle.base_decimals.specs.Decimal.{decimal};
+ghost use Rattle.base_steps.specs.Decimal.{decimal};
 ghost use Rattle.say_sentences.specs.Clipped.{Clipped};
 ghost use Rattle.say_sentences.specs.SpeltHelpers.{Spelt};
 

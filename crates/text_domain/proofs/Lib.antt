@@ -1,2 +1,3 @@
+pub mod EachOfEight
 pub mod Limits
 pub mod Tight

@@ -16,8 +16,8 @@ use Rattle.base_refusals.specs.Answer.{done, refused}
 use Rattle.text_domain.specs.Domain.{isPi, domainLength, checkedText}
 use Rattle.text_domain.specs.DomainHelpers.{isLow}
 use Rattle.base_ascii.proofs.Choice.{taken, left}
-use Rattle.text_eights.specs.EightHelpers.{Tops}
-use Rattle.text_eights.proofs.Eights.{each-of}
+use Rattle.text_domain.specs.EightHelpers.{Tops}
+use Rattle.text_domain.proofs.EachOfEight.{each-of}
 
 -- ---- one character of the domain in front
 

@@ -1,2 +1,3 @@
 pub mod Domain
 pub mod DomainHelpers
+pub mod EightHelpers

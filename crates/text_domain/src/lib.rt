@@ -1,13 +1,15 @@
 // Which texts are taken.
+use crate::eights::larger;
+use crate::eights::top_of_eight;
 use base_ascii::search;
 use base_refusals::Refusal;
-use text_eights::larger;
-use text_eights::top_of_eight;
 ghost use mathlib.Core.Path.{_≡_};
 ghost use Prim.Native.Nat.{_≤_};
 ghost use Rattle.base_ascii.specs.Search.{front};
 ghost use Rattle.text_domain.specs.Domain.{isPi, domainLength, checkedText, textCheckAnswer};
 ghost use Rattle.text_domain.specs.DomainHelpers.{isLow};
+
+mod eights;
 
 // What a check of a text answers.
 pub enum TextCheck {

@@ -1,7 +1,7 @@
 -- `desk_check::walk` is safe and ends.
 -- Assumes nothing.
 use lib.ListN.{length}
-use Rattle.image_faults.specs.ToldHelpers.{hasMark}
+use Rattle.image_marks.specs.Marks.{hasMark}
 use Rattle.image_fitness.specs.FaultHelpers.{faultsAt}
 use Rattle.desk_check.proofs.Fewer.{fewer-left}
 use borrow.Author.Needs.{needs}

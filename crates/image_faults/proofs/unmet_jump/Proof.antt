@@ -37,7 +37,6 @@ unmet-jump-spec =
     (λ c κs. search needs)
     (λ c. search needs)
     (λ c κs. search needs)
-    (λ c κs. search needs)
     returns
     loop-less
     loop-again

@@ -1,6 +1,6 @@
 -- `image_jumps::with_digit` meets its contract.
 -- Assumes nothing.
-use Rattle.image_jumps.proofs.Stepping.{digit-first, digit-cut, digit-over, digit-kept}
+use Rattle.image_jumps.proofs.Stepping.{digit-first, digit-cut, digit-more}
 use borrow.Author.Needs.{needs}
 use Rattle.image_jumps.proofs.with_digit.Statement.{statement}
 use Rattle.image_jumps.proofs.with_digit.Tie as tie

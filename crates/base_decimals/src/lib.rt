@@ -1,1 +1,0 @@
-// Laws alone: a number in decimal.
