@@ -73,4 +73,4 @@ unfolding code.routine
 advance-spec 𝓤 H 𝓜 𝓖 𝓡 =
     proved 𝓜 𝓖 𝓡 code.env key.name code.function (code.unfolded 𝓤 H 𝓜 𝓡) a-walk (advance.signature .result) (advance.clauses 𝓤 H (𝓖 .A) (𝓜 .mem) (𝓡 .run))
     (run (ground 𝓜 𝓖 𝓡 code.env) (𝓜 .mem) (𝓡 .run)
-    (cited 𝓤 H (contractOf 𝓤 H (𝓖 .A) next-offset) 𝓜 𝓡 code.env callee.name callee.routine code.calls-walk·next-offset (callee-thm.met 𝓤 H 𝓜 𝓖 𝓡)))
+    (cited 𝓤 H (contractOf 𝓤 H (𝓖 .A) next-offset) 𝓜 𝓡 code.env callee.name callee.routine code.calls-image-walk·next-offset (callee-thm.met 𝓤 H 𝓜 𝓖 𝓡)))

@@ -21,5 +21,5 @@ pub body-spec : {M : Type 1} → statement M
 unfolding code.routine
 body-spec 𝓤 H 𝓜 𝓖 𝓡 =
     passed-on 𝓜 𝓖 𝓡 code.env key.name (a-part (ground 𝓜 𝓖 𝓡 code.env)) callee.name (code.unfolded 𝓤 H 𝓜 𝓡)
-    (λ κs s p r. now r ≡ bodyAt terminatorStep s p) callee.routine code.calls-readers·terminators·body (callee-thm.met 𝓤 H 𝓜 𝓖 𝓡)
+    (λ κs s p r. now r ≡ bodyAt terminatorStep s p) callee.routine code.calls-image-readers·terminators·body (callee-thm.met 𝓤 H 𝓜 𝓖 𝓡)
     (body.clauses 𝓤 H (𝓖 .A) (𝓜 .mem) (𝓡 .run)) (λ κ s w g r said. factI 𝓤 _ (emp 𝓤) said)

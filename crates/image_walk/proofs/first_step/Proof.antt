@@ -77,5 +77,5 @@ unfolding code.routine
 first-step-spec 𝓤 H 𝓜 𝓖 𝓡 =
     proved 𝓜 𝓖 𝓡 code.env key.name code.function (code.unfolded 𝓤 H 𝓜 𝓡) an-image (first-step.signature .result) (first-step.clauses 𝓤 H (𝓖 .A) (𝓜 .mem) (𝓡 .run))
     (run (ground 𝓜 𝓖 𝓡 code.env) (𝓜 .mem) (𝓡 .run)
-    (cited 𝓤 H (contractOf 𝓤 H (𝓖 .A) started) 𝓜 𝓡 code.env start-def.name start-def.routine code.calls-walk·start (start-thm.met 𝓤 H 𝓜 𝓖 𝓡))
-    (cited 𝓤 H (contractOf 𝓤 H (𝓖 .A) stepped) 𝓜 𝓡 code.env step-def.name step-def.routine code.calls-walk·step (step-thm.met 𝓤 H 𝓜 𝓖 𝓡)))
+    (cited 𝓤 H (contractOf 𝓤 H (𝓖 .A) started) 𝓜 𝓡 code.env start-def.name start-def.routine code.calls-image-walk·start (start-thm.met 𝓤 H 𝓜 𝓖 𝓡))
+    (cited 𝓤 H (contractOf 𝓤 H (𝓖 .A) stepped) 𝓜 𝓡 code.env step-def.name step-def.routine code.calls-image-walk·step (step-thm.met 𝓤 H 𝓜 𝓖 𝓡)))
