@@ -48,7 +48,7 @@ module _ (s : List ℕ) {p : ℕ} (h : length s ≤ p) where
 module _ {m : Limits} (is : m ≡ c64) where
   module _ (s : List ℕ) {load : ℕ} {b : Bool} (e : load ≡ lowFirstAt s 0) (d : b ≡ inBasicMemory m load (length s)) where
     within : inBasicMemory c64 (lowFirstAt s 0) (length s) ≡ b
-    within = rw (← is, ← e) (sym d)
+    within = ap (λ (x : Limits). inBasicMemory x (lowFirstAt s 0) (length s)) (sym is) ∙ ap (λ (n : ℕ). inBasicMemory m n (length s)) (sym e) ∙ sym d
 
     pub memory-none : b ≡ true → [] ≡ memoryFaults s
     unfolding memoryFaults
@@ -60,7 +60,7 @@ module _ {m : Limits} (is : m ≡ c64) where
 
   module _ (l : Line) {b : Bool} (d : b ≡ isTooHigh m (l .number)) where
     high : isTooHigh c64 (l .number) ≡ b
-    high = rw (← is) (sym d)
+    high = ap (λ (x : Limits). isTooHigh x (l .number)) (sym is) ∙ sym d
 
     pub number-told : b ≡ true → NumberTooHigh (l .number) ∷ [] ≡ numberFaults l
     unfolding numberFaults
@@ -102,7 +102,7 @@ module _ (s : List ℕ) (p : ℕ) {l : Line} (is : LineIs s p l) where
 
   module _ {m : Limits} (machine : m ≡ c64) {b : Bool} (d : b ≡ isBadLength m (l .to - l .from)) where
     bad : isBadLength c64 (l .to - l .from) ≡ b
-    bad = rw (← machine) (sym d)
+    bad = ap (λ (x : Limits). isBadLength x (l .to - l .from)) (sym machine) ∙ sym d
 
     pub length-told : b ≡ true → BodyLength (l .number) (l .to - l .from) ∷ [] ≡ lengthFaults s l
     unfolding lengthFaults

@@ -36,7 +36,7 @@ module _ (marked : List ℕ) (n t : ℕ) (ts : List ℕ) where
   unfolding targetsCounted
   counted-high h = simp (lt-ltb _ _ h)
 
-  counted-more : t ≤ 65535 → targetsCounted marked n (t ∷ ts) ≡ targetsCounted marked (n + cond (hasMark marked t) 0 1) ts
+  counted-more : t ≤ 65535 → targetsCounted marked n (t ∷ ts) ≡ targetsCounted marked (cond (hasMark marked t) n (n + 1)) ts
   unfolding targetsCounted
   counted-more h = simp (le-ltb _ _ h)
 
@@ -52,10 +52,10 @@ thenCounted marked us (Jumps m) = targetsCounted marked m us
 counted-both : (marked ts us : List ℕ) (n : ℕ) → targetsCounted marked n (ts ++ us) ≡ thenCounted marked us (targetsCounted marked n ts)
 unfolding targetsCounted
 counted-both marked [] us n = refl
-counted-both marked (t ∷ ts) us n = go (ltb 65535 t) (counted-both marked ts us (n + cond (hasMark marked t) 0 1))
+counted-both marked (t ∷ ts) us n = go (ltb 65535 t) (counted-both marked ts us (cond (hasMark marked t) n (n + 1)))
   where
     m : ℕ
-    m = n + cond (hasMark marked t) 0 1
+    m = cond (hasMark marked t) n (n + 1)
 
     go : (b : Bool) → targetsCounted marked m (ts ++ us) ≡ thenCounted marked us (targetsCounted marked m ts)
         → cond b TooHigh (targetsCounted marked m (ts ++ us)) ≡ thenCounted marked us (cond b TooHigh (targetsCounted marked m ts))
@@ -88,7 +88,7 @@ module _ {marked body : List ℕ} {n₀ n : ℕ} {c : Cursor} (k : CountingBody 
         }
 
     module _ (h : target ≤ 65535) {b : Bool} (e : b ≡ hasMark marked target) where
-      turned : targetsCounted marked (n + cond b 0 1) (leftOf body d) ≡ targetsCounted marked n₀ (lowJumps body)
+      turned : targetsCounted marked (cond b n (n + 1)) (leftOf body d) ≡ targetsCounted marked n₀ (lowJumps body)
       turned = rw e (sym (counted-more marked n target (leftOf body d) h) ∙ ap (targetsCounted marked n) (sym (jumped .same)) ∙ k .same)
 
       -- a target that is not marked counts

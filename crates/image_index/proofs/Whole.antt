@@ -63,21 +63,21 @@ unfolding targetsCounted anyTooHigh targetLow withoutLine
 counts k n [] = ap Jumps (omega arith)
 counts {lines} {marked} k n (j ∷ js) = go (ltb 65535 (j .target)) refl (λ (m : ℕ). counts k m js)
   where
-    size : (b : Bool) → n + cond b 0 1 + length (withoutLine lines js) ≡ n + length {A = IndexJump} (elim b [ true ↦ withoutLine lines js | false ↦ j ∷ withoutLine lines js ])
+    size : (b : Bool) → cond b n (n + 1) + length (withoutLine lines js) ≡ n + length {A = IndexJump} (elim b [ true ↦ withoutLine lines js | false ↦ j ∷ withoutLine lines js ])
     size true = omega arith
     size false = omega arith
 
     turn : (b : Bool) → hasMark marked (j .target) ≡ b
         → ((m : ℕ) → targetsCounted marked m (map targetLow js) ≡ cond (anyTooHigh js) TooHigh (Jumps (m + length (withoutLine lines js))))
-        → targetsCounted marked (n + cond (hasMark marked (j .target)) 0 1) (map targetLow js)
+        → targetsCounted marked (cond (hasMark marked (j .target)) n (n + 1)) (map targetLow js)
         ≡ cond (anyTooHigh js) TooHigh (Jumps (n + length {A = IndexJump} (elim b [ true ↦ withoutLine lines js | false ↦ j ∷ withoutLine lines js ])))
     turn b f ih =
-        ap (λ (x : Bool). targetsCounted marked (n + cond x 0 1) (map targetLow js)) f ∙ ih (n + cond b 0 1)
+        ap (λ (x : Bool). targetsCounted marked (cond x n (n + 1)) (map targetLow js)) f ∙ ih (cond b n (n + 1))
         ∙ ap (λ (m : ℕ). cond (anyTooHigh js) TooHigh (Jumps m)) (size b)
 
     go : (b : Bool) → ltb 65535 (j .target) ≡ b
         → ((m : ℕ) → targetsCounted marked m (map targetLow js) ≡ cond (anyTooHigh js) TooHigh (Jumps (m + length (withoutLine lines js))))
-        → cond (ltb 65535 (low (j .target))) TooHigh (targetsCounted marked (n + cond (hasMark marked (low (j .target))) 0 1) (map targetLow js))
+        → cond (ltb 65535 (low (j .target))) TooHigh (targetsCounted marked (cond (hasMark marked (low (j .target))) n (n + 1)) (map targetLow js))
         ≡ cond (ltb 65535 (j .target) || anyTooHigh js) TooHigh (Jumps (n + length (withoutLine lines (j ∷ js))))
     go true e ih =
         let h : 65535 < low (j .target) = omega (arith, ltb-true 65535 (j .target) e) in
@@ -87,7 +87,7 @@ counts {lines} {marked} k n (j ∷ js) = go (ltb 65535 (j .target)) refl (λ (m 
         let h : low (j .target) ≤ 65535 = omega arith in
         let w : low (j .target) ≡ j .target = omega arith in
         simp (le-ltb _ _ h, e) (
-        ap (λ (t : ℕ). targetsCounted marked (n + cond (hasMark marked t) 0 1) (map targetLow js)) w
+        ap (λ (t : ℕ). targetsCounted marked (cond (hasMark marked t) n (n + 1)) (map targetLow js)) w
         ∙ turn (hasLine lines (j .target)) (k .tells (j .target) g) ih)
 
 -- where no number is marked, all jumps are meant

@@ -48,7 +48,7 @@ pub record NumbersMarked (lines : List IndexLine) (marked : List ℕ) : Type 0 w
 -- how many of the targets are not marked, behind n of them, unless one is too high
 unfoldable pub targetsCounted : List ℕ → ℕ → List ℕ → Counted
 targetsCounted marked n [] = Jumps n
-targetsCounted marked n (t ∷ ts) = cond (ltb 65535 t) TooHigh (targetsCounted marked (n + cond (hasMark marked t) 0 1) ts)
+targetsCounted marked n (t ∷ ts) = cond (ltb 65535 t) TooHigh (targetsCounted marked (cond (hasMark marked t) n (n + 1)) ts)
 
 -- so many, and no more than a count
 abbrev pub AtMost : ℕ → Counted → Type 0

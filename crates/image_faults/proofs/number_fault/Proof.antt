@@ -15,5 +15,7 @@ pub number-fault-spec : {M : Type 1} → statement M
 number-fault-spec =
     tie.close
     (tie.spec
+    (λ c κs. search needs)
+    (λ c κs. search needs)
     returns
     returns-2)

@@ -15,6 +15,6 @@ pub order-fault-spec : {M : Type 1} → statement M
 order-fault-spec =
     tie.close
     (tie.spec
-    (λ c. search needs)
+    (λ c κs. search needs)
     returns
     returns-2)

@@ -1,7 +1,7 @@
 -- `image_index::count_body` meets its contract.
 -- Assumes nothing.
 use Rattle.image_jumps.specs.JumpHelpers.{distance}
-use Rattle.image_index.proofs.Counting.{CountingBody, counting-start, counting-high, counting-turn, counting-less, counting-end}
+use Rattle.image_index.proofs.Counting.{CountingBody, counting-start, counting-high, counting-turn, counting-past, counting-less, counting-end}
 use borrow.Author.Needs.{needs}
 use Rattle.image_index.proofs.count_body.Statement.{statement}
 use Rattle.image_index.proofs.count_body.Tie as tie
@@ -24,6 +24,12 @@ loop-less c = search counting-less
 loop-again : tie.Need-loop-again Inv-loop μ-loop
 loop-again c = search counting-turn
 
+loop-less-2 : tie.Need-loop-less-2 Inv-loop μ-loop
+loop-less-2 c = search counting-less
+
+loop-again-2 : tie.Need-loop-again-2 Inv-loop μ-loop
+loop-again-2 c = search counting-past
+
 returns-2 : tie.Need-returns-2 Inv-loop μ-loop
 returns-2 c = search counting-end
 
@@ -42,5 +48,7 @@ count-body-spec =
     (λ c. search needs)
     loop-less
     loop-again
+    loop-less-2
+    loop-again-2
     (λ c. search needs)
     returns-2)

@@ -41,7 +41,6 @@ put-body-spec =
     loop-holds
     (λ c κs. search needs)
     (λ c. search needs)
-    (λ c κs. search needs)
     put-jump-requires
     loop-less
     loop-again

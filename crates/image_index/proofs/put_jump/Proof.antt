@@ -10,20 +10,20 @@ put-pair-requires : tie.Need-put-pair-requires
 put-pair-requires c κs = search (kept-ready, needs)
 
 returns : tie.Need-returns
-returns c = search kept-drawn
+returns c = search left-drawn
 
 returns-2 : tie.Need-returns-2
-returns-2 c = search (left-drawn, c .if1 .left)
+returns-2 c = search kept-drawn
 
 same-length : tie.Need-same-length
-same-length c = drawn-same _ _ _ (returns c)
+same-length c = drawn-same _ _ _ (returns-2 c)
 
 pub put-jump-spec : {M : Type 1} → statement M
 put-jump-spec =
     tie.close
     (tie.spec
     (λ c κs. search needs)
+    returns
     put-pair-requires
     same-length
-    returns
     returns-2)

@@ -1,19 +1,13 @@
 -- `image_index::write_report` meets its contract.
 -- Assumes nothing.
-use Prim.Native.Nat.{ℕ}
-use lib.ListN.{length-replicate}
 use Rattle.image_index.proofs.Whole.{check-faultless}
-use Rattle.image_index.proofs.Marking.{blank}
-use Rattle.image_index.proofs.Reporting.{check-sound, report-unread}
+use Rattle.image_index.proofs.Reporting.{check-marked, report-unread}
 use borrow.Author.Needs.{needs}
 use Rattle.image_index.proofs.write_report.Statement.{statement}
 use Rattle.image_index.proofs.write_report.Tie as tie
 
-mark-lines-requires : tie.Need-mark-lines-requires
-mark-lines-requires c κs = (search check-sound, length-replicate {A = ℕ} 65536 0, blank)
-
 report-lines-requires : tie.Need-report-lines-requires
-report-lines-requires c κs = search (check-faultless, needs)
+report-lines-requires c κs = search (check-faultless, check-marked, needs)
 
 returns-2 : tie.Need-returns-2
 returns-2 c = search report-unread
@@ -25,7 +19,7 @@ write-report-spec =
     (λ c κs. search needs)
     (λ c. search needs)
     (λ c. search needs)
-    mark-lines-requires
+    (λ c κs. search needs)
     (λ c. search needs)
     report-lines-requires
     (λ c. search needs)

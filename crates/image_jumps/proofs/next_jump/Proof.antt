@@ -33,6 +33,7 @@ next-jump-spec =
     loop-holds
     (λ c κs. search needs)
     (λ c. search needs)
+    (λ c κs. search needs)
     returns
     (λ c. search needs)
     (λ c. search needs)

@@ -9,13 +9,10 @@ returns : tie.Need-returns
 returns c = search digit-cut
 
 returns-2 : tie.Need-returns-2
-returns-2 c = search digit-over
+returns-2 c = search (digit-first, needs)
 
 returns-3 : tie.Need-returns-3
-returns-3 c = search (digit-first, needs)
-
-returns-4 : tie.Need-returns-4
-returns-4 c = search digit-kept
+returns-3 c = search digit-more
 
 pub with-digit-spec : {M : Type 1} → statement M
 with-digit-spec =
@@ -26,6 +23,6 @@ with-digit-spec =
     returns
     (λ c. search needs)
     (λ c. search needs)
+    (λ c κs. search needs)
     returns-2
-    returns-3
-    returns-4)
+    returns-3)
