@@ -10,6 +10,7 @@ use lib.ListN.{length, getD}
 use lib.Seq.{sets}
 use native.Mathlib.Omega.{arith}
 use borrow.Author.Tests.{eq-eqb, not-true}
+use Rattle.base_steps.specs.Each.{Each}
 use Rattle.base_refusals.specs.Numbers.{badDisk}
 use Rattle.base_refusals.specs.Answer.{Answer, done, refused}
 use Rattle.disk_rules.specs.Lists.{numbersFrom, some, isIn, noneTwice}
@@ -17,7 +18,6 @@ use Rattle.disk_rules.specs.Entries.{directory, entriesThat}
 use Rattle.disk_rules.specs.Free.{freeSectors}
 use Rattle.disk_rules.specs.Check.{files, sound}
 use Rattle.disk_rules.specs.Calls.{taken, entryBytes, outside, grown, withEntry, saved, scratched, fresh, ontoDisk}
-use Rattle.disk_check.proofs.Looking.{Each}
 use Rattle.disk_laws.specs.Runs.{Call, Format, Check, Read, Save, Scratch, afterCall, afterCalls}
 use Rattle.disk_laws.proofs.Totals.{all-accounted-for, in-one-chain}
 use Rattle.disk_laws.proofs.Fresh.{fresh-sound}
@@ -50,7 +50,7 @@ save-adds d name image made e =
       go [] (n ∷ ns) a b t f =
           let z : sets (grown (written d image) (getD (directory d .sectors) (length (directory d .sectors) - 1) 0) n) (256 * n + 2) (entryBytes name (taken d image)) ≡ made = cc in
           let i : isIn (outside (directory d .sectors)) n ≡ true = ap (λ (x : List ℕ). isIn x n) b ∙ ap (λ (q : Bool). q || isIn ns n) (eq-eqb n n refl) in
-          let r : (358 ≤ n) × (n ≤ 375) = subst (λ (x : List ℕ). Each (λ k. (358 ≤ k) × (k ≤ 375)) x) b (outside-on (directory d .sectors)) .at 0 (omega arith) in
+          let r : (358 ≤ n) × (n ≤ 375) = subst (λ (x : List ℕ). Each (λ k. (358 ≤ k) × (k ≤ 375)) x) b (outside-on (directory d .sectors)) .0 in
           let o : isIn (directory d .sectors) n ≡ false =
           not-true (isIn (directory d .sectors) n) (in-those (λ k. not (isIn (directory d .sectors) k)) (numbersFrom 358 18) n i)
           in
