@@ -5,6 +5,9 @@ use borrow.Author.Needs.{needs}
 use Rattle.image_marks.proofs.has_mark.Statement.{statement}
 use Rattle.image_marks.proofs.has_mark.Tie as tie
 
+returns : tie.Need-returns
+returns c = search needs
+
 returns-2 : tie.Need-returns-2
 returns-2 c = search mark-beyond
 
@@ -13,5 +16,5 @@ has-mark-spec =
     tie.close
     (tie.spec
     (λ c. search needs)
-    (λ c. search needs)
+    returns
     returns-2)
