@@ -1,4 +1,4 @@
--- What totals promise (document 02, No. 12): the totals of two parts are the sum of theirs, and the order of images does not matter.
+-- What totals promise (document 02, No. 12): the order of images does not matter, and the totals of two parts are the sum of theirs.
 -- Assumes nothing.
 use Prim.Native.Nat.{ℕ, _+_, _-_}
 use mathlib.Core.Path.{_≡_, refl, sym, ap, _∙_}
@@ -13,18 +13,6 @@ use Rattle.count_images.proofs.Tallying.{occurrences-append, tally-appe
 -- the marks that images make
 abbrev pub marksOf : List (List ℕ) → List ℕ
 marksOf images = flatMap (λ (image : List ℕ). imageMarks (tokensIn image)) images
-
--- ---- two parts
-
-flat-append : {A : Type 0} (f : A → List ℕ) (xs ys : List A) → flatMap f (xs ++ ys) ≡ flatMap f xs ++ flatMap f ys
-unfolding flatMap
-flat-append f [] ys = refl
-flat-append f (x ∷ xs) ys = rw (flat-append f xs ys) (sym (append-assoc (f x) (flatMap f xs) (flatMap f ys)))
-
--- the sum of the totals of two parts is the totals of both
-pub totals-join : (xs ys : List (List ℕ)) → added (totalsOf xs) (totalsOf ys) ≡ totalsOf (xs ++ ys)
-unfolding totalsOf
-totals-join xs ys = sym (ap tally (flat-append _ xs ys) ∙ tally-append (marksOf xs) (marksOf ys))
 
 -- ---- any order
 
@@ -44,3 +32,15 @@ module _ {A : Type 0} (f : A → List ℕ) (k : ℕ) where
 pub totals-in-any-order : {xs ys : List (List ℕ)} → List·Permᴰ xs ys → totalsOf xs ≡ totalsOf ys
 unfolding totalsOf
 totals-in-any-order {xs} {ys} p = tally-alike (marksOf xs) (marksOf ys) (λ k. alike-in-order _ k p)
+
+-- ---- two parts
+
+flat-append : {A : Type 0} (f : A → List ℕ) (xs ys : List A) → flatMap f (xs ++ ys) ≡ flatMap f xs ++ flatMap f ys
+unfolding flatMap
+flat-append f [] ys = refl
+flat-append f (x ∷ xs) ys = rw (flat-append f xs ys) (sym (append-assoc (f x) (flatMap f xs) (flatMap f ys)))
+
+-- the sum of the totals of two parts is the totals of both
+pub totals-join : (xs ys : List (List ℕ)) → added (totalsOf xs) (totalsOf ys) ≡ totalsOf (xs ++ ys)
+unfolding totalsOf
+totals-join xs ys = sym (ap tally (flat-append _ xs ys) ∙ tally-append (marksOf xs) (marksOf ys))

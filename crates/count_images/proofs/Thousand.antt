@@ -4,10 +4,10 @@ use Prim.Native.Nat.{ℕ, zero, suc, _+_, _*_, _-_, _≤_, _<_}
 use mathlib.Core.Path.{_≡_, refl, sym, ap, _∙_}
 use mathlib.Core.Bool.{Bool, true, false, cond}
 use mathlib.Core.Logic.{_⊎_, inl, inr}
-use mathlib.Core.List.{List, [], _∷_, _++_, flatMap, append-nil}
+use mathlib.Core.List.{List, [], _∷_, _++_, flatMap, foldl, append-nil, append-assoc, List·Permᴰ}
 use native.Mathlib.Omega.{arith}
 use lib.Dec.{eqb, ltb}
-use lib.ListN.{length, getD, length-append}
+use lib.ListN.{length, getD, replicate, length-append}
 use borrow.Author.Tests.{ne-eqb, eqb-true, ltb-true, le-ltb, le-leb, lt-leb}
 use Rattle.base_refusals.specs.Answer.{Answer, done, refused, mapDone}
 use Rattle.base_refusals.specs.Numbers.{tooManyImages}
@@ -27,14 +27,14 @@ use Rattle.image_units.specs.declared.Unit.the-variants.{Char, Token, Token35, 
 use Rattle.image_units.specs.Units.{unitsOf}
 use Rattle.count_tokens.specs.Tokens.{countRules, ifWord, countedAs, tokensOf, tokensFrom, tokensIn}
 use Rattle.count_totals.specs.TokenTotals.{sumBelow, tokensSum, imagesTaken, imagesRefused}
-use Rattle.count_images.specs.Tallies.{occurrences, tally, added}
+use Rattle.count_images.specs.Tallies.{occurrences, occurrencesFrom, tally, added}
 use Rattle.count_images.specs.Totals.{imageMarks, totalsOf}
 use Rattle.count_images.specs.Carried.{counted, fate, withImage, joined}
 use Rattle.count_images.proofs.Tallying.{occurrences-append, tally-length, tally-at, getD-added}
 use Rattle.count_tokens.proofs.UnitTokens.{below-or-not}
 use Rattle.count_images.proofs.Bodies.{left-end, left-line, left-refused, few-tokens}
 use Rattle.count_totals.proofs.Bounds.{AreTotals, totals-true}
-use Rattle.count_images.proofs.Laws.{marksOf, totals-join}
+use Rattle.count_images.proofs.Laws.{marksOf, totals-join, totals-in-any-order}
 
 -- ---- every token stands below CC
 
@@ -250,6 +250,31 @@ unfolding withImage
 one-more images image h =
     let few : imagesTaken (totalsOf images) < 1000 = omega (arith, totals-bounded images .taken) in
     rw (totals-true (totals-are images (omega arith)), lt-leb 1000 (imagesTaken (totalsOf images)) few, ← totals-one image, totals-join images (image ∷ []))
+
+-- 206 zeros, with which a caller begins, are the totals of no images
+pub no-images : replicate 206 0 ≡ totalsOf []
+unfolding totalsOf tally occurrencesFrom occurrences flatMap
+no-images = refl
+
+-- what calls leave, image by image
+abbrev pub allTaken : List ℕ → List (List ℕ) → List ℕ
+allTaken = foldl (λ (t image : List ℕ). withImage t image .totals)
+
+images-taken : (xs ys : List (List ℕ)) → length xs + length ys ≤ 1000 → allTaken (totalsOf xs) ys ≡ totalsOf (xs ++ ys)
+images-taken xs [] h = ap totalsOf (sym (append-nil xs))
+images-taken xs (y ∷ ys) h =
+    rw (one-more xs y (omega arith), images-taken (xs ++ (y ∷ [])) ys (simp length-append (omega arith)), append-assoc xs (y ∷ []) ys)
+
+-- from 206 zeros on, images taken one after the other leave their totals
+pub all-taken : (images : List (List ℕ)) → length images ≤ 1000 → allTaken (replicate 206 0) images ≡ totalsOf images
+all-taken images h = ap (λ (t : List ℕ). allTaken t images) no-images ∙ images-taken [] images (omega arith)
+
+-- "for up to 1,000 images, refused ones among them, their order is proved not to matter"
+pub taken-in-any-order : {xs ys : List (List ℕ)} → List·Permᴰ xs ys → length xs ≤ 1000 → allTaken (replicate 206 0) xs ≡ allTaken (replicate 206 0) ys
+taken-in-any-order {xs} {ys} p h =
+    let e = totals-in-any-order p in
+    let few : length ys ≤ 1000 = omega (arith, totals-bounded xs .taken, totals-bounded ys .taken, ap imagesTaken e) in
+    all-taken xs h ∙ e ∙ sym (all-taken ys few)
 
 -- "26 TooManyImages at the 1,001st, checked before the image itself, with all totals kept"
 pub one-too-many : (images : List (List ℕ)) (image : List ℕ) → length images ≡ 1000

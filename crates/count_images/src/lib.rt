@@ -1,7 +1,7 @@
 // Which words are used: how often each token stands in images (document 02, No. 12).
 //
-// Totals are 206 numbers that the caller lends and carries from image to image; empty ones are all 0. What stands where in them, and each
-// token's share, is `count_totals`.
+// Totals are 206 numbers that the caller lends and carries from image to image. 206 zeros are the totals of no images (`no-images`,
+// proofs/Thousand.antt). What stands where in them, and each token's share, is `count_totals`.
 ghost use mathlib.Core.Path.{_≡_};
 ghost use lib.ListN.{getD};
 ghost use Rattle.count_tokens.specs.Tokens.{tokensIn, countedTokens};

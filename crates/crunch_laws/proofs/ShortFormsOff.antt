@@ -126,6 +126,18 @@ guess-off Auto t = go (evidence AfterCr t)
     go true = refl
     go false = refl
 
+-- the same options, with short forms or without
+abbrev asking : Bool → Options → Options
+asking forms o = record { load = o .load; dialect = o .dialect; forms = forms; profile = o .profile }
+
+-- the same words, with short forms or without
+abbrev wordsAsked : Bool → Lexicon → Lexicon
+wordsAsked forms l = record { tsb = l .tsb; sets = withForms forms (l .sets); v2 = l .v2; basic35 = l .basic35; operators = l .operators }
+
+-- "The dialect guess never uses short forms": with the option on and off the words looked for in a text differ in that flag alone
+pub words-but-for-forms : (o : Options) (text : List ℕ) → textLexicon (asking true o) text ≡ wordsAsked true (textLexicon (asking false o) text)
+words-but-for-forms o text = refl
+
 -- ---- all of it
 
 module _ (o : Options) (off : o .forms ≡ false) (text : List ℕ) where

@@ -182,6 +182,12 @@ modes-agree d by image h = go (bodiesOf (stepBy by) image) h
     go (done ls) k = ap done (lines-alike (heedsPrefix d false) (heedsPrefix d true) (isBasic35 d) ls (k ls refl))
     go (refused n) k = refl
 
+-- so outside `basic35` the listing in the second mode is there the old listing
+pub second-mode-as-old : (d : Dialect) (image : List ℕ) → isBasic35 d ≡ false
+    → ((ls : List NumberedBody) → bodiesOf (stepBy Terminators) image ≡ done ls → Each (λ l. ListsAlike (l .body)) ls)
+    → listingUnder (record { dialect = d; remarks = true; by = Terminators }) image ≡ listing image
+second-mode-as-old d image other h = modes-agree d Terminators image h ∙ old-mode d image other
+
 -- where both readers read the same lines, both list the same
 pub readers-agree : (d : Dialect) (remarks : Bool) (image : List ℕ) → bodiesOf (stepBy Terminators) image ≡ bodiesOf (stepBy Links) image
     → listingUnder (record { dialect = d; remarks = remarks; by = Terminators }) image ≡ listingUnder (record { dialect = d; remarks = remarks; by = Links }) image

@@ -1,18 +1,26 @@
--- The stretches of a line joined, and the lines joined, are the listing; and a room of nine bytes always brings a line nearer to its end.
+-- The stretches of a line joined, and the lines joined, are the listing; and a room of nine bytes always brings a line nearer to its end, so
+-- calls with such rooms give the whole listing.
 -- Assumes nothing.
-use Prim.Native.Nat.{ℕ, suc, _+_, _-_, _≤_, _<_}
+use Prim.Native.Nat.{ℕ, zero, suc, _+_, _-_, _≤_, _<_}
 use mathlib.Core.Path.{_≡_, refl, sym, ap, _∙_, subst}
 use mathlib.Core.Bool.{Bool, true, false, cond, _&&_}
-use mathlib.Core.List.{List, [], _∷_, _++_, append-assoc, append-nil}
+use mathlib.Core.List.{List, [], _∷_, _++_, map, append-assoc, append-nil}
 use native.Mathlib.Omega.{arith}
 use lib.Dec.{leb, ltb}
 use lib.ListN.{length, getD, drop, length-append, drop-of-length-le}
 use lib.Seq.{drop-drop}
 use borrow.Author.Tests.{le-leb, lt-ltb, leb-true, leb-false, ltb-true}
-use Rattle.base_refusals.specs.Answer.{Answer, done, mapDone}
+use Rattle.base_steps.specs.Each.{Each}
+use Rattle.base_refusals.specs.Answer.{Answer, done, refused, mapDone}
 use Rattle.image_readers.specs.NumberedBody.{NumberedBody}
-use Rattle.image_readers.specs.Bodies.{bodiesOf}
+use Rattle.image_readers.specs.declared.By.{By}
+use Rattle.image_readers.specs.declared.Line.{Line}
+use Rattle.image_readers.specs.Bodies.{numberedBody, bodiesFrom, bodiesOf}
+use Rattle.image_readers.specs.Chain.{Chain, here, on, Leads}
+use Rattle.image_readers.specs.Lines.{linesOf}
 use Rattle.image_readers.specs.Readers.{stepBy}
+use Rattle.image_readers.proofs.Reading.{lines-lead}
+use Rattle.image_readers.proofs.Steps.{by-sound}
 use Rattle.image_units.specs.declared.Mode.{Mode}
 use Rattle.image_units.specs.declared.Mode.the-variants.{Plain}
 use Rattle.image_units.specs.declared.Rules.{Rules}
@@ -25,7 +33,7 @@ use Rattle.list_lines.specs.LineHelpers.{headListing, restListing}
 use Rattle.list_image.specs.Listing.{linesListing, listingBy}
 use Rattle.list_options.specs.Modes.{rulesUnder}
 use Rattle.list_image.specs.Listing.{listingUnder}
-use Rattle.list_stretches.specs.Stretch.{Run, noRun, runFrom, Stretched, ended, bodyStretch, numberBefore, stretchOf, stretchAnswer, leftToList, InStretches, over, more, LinesInStretches, no-lines, line-more, joinedParts, placeLeft}
+use Rattle.list_stretches.specs.Stretch.{Run, noRun, runFrom, Stretched, ended, bodyStretch, numberBefore, stretchOf, stretchAnswer, leftToList, InStretches, over, more, LinesInStretches, no-lines, line-more, joinedParts, placeLeft, stretchesFrom, stretchesOf}
 use Rattle.list_options.specs.declared.ListOptions.{ListOptions}
 use Rattle.list_stretches.specs.declared.Place.{Place}
 use Rattle.list_stretches.specs.declared.Place.the-variants.{Number, Body, Over}
@@ -231,3 +239,49 @@ module _ (o : ListOptions) (body : List ℕ) (room : ℕ) (place : Place) {r : S
 
   pub stretch-held : r .length ≤ room
   stretch-held = rw is (stretch-short (rulesUnder o) body room place)
+
+-- ---- what a caller is given
+
+-- calls with nine bytes or more come to a line's end
+module _ (rules : Rules) (body : List ℕ) (rooms : ℕ → ℕ) (big : (k : ℕ) → 9 ≤ rooms k) where
+  line-given : (most k : ℕ) (place : Place) → SmallNumber place → placeLeft body place ≤ most → InStretches rules body place (stretchesFrom rules body rooms most k place)
+  unfolding stretchesFrom placeLeft
+  line-given zero k (Number n) small few = absurd (omega arith)
+  line-given zero k (Body at mode) small few = absurd (omega arith)
+  line-given zero k Over small few = over
+  line-given (suc most) k (Number n) small few =
+      more (rooms k)
+      (line-given most (suc k) (stretchOf rules body (rooms k) (Number n) .place) (stays rules body (rooms k) (Number n) small) (omega (arith, number-nearer rules body (rooms k) n small (big k))))
+  line-given (suc most) k (Body at mode) small few =
+      more (rooms k)
+      (line-given most (suc k) (stretchOf rules body (rooms k) (Body at mode) .place) (stays rules body (rooms k) (Body at mode) tt) (omega (arith, place-nearer rules body (rooms k) at mode (big k))))
+  line-given (suc most) k Over small few = over
+
+-- so what they give of lines is the lines in stretches
+pub lines-given : (rules : Rules) (rooms : ℕ → ℕ → ℕ) → ((j k : ℕ) → 9 ≤ rooms j k) → (j : ℕ) (ls : List NumberedBody) → Each (λ l. l .number < 65536) ls
+    → LinesInStretches rules ls (stretchesOf rules rooms j ls)
+unfolding stretchesOf
+lines-given rules rooms big j [] small = no-lines
+lines-given rules rooms big j (l ∷ ls) small =
+    line-more (line-given rules (l .body) (rooms j) (big j) (placeLeft (l .body) (Number (l .number))) 0 (Number (l .number)) (small .0) (omega arith))
+    (lines-given rules rooms big (suc j) ls (small .1))
+
+-- in an image of bytes a line's number has 16 bits
+numbers-small : (by : By) (image : List ℕ) → ((i : ℕ) → getD image i 0 < 256) → {p q : ℕ} {ls : List Line} → Chain (stepBy by image) p ls q
+    → Each (λ (l : NumberedBody). l .number < 65536) (map (numberedBody image) ls)
+numbers-small by image bytes here = tt
+numbers-small by image bytes (on {p = p} e c) =
+    (omega (arith, by-sound by .lies image p e .number, bytes (p + 2), bytes (p + 2 + 1)), numbers-small by image bytes c)
+
+-- "Every image taken before is proved to give the same listing bytes when the parts are joined": what calls give, in any rooms of nine bytes or
+-- more, joined is the listing; a refusal is the same on both sides
+pub listing-given : (o : ListOptions) (image : List ℕ) → ((i : ℕ) → getD image i 0 < 256) → (rooms : ℕ → ℕ → ℕ) → ((j k : ℕ) → 9 ≤ rooms j k)
+    → listingUnder o image ≡ mapDone (λ ls. joinedParts (stretchesOf (rulesUnder o) rooms 0 ls)) (bodiesOf (stepBy (o .by)) image)
+unfolding listingUnder listingBy bodiesFrom
+listing-given o image bytes rooms big = go (linesOf (stepBy (o .by)) image) (lines-lead (by-sound (o .by)) image 2)
+  where
+    go : (a : Answer (List Line)) → Leads (stepBy (o .by)) image 2 a
+        → mapDone (linesListing (rulesUnder o)) (mapDone (map (numberedBody image)) a)
+        ≡ mapDone (λ ls. joinedParts (stretchesOf (rulesUnder o) rooms 0 ls)) (mapDone (map (numberedBody image)) a)
+    go (done ls) k = ap done (sym (lines-joined (rulesUnder o) (lines-given (rulesUnder o) rooms big 0 (map (numberedBody image) ls) (numbers-small (o .by) image bytes (k .1)))))
+    go (refused n) k = refl

@@ -2,8 +2,8 @@
 -- of what is left of a line, in whole pieces. A piece is the number with its space, a unit's text, or the line's end; none is longer than
 -- nine bytes, so a room of nine always holds one (proofs/Stretches.antt).
 -- Assumes nothing.
-use Prim.Native.Nat.{ℕ, suc, _+_, _-_}
-use mathlib.Core.Bool.{cond, _&&_}
+use Prim.Native.Nat.{ℕ, zero, suc, _+_, _-_}
+use mathlib.Core.Bool.{Bool, true, false, cond, _&&_}
 use mathlib.Core.List.{List, [], _∷_, _++_}
 use lib.Dec.{leb, ltb}
 use lib.ListN.{length, drop}
@@ -109,3 +109,27 @@ unfoldable pub placeLeft : List ℕ → Place → ℕ
 placeLeft body (Number n) = length body + 2
 placeLeft body (Body at mode) = length body - at + 1
 placeLeft body Over = 0
+
+-- ---- what a caller is given
+
+abbrev pub isOver : Place → Bool
+isOver (Number n) = false
+isOver (Body at mode) = false
+isOver Over = true
+
+-- the stretches of calls one after the other, until the line is over: the k-th call has a room of `rooms k` bytes; so many calls at most
+unfoldable pub stretchesFrom : Rules → List ℕ → (ℕ → ℕ) → ℕ → ℕ → Place → List (List ℕ)
+unfolding stretchOf
+stretchesFrom rules body rooms zero k place = []
+stretchesFrom rules body rooms (suc most) k place =
+    let s = stretchOf rules body (rooms k) place in
+    cond (isOver place) [] (s .text ∷ stretchesFrom rules body rooms most (suc k) (s .place))
+
+-- the same of lines, from the j-th on. In rooms of nine bytes or more no line takes more calls than it is far from its end (`lines-given`,
+-- proofs/Joining.antt)
+unfoldable pub stretchesOf : Rules → (ℕ → ℕ → ℕ) → ℕ → List NumberedBody → List (List ℕ)
+unfolding stretchesFrom placeLeft
+stretchesOf rules rooms j [] = []
+stretchesOf rules rooms j (l ∷ ls) =
+    let start = Number (l .number) in
+    stretchesFrom rules (l .body) (rooms j) (placeLeft (l .body) start) 0 start ++ stretchesOf rules rooms (suc j) ls
