@@ -1,3 +1,4 @@
 pub mod ProfileAccepted
 pub mod ProfileTable
 pub mod ShortFormsOff
+pub mod WithoutProfile

@@ -6,9 +6,9 @@ use mathlib.Core.Path.{_≡_, refl, sym, ap, _∙_, subst}
 use mathlib.Core.Bool.{Bool, true, false, cond, _||_}
 use mathlib.Core.List.{List, [], _∷_, _++_}
 use native.Mathlib.Omega.{arith}
-use lib.Dec.{eqb}
+use lib.Dec.{eqb, ltb}
 use lib.ListN.{length}
-use borrow.Author.Tests.{ltb-false, eq-eqb}
+use borrow.Author.Tests.{ltb-false, le-ltb, eq-eqb, ne-eqb}
 use Rattle.base_refusals.specs.Numbers.{Numbered, lineNumberTooHigh, notAscending, zeroInBody, bodyLength}
 use Rattle.base_refusals.specs.Answer.{Answer, done, refused, mapDone, andThen}
 use Rattle.text_lines.specs.declared.LineRule.the-variants.{AfterCr}
@@ -25,7 +25,7 @@ use Rattle.image_layout.specs.Reads.{leastLoad, NoZero, NoZeros, linesAt}
 use Rattle.crunch_profile.specs.Profile.{profileSays, lineAllowed, allowed, leastBehind}
 use Rattle.crunch_rules.specs.Crunched.{textLine, lineUnder, lastLink, crunchLines, textLexicon, crunchedLines, crunched}
 use Rattle.crunch_rules.specs.declared.Options.{Options}
-use Rattle.crunch_rules.proofs.Lining.{lines-plain}
+use Rattle.crunch_rules.proofs.Lining.{under-plain, lines-plain}
 use Rattle.crunch_read_back.proofs.Demand.{behind, crunched-laid, read-back, read-back-terminators}
 use Rattle.image_relink.specs.Relinking.{same, relinking}
 use Rattle.image_relink.proofs.Laid.{Passable, laid-kept}
@@ -55,8 +55,23 @@ line-fits k least l e =
     let c = passed (holdsZero (l .body)) (zeroInBody k) _ (b .1) in
     let d = good-length c64 (length (l .body)) (passed (isBadLength c64 (length (l .body))) (bodyLength k) _ (c .1) .0) in (
       ltb-false (l .number) least (b .0),
-      record { number = ltb-false (c64 .highest) (l .number) (a .0); none = no-zero (l .body) (c .0); some = d .0; few = d .1 },
+      record { number = ltb-false (c64 .highest) (l .number) (a .0); none = no-zero (l .body) (c .0); some = d .0; few = omega (arith, d .1) },
     )
+
+-- ---- and a line that fits is allowed
+
+zero-free : (body : List ℕ) → NoZero body → holdsZero body ≡ false
+unfolding holdsZero
+zero-free [] n = refl
+zero-free (b ∷ s) n = rw (ne-eqb b 0 (n .0)) (zero-free s (n .1))
+
+line-allowed : (k least : ℕ) (l : NumberedBody) → least ≤ l .number → FitsMachine l → lineAllowed k least l ≡ done tt
+unfolding lineAllowed profileSays
+line-allowed k least l up f =
+    let low : ltb 63999 (l .number) ≡ false = le-ltb 63999 (l .number) (f .number) in
+    let some : ltb (length (l .body)) 1 ≡ false = le-ltb (length (l .body)) 1 (f .some) in
+    let few : ltb 250 (length (l .body)) ≡ false = le-ltb 250 (length (l .body)) (f .few) in
+    rw (low, le-ltb (l .number) least up, zero-free (l .body) (f .none), some, few)
 
 -- ---- lines one after the other
 
@@ -100,6 +115,42 @@ lines-fit words (line ∷ lines) k least address {ls} e =
     subst (FitMachine least) (sym (b .whole))
     (fit-append least new (b .rest) (new-fit words k least line (t .1)) (lines-fit words lines (suc k) (leastBehind least new) (n .0) (b .answer)))
 
+-- the same lines, where they fit
+
+fit-allowed : (k least : ℕ) (ls : List NumberedBody) → FitMachine least ls → allowed k least ls ≡ done tt
+fit-allowed k least [] f = refl
+fit-allowed k least (l ∷ ls) f =
+    ap (λ (a : Answer (Unit {0})). andThen a (λ _. allowed k (suc (l .number)) ls)) (line-allowed k least l (f .0) (f .1))
+    ∙ fit-allowed k (suc (l .number)) ls (f .2)
+
+fit-split : (least : ℕ) (ls ms : List NumberedBody) → FitMachine least (ls ++ ms) → FitMachine least ls × FitMachine (leastBehind least ls) ms
+fit-split least [] ms f = (tt, f)
+fit-split least (l ∷ ls) ms f = let g = fit-split (suc (l .number)) ls ms (f .2) in ((f .0, f .1, g .0), g .1)
+
+new-allowed : (words : Lexicon) (k least : ℕ) (line : List ℕ) {new : List NumberedBody} → textLine words k line ≡ done new → FitMachine least new
+    → lineUnder true words k least line ≡ done new
+unfolding lineUnder
+new-allowed words k least line {new} e f =
+    ap (λ (a : Answer (List NumberedBody)). andThen a (λ ls. mapDone (λ _. ls) (allowed k least ls))) e
+    ∙ ap (mapDone (λ _. new)) (fit-allowed k least new f)
+
+lines-allowed : (words : Lexicon) (lines : List (List ℕ)) (k least address : ℕ) {ls : List NumberedBody} → crunchLines false words k least address lines ≡ done ls → FitMachine least ls
+    → crunchLines true words k least address lines ≡ done ls
+unfolding crunchLines
+lines-allowed words [] k least address e f = e
+lines-allowed words (line ∷ lines) k least address {ls} e f =
+    let t = then-done (lineUnder false words k least line) _ e in
+    let new = t .0 in
+    let n = then-done (lastLink address new) _ (t .2) in
+    let b = behind new ls (crunchLines false words (suc k) (leastBehind least new) (n .0) lines) (n .2) in
+    let fit = fit-split least new (b .rest) (subst (FitMachine least) (b .whole) f) in
+    ap (λ (a : Answer (List NumberedBody)). andThen a (λ new. andThen (lastLink address new) (λ next.
+    mapDone (λ ls. new ++ ls) (crunchLines true words (suc k) (leastBehind least new) next lines))))
+    (new-allowed words k least line (under-plain false words k least line (t .1)) (fit .0))
+    ∙ ap (λ (a : Answer ℕ). andThen a (λ next. mapDone (λ ls. new ++ ls) (crunchLines true words (suc k) (leastBehind least new) next lines))) (n .1)
+    ∙ ap (mapDone (λ ls. new ++ ls)) (lines-allowed words lines (suc k) (leastBehind least new) (n .0) (b .answer) (fit .1))
+    ∙ ap done (sym (b .whole))
+
 no-zeros : (least : ℕ) (ls : List NumberedBody) → FitMachine least ls → NoZeros ls
 no-zeros least [] f = tt
 no-zeros least (l ∷ ls) f = (f .1 .none, no-zeros (suc (l .number)) ls (f .2))
@@ -113,6 +164,18 @@ passable least (l ∷ ls) f = (record { some = f .1 .some; few = f .1 .few; none
 -- the same options without the profile
 abbrev plain : Options → Options
 plain o = record { load = o .load; dialect = o .dialect; profile = false; forms = o .forms }
+
+-- and with it
+abbrev profiled : Options → Options
+profiled o = record { load = o .load; dialect = o .dialect; profile = true; forms = o .forms }
+
+-- lines that are read plainly and fit the machine are accepted under the profile
+pub fits-accepted : (o : Options) (text : List ℕ) {ls : List NumberedBody} → crunchedLines (plain o) text ≡ done ls → FitMachine 0 ls → crunchedLines (profiled o) text ≡ done ls
+unfolding crunchedLines
+fits-accepted o text e f =
+    let c = then-done (checkedText text) _ e in
+    ap (λ (x : Answer (Unit {0})). andThen x (λ _. crunchLines true (textLexicon o text) 1 0 (o .load) (textLines AfterCr text))) (c .1)
+    ∙ lines-allowed (textLexicon o text) (textLines AfterCr text) 1 0 (o .load) (c .2) f
 
 module _ (o : Options) (text : List ℕ) {ls : List NumberedBody} (e : crunchedLines o text ≡ done ls) where
   -- "An accepted text has the same image as before"

@@ -1,3 +1,4 @@
 pub mod BeforeShortForms
 pub mod ProfileAccepted
 pub mod ProfileTable
+pub mod WithoutProfile

@@ -144,10 +144,10 @@ module _ (o o′ : Options) (text text′ : List ℕ) {ls ls′ : List NumberedB
   pub same-lines-same-bytes : o .load ≡ o′ .load → ls ≡ ls′ → crunched o text ≡ crunched o′ text′
   same-lines-same-bytes h f = crunched-image o text low e ∙ ap done (same-image h f) ∙ sym (crunched-image o′ text′ low′ e′)
 
-  pub same-bytes-same-program : leastLoad ≤ o .load → leastLoad ≤ o′ .load → crunched o text ≡ crunched o′ text′ → (o .load ≡ o′ .load) × (ls ≡ ls′)
-  same-bytes-same-program up up′ f =
+  pub same-bytes-same-program : crunched o text ≡ crunched o′ text′ → (o .load ≡ o′ .load) × (ls ≡ ls′)
+  same-bytes-same-program f =
       let same : done (imageOf (o .load) ls) ≡ done (imageOf (o′ .load) ls′) = sym (crunched-image o text low e) ∙ f ∙ crunched-image o′ text′ low′ e′ in
-      same-program (crunched-laid o text low e) (crunched-laid o′ text′ low′ e′) up up′ (let image : imageOf (o .load) ls ≡ imageOf (o′ .load) ls′ = cc in image)
+      same-program (crunched-laid o text low e) (crunched-laid o′ text′ low′ e′) (let image : imageOf (o .load) ls ≡ imageOf (o′ .load) ls′ = cc in image)
 
 -- ---- as a call
 

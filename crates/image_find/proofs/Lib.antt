@@ -1,4 +1,5 @@
 pub mod Bodies
+pub mod LimitMet
 pub mod Limits
 pub mod Seeking
 pub mod Tight

@@ -24,7 +24,7 @@ use Rattle.image_readers.proofs.Lined.{lined-line, lined-end, lined-refused}
 use Rattle.image_find.specs.Sought.{limitReached, Visit, at, nowhere, within, lineSought}
 
 -- the search from p on, v headers being visited
-abbrev soughtFrom : ℕ → ℕ → List ℕ → ℕ → ℕ → Answer Visit
+abbrev pub soughtFrom : ℕ → ℕ → List ℕ → ℕ → ℕ → Answer Visit
 soughtFrom number limit s p v = within number limit v (linedFrom linkStep s p .lines) (linedFrom linkStep s p .ending)
 
 -- v headers were visited before p, none of them the line's; what is sought from p on is what is sought

@@ -1,1 +1,2 @@
+pub mod LimitMet
 pub mod Sought

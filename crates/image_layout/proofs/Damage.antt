@@ -203,15 +203,51 @@ links-changed {set} {load} {ls} {s} laid none c =
 
 -- ---- same bytes, same program
 
+-- lists that begin with as many bytes
+split : (x y u v : List ℕ) → length x ≡ length y → x ++ u ≡ y ++ v → (x ≡ y) × (u ≡ v)
+split [] [] u v h e = (refl, e)
+split [] (b ∷ y) u v h e = absurd (omega arith)
+split (a ∷ x) [] u v h e = absurd (omega arith)
+split (a ∷ x) (b ∷ y) u v h e =
+    let tails = split x y u v (omega arith) (ap (drop 1) e) in
+    let heads : a ≡ b = ap (λ (s : List ℕ). getD s 0 0) e in
+    (rw (heads, tails .0), tails .1)
+
+same-line : (l m : NumberedBody) → l .number ≡ m .number → l .body ≡ m .body → l ≡ m
+same-line l m e f = ap (λ (n : ℕ). record { number = n; body = l .body }) e ∙ ap (λ (b : List ℕ). record { number = m .number; body = b }) f
+
+regrouped : (body rest : List ℕ) → ((body ++ 0 ∷ []) ++ rest) ++ 0 ∷ 0 ∷ [] ≡ body ++ (0 ∷ (rest ++ 0 ∷ 0 ∷ []))
+regrouped body rest = simp append-assoc
+
+-- lines laid out at one address: a link says how long its body is, so the bytes say the lines, whatever a reader finds there
+lines-same : (a : ℕ) (ls ms : List NumberedBody) → Laid a ls → Laid a ms → linesBytes a ls ++ 0 ∷ 0 ∷ [] ≡ linesBytes a ms ++ 0 ∷ 0 ∷ [] → ls ≡ ms
+unfolding linesBytes linkedBytes endAddress
+lines-same a [] [] h k e = refl
+lines-same a [] (m ∷ ms) h k e = let long = ap length e in absurd (omega arith)
+lines-same a (l ∷ ls) [] h k e = let long = ap length e in absurd (omega arith)
+lines-same a (l ∷ ls) (m ∷ ms) h k e =
+    let low = ap (λ (s : List ℕ). getD s 0 0) e in
+    let high = ap (λ (s : List ℕ). getD s 1 0) e in
+    let number-low = ap (λ (s : List ℕ). getD s 2 0) e in
+    let number-high = ap (λ (s : List ℕ). getD s 3 0) e in
+    let long : length (l .body) ≡ length (m .body) = omega (arith, first-fits a l ls (h .fits), first-fits a m ms (k .fits)) in
+    let number : l .number ≡ m .number = omega (arith, h .numbers .0, k .numbers .0) in
+    let rest = linesBytes (linkOf a (l .body)) ls in
+    let rest′ = linesBytes (linkOf a (m .body)) ms in
+    let parts = split (l .body) (m .body) (0 ∷ rest ++ 0 ∷ 0 ∷ []) (0 ∷ rest′ ++ 0 ∷ 0 ∷ []) long (sym (regrouped (l .body) rest) ∙ ap (drop 4) e ∙ regrouped (m .body) rest′) in
+    let same : l ≡ m = same-line l m number (parts .0) in
+    let more : ls ≡ ms =
+    lines-same (linkOf a (l .body)) ls ms (record { fits = h .fits; numbers = h .numbers .1 }) (rw long (record { fits = k .fits; numbers = k .numbers .1 }))
+    (ap (drop 1) (parts .1) ∙ ap (λ (n : ℕ). linesBytes (a + 5 + n) ms ++ 0 ∷ 0 ∷ []) (sym long)) in
+    rw (same, more)
+
 -- two images are equal exactly when their load addresses and their lines are
 module _ {load load′ : ℕ} {ls ls′ : List NumberedBody} where
   pub same-image : load ≡ load′ → ls ≡ ls′ → imageOf load ls ≡ imageOf load′ ls′
   same-image e f = rw (e, f)
 
-  pub same-program : Laid load ls → Laid load′ ls′ → leastLoad ≤ load → leastLoad ≤ load′ → imageOf load ls ≡ imageOf load′ ls′ → (load ≡ load′) × (ls ≡ ls′)
-  same-program laid laid′ up up′ e =
-      let one = read-back-by-links laid up in
-      let other = read-back-by-links laid′ up′ in
-      let bodies : done ls ≡ done ls′ = sym (one .bodies) ∙ ap (bodiesOf linkStep) e ∙ other .bodies in
+  pub same-program : Laid load ls → Laid load′ ls′ → imageOf load ls ≡ imageOf load′ ls′ → (load ≡ load′) × (ls ≡ ls′)
+  unfolding imageOf
+  same-program laid laid′ e =
       let loads : load ≡ load′ = sym (load-is laid) ∙ ap (λ (s : List ℕ). lowFirstAt s 0) e ∙ load-is laid′ in
-      (loads, (let same : ls ≡ ls′ = cc in same))
+      (loads, lines-same load ls ls′ laid (rw loads laid′) (ap (drop 2) e ∙ ap (λ (a : ℕ). linesBytes a ls′ ++ 0 ∷ 0 ∷ []) (sym loads)))
