@@ -51,7 +51,7 @@ fn token_of(text: &[u8], bytes: &[u8], index: &[u16]) -> u8
 // A row: a token, and the word that it is listed as.
 fn print_word(k: u8) {
     let text_bytes = list_texts::TEXT_BYTES;
-    let text = list_texts::text35_at(&text_bytes, &list_texts::TEXT_STARTS, k);
+    let text = list_texts::word35_at(&text_bytes, &list_texts::TEXT_STARTS, k);
     print_code(token_of(text, &spellings::WORD_BYTES, &spellings::WORD_INDEX));
     io::write_all(STDOUT_FILENO, b"\t");
     io::write_all(STDOUT_FILENO, text);

@@ -17,7 +17,9 @@ use Rattle.base_lent.specs.Stores.{Room, Put}
 use Rattle.word_search.specs.Spelling.{bytesOf}
 use Rattle.list_bytes.specs.ByteTexts.{hexDigits, byteText, hexByte, remarkText}
 use Rattle.list_bytes.specs.HeldHelpers.{held}
-use Rattle.list_texts.specs.Texts.{textOf, textOf35}
+use Rattle.list_texts.specs.Texts.{braced, textOf}
+use Rattle.list_texts.specs.TextsHelpers.{listedWord, listedWord35, orDigits}
+use Rattle.list_texts.proofs.Made.{no-digits, digits-for, word-below, text-made, text35-made}
 use Rattle.word_tables.specs.Tsb.{tsbWords, withToken, tsbId, tsbText}
 use Rattle.list_bytes.proofs.ByteTexts.{hex-digits}
 use Rattle.list_bytes.specs.declared.ByteText.{ByteText}
@@ -50,9 +52,11 @@ module _ (b : ℕ) {id : ℕ} where
   unfolding tsbText
   no-word h is = none-above 0x80 id tsbWords tsb-below h ∙ ap (λ (k : ℕ). withToken k tsbWords) is
 
-  pub a-word : id < 0x80 → id ≡ tsbId b → {t : List ℕ} → t ≡ textOf id → t ≡ tsbText b
+  pub a-word : id < 0x80 → id ≡ tsbId b → {t : List ℕ} → t ≡ listedWord id → t ≡ tsbText b
   unfolding tsbText textOf
-  a-word h is e = e ∙ simp (lt-ltb _ _ h) (ap (λ (k : ℕ). withToken k tsbWords) is)
+  a-word h is e =
+      let low : id < 0xCC = omega arith in
+      e ∙ word-below id low ∙ simp (lt-ltb _ _ h) (ap (λ (k : ℕ). withToken k tsbWords) is)
 
 -- ---- the unit's text
 
@@ -65,13 +69,13 @@ module _ {unit : Unit} where
   unfolding unitText
   char-text {b} is e = rw is (held-text (byteText b) (byte-text-short b) e)
 
-  pub token-text : {b : ℕ} {t : List ℕ} → unit ≡ Token b → t ≡ textOf b → t ≡ unitText unit
+  pub token-text : {b : ℕ} {w : List ℕ} → unit ≡ Token b → w ≡ listedWord b → orDigits b w ≡ unitText unit
   unfolding unitText
-  token-text is e = rw is e
+  token-text {b} is e = rw is (ap (orDigits b) e ∙ text-made b)
 
-  pub token35-text : {b : ℕ} {t : List ℕ} → unit ≡ Token35 b → t ≡ textOf35 b → t ≡ unitText unit
+  pub token35-text : {b : ℕ} {w : List ℕ} → unit ≡ Token35 b → w ≡ listedWord35 b → orDigits b w ≡ unitText unit
   unfolding unitText
-  token35-text is e = rw is e
+  token35-text {b} is e = rw is (ap (orDigits b) e ∙ text35-made b)
 
   pub pair-word : {b : ℕ} {w : List ℕ} → unit ≡ Pair b → 0 < length w → w ≡ tsbText b → w ≡ unitText unit
   unfolding unitText pairText
@@ -98,6 +102,21 @@ pub pair-digits : {b high low : ℕ} → Fits w8 b → high ≡ getD hexDigits (
 unfolding unknownPair
 pair-digits small h l = ap (λ (digits : List ℕ). bytesOf "{64}{" ++ (digits ++ bytesOf "}")) (hex-digits small h l)
 
+-- ---- a token's text, by its word
+
+module _ (k : ℕ) (word : List ℕ) where
+  pub nothing-long : length word ≤ 0 → k < 0xCC → 0 ≡ length (orDigits k word)
+  nothing-long z h = ap length (no-length word z ∙ no-digits k word h)
+
+  pub digits-long : 0xCC ≤ k → length word ≤ 0 → 4 ≡ length (orDigits k word)
+  unfolding braced hexByte
+  digits-long h z = ap length (digits-for k word refl h z)
+
+  pub nothing-put : (buffer : List ℕ) (at : ℕ) → length word ≤ 0 → k < 0xCC → Put buffer at (orDigits k word) at buffer
+  nothing-put buffer at z h =
+      let none : [] ≡ orDigits k word = no-length word z ∙ no-digits k word h in
+      rw (← none) (record { ends = omega arith; stored = refl })
+
 -- ---- its length, its room, and that it was stored
 
 pub char-length : {unit : Unit} {b : ℕ} {t : ByteText} → unit ≡ Char b → t ≡ held (byteText b) → t .len ≡ length (unitText unit)
@@ -117,6 +136,9 @@ remarked-length {b = b} is e = rw is (held-length (remarkText b) e)
 
 pub long-as : {t s : List ℕ} → t ≡ s → length t ≡ length s
 long-as e = ap length e
+
+pub long-of : {n : ℕ} {t s : List ℕ} → n ≡ length t → t ≡ s → n ≡ length s
+long-of l e = l ∙ ap length e
 
 module _ {buffer : List ℕ} {at : ℕ} {t s : List ℕ} where
   pub room-of : Room buffer at s → t ≡ s → Room buffer at t

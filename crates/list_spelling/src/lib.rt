@@ -5,7 +5,7 @@ ghost use Prim.Native.Nat.{_+_, _≤_};
 ghost use lib.ListN.{length, take, drop};
 ghost use lib.Seq.{sets};
 ghost use Rattle.base_lent.specs.Stores.{Room, Put};
-ghost use Rattle.list_texts.specs.TextsHelpers.{SpellsTexts};
+ghost use Rattle.list_texts.specs.TextsHelpers.{orDigits, SpellsTexts};
 ghost use Rattle.word_tables.specs.Tsb.{tsbId, tsbText};
 ghost use Rattle.list_spelling.specs.ItselfHelpers.{listsAsItself};
 ghost use Rattle.list_spelling.specs.Pieces.{unknownPair, unitText};
@@ -28,8 +28,8 @@ pub fn unit_length(bytes: &[u8], starts: &[u16], unit: Unit) -> usize
 {
     match unit {
         Unit::Char(b) => list_bytes::byte_to_string(b).len,
-        Unit::Token(b) => list_texts::text_at(bytes, starts, b).len(),
-        Unit::Token35(b) => list_texts::text35_at(bytes, starts, b).len(),
+        Unit::Token(b) => token_length(list_texts::word_at(bytes, starts, b), b),
+        Unit::Token35(b) => token_length(list_texts::word35_at(bytes, starts, b), b),
         Unit::Pair(b) => {
             let n = tsb_word(bytes, starts, b).len();
             if n > 0 {
@@ -40,6 +40,20 @@ pub fn unit_length(bytes: &[u8], starts: &[u16], unit: Unit) -> usize
         Unit::Lone => 4,
         Unit::Remarked(b) => list_bytes::remark_to_string(b).len,
     }
+}
+
+// How long the text of a token is that has this word.
+fn token_length(word: &[u8], b: u8) -> usize
+    ensures { λ r. ⌜ r ≡ length (orDigits b (now (word .entry))) ⌝ }
+{
+    let n = word.len();
+    if n > 0 {
+        return n;
+    }
+    if b < 0xCC {
+        return 0;
+    }
+    4
 }
 
 // Stores a unit's text from a place on, and answers the place behind it.
@@ -54,8 +68,8 @@ pub fn put_unit(out: &mut [u8], at: usize, bytes: &[u8], starts: &[u16], unit: U
             let held = text.bytes;
             put(out, at, &held[..n])
         }
-        Unit::Token(b) => put(out, at, list_texts::text_at(bytes, starts, b)),
-        Unit::Token35(b) => put(out, at, list_texts::text35_at(bytes, starts, b)),
+        Unit::Token(b) => put_token(out, at, list_texts::word_at(bytes, starts, b), b),
+        Unit::Token35(b) => put_token(out, at, list_texts::word35_at(bytes, starts, b), b),
         Unit::Pair(b) => {
             let word = tsb_word(bytes, starts, b);
             if word.len() > 0 {
@@ -72,6 +86,21 @@ pub fn put_unit(out: &mut [u8], at: usize, bytes: &[u8], starts: &[u16], unit: U
             put(out, at, &held[..n])
         }
     }
+}
+
+// Stores the text of a token that has this word from a place on, and answers the place behind it.
+fn put_token(out: &mut [u8], at: usize, word: &[u8], b: u8) -> usize
+    requires { ⌜ Room (now out) at (orDigits b (now word)) ⌝ }
+    ensures { λ r. ⌜ Put (now (out .entry)) at (orDigits b (now (word .entry))) r (now (out .exit)) ⌝ }
+{
+    if word.len() > 0 {
+        return put(out, at, word);
+    }
+    if b < 0xCC {
+        return at;
+    }
+    let held = list_texts::digits(b);
+    put(out, at, &held)
 }
 
 // Stores a text from a place on, and answers the place behind it. One byte is stored at once, and four to eight, as most words have, by
@@ -141,7 +170,7 @@ pub fn tsb_word<'a>(bytes: &'a [u8], starts: &[u16], b: u8) -> &'a [u8]
     if id >= 0x80 {
         return &bytes[..0];
     }
-    list_texts::text_at(bytes, starts, id)
+    list_texts::word_at(bytes, starts, id)
 }
 
 // The byte that a TSB word is listed under: B1, B2 and B3 are read as 3E, 3D and 3C.

@@ -1,4 +1,4 @@
--- The two tables of texts as the definition gives them; such tables spell the texts. So the stored constants do, which are these tables.
+-- The two tables of words as the definition gives them; such tables spell the words. So the stored constants do, which are these tables.
 -- Assumes nothing.
 use Prim.Native.Nat.{ℕ, zero, suc, _+_, _-_, _<_}
 use mathlib.Core.Path.{_≡_, refl, sym, ap, _∙_}
@@ -14,14 +14,13 @@ use Rattle.base_ascii.proofs.Ranges.{between-in}
 use Rattle.word_search.specs.RunHelpers.{Lies, joined, starts, wordOf}
 use Rattle.word_search.proofs.Runs.{run-lies, run-word}
 use Rattle.word_tables.specs.Basic35.{basic35Spellings}
-use Rattle.list_texts.specs.Texts.{textOf, textOf35}
-use Rattle.list_texts.specs.TextsHelpers.{SpellsTexts}
+use Rattle.list_texts.specs.TextsHelpers.{listedWord, listedWord35, SpellsTexts}
 
--- n texts, from that of k on
+-- n words, from that of k on
 unfoldable pub textsFrom : ℕ → ℕ → List (List ℕ)
-unfolding textOf
+unfolding listedWord
 textsFrom k zero = []
-textsFrom k (suc n) = textOf k ∷ textsFrom (suc k) n
+textsFrom k (suc n) = listedWord k ∷ textsFrom (suc k) n
 
 -- those of a byte, and behind them the words of BASIC 3.5
 unfoldable pub allTexts : List (List ℕ)
@@ -41,7 +40,7 @@ unfolding textsFrom
 texts-long k zero = refl
 texts-long k (suc n) = ap suc (texts-long (suc k) n)
 
-text-from : (n k i m : ℕ) → m ≡ k + i → i < n → getD (textsFrom k n) i [] ≡ textOf m
+text-from : (n k i m : ℕ) → m ≡ k + i → i < n → getD (textsFrom k n) i [] ≡ listedWord m
 unfolding textsFrom
 text-from zero k i m e h = absurd (omega arith)
 text-from (suc n) k zero m e h = let z : m ≡ k = omega arith in rw z
@@ -51,7 +50,7 @@ all-long : length allTexts ≡ 306
 unfolding allTexts basic35Spellings
 all-long = length-append (textsFrom 0 256) basic35Spellings ∙ ap (λ (n : ℕ). n + 50) (texts-long 0 256)
 
-front-text : (k : ℕ) → k < 256 → getD allTexts k [] ≡ textOf k
+front-text : (k : ℕ) → k < 256 → getD allTexts k [] ≡ listedWord k
 unfolding allTexts
 front-text k h = List·getD-append (textsFrom 0 256) basic35Spellings [] k (omega (arith, texts-long 0 256)) ∙ text-from 256 0 k k (omega arith) h
 
@@ -68,20 +67,20 @@ texts-spelt e f = rw (e, f, ← append-nil (joined allTexts), ← append-nil (st
   spells35 = λ k h. run-word allTexts [] [] (256 + k) (omega (arith, all-long)) ∙ own-text k;
 })
 
--- ---- `text35_at`
+-- ---- `word35_at`
 
 module _ (k : ℕ) {r : Bool} where
-  pub text35-other : {t : List ℕ} → t ≡ textOf k → not r ≡ true → r ≡ between 0xCC 0xFD k → t ≡ textOf35 k
-  unfolding textOf35
-  text35-other e n is = e ∙ simp (sym is ∙ not-true r n)
+  pub word35-other : {t : List ℕ} → t ≡ listedWord k → not r ≡ true → r ≡ between 0xCC 0xFD k → t ≡ listedWord35 k
+  unfolding listedWord35
+  word35-other e n is = e ∙ simp (sym is ∙ not-true r n)
 
   module _ {bytes index : List ℕ} {w : ℕ} where
-    pub text35-lies : w ≡ k → not r ≡ false → r ≡ between 0xCC 0xFD k → SpellsTexts bytes index → Lies bytes index (w + 52)
-    text35-lies e n is sp = sp .lies (w + 52) (omega (arith, between-in 0xCC 0xFD k (sym is ∙ not-false r n)))
+    pub word35-lies : w ≡ k → not r ≡ false → r ≡ between 0xCC 0xFD k → SpellsTexts bytes index → Lies bytes index (w + 52)
+    word35-lies e n is sp = sp .lies (w + 52) (omega (arith, between-in 0xCC 0xFD k (sym is ∙ not-false r n)))
 
-    pub text35-own : {t : List ℕ} → t ≡ wordOf bytes index (w + 52) → w ≡ k → not r ≡ false → r ≡ between 0xCC 0xFD k → SpellsTexts bytes index → t ≡ textOf35 k
-    unfolding textOf35
-    text35-own q e n is sp =
+    pub word35-own : {t : List ℕ} → t ≡ wordOf bytes index (w + 52) → w ≡ k → not r ≡ false → r ≡ between 0xCC 0xFD k → SpellsTexts bytes index → t ≡ listedWord35 k
+    unfolding listedWord35
+    word35-own q e n is sp =
         let y : between 0xCC 0xFD k ≡ true = sym is ∙ not-false r n in
         let at : w + 52 ≡ 256 + (k - 0xCC) = omega (arith, between-in 0xCC 0xFD k y) in
         q ∙ ap (wordOf bytes index) at ∙ sp .spells35 (k - 0xCC) (omega (arith, between-in 0xCC 0xFD k y)) ∙ simp y

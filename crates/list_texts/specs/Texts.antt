@@ -13,13 +13,18 @@ use Rattle.word_tables.specs.Tsb.{tsbWords, withToken}
 use Rattle.word_tables.specs.Basic35.{basic35Spellings}
 use Rattle.list_bytes.specs.ByteTexts.{hexByte}
 
--- a byte of 80 or above outside quotes: the ROM's word, or its two digits in braces where the ROM has none, and pi
+-- the two digits of a byte in braces
+unfoldable pub braced : ℕ → List ℕ
+unfolding hexByte
+braced b = bytesOf "{" ++ (hexByte b ++ bytesOf "}")
+
+-- a byte of 80 or above outside quotes: the ROM's word, or its digits where the ROM has none, and pi
 unfoldable pub tokenText : ℕ → List ℕ
-unfolding romWords hexByte
+unfolding romWords braced
 tokenText b =
     cond (ltb b 0xCC) (getD romWords (b - 0x80) [])
     (cond (eqb b 0xFF) (bytesOf "{PI}")
-    (bytesOf "{" ++ (hexByte b ++ bytesOf "}")))
+    (braced b))
 
 -- the texts in one run: of a byte below 80 the TSB word behind 64, of a byte from 80 on its text outside quotes
 unfoldable pub textOf : ℕ → List ℕ

@@ -1,11 +1,12 @@
-// The texts of listing as one run of bytes, with a start for each and one behind the last: below 80 the TSB word of the byte behind a 64,
-// empty where there is none; from 80 on the text of a byte outside quotes; and behind FF the words of BASIC 3.5, CC to FD.
+// The words of listing as one run of bytes, with a start for each and one behind the last: below 80 the TSB word of the byte behind a 64,
+// empty where there is none; from 80 on the word of a byte outside quotes, empty where it is listed as its two digits; and behind FF the words of
+// BASIC 3.5, CC to FD. Digits are worked out.
 ghost use mathlib.Core.Path.{_≡_};
 ghost use Rattle.word_search.specs.Compare.{same};
-ghost use Rattle.list_texts.specs.Texts.{textOf, textOf35};
-ghost use Rattle.list_texts.specs.TextsHelpers.{SpellsTexts};
+ghost use Rattle.list_texts.specs.Texts.{braced, textOf};
+ghost use Rattle.list_texts.specs.TextsHelpers.{listedWord, listedWord35, SpellsTexts};
 
-pub const TEXT_BYTES: [u8; 1270] = *b"\
+pub const TEXT_BYTES: [u8; 1066] = *b"\
     HIRESPLOTLINEBLOCKFCHRFCOLFILLRECROTDRAWCHARHI COLINVFRACMOVEPLACEUPBUPWLEFTWLEFTBDOWNBDOWNW\
     RIGHTBRIGHTWMULTICOLORMMOBBFLASHMOB SETMUSICFLASHREPEATPLAYDOCENTERENVELOPECGOTOWAVEFETCHAT(\
     UNTILUSEGLOBALRESETPROCCALLEXECEND PROCEXITEND LOOPON KEYDISABLERESUMELOOPDELAYCLSX!MAPSECURE\
@@ -14,9 +15,7 @@ pub const TEXT_BYTES: [u8; 1270] = *b"\
     COLDSCRSVSCRLDTEXTCSETVOLDISKHRDCPYKEYPAINTLOW COLCOPYMERGERENUMBERMEMDETECTCHECKDISPLAYERROUT\
     ENDFORNEXTDATAINPUT#INPUTDIMREADLETGOTORUNIFRESTOREGOSUBRETURNREMSTOPONWAITLOADSAVEVERIFYDEFPOKE\
     PRINT#PRINTCONTLISTCLRCMDSYSOPENCLOSEGETNEWTAB(TOFNSPC(THENNOTSTEP+-*/^ANDOR>=<SGNINTABSUSRFRE\
-    POSSQRRNDLOGEXPCOSSINTANATNPEEKLENSTR$VALASCCHR$LEFT$RIGHT$MID$GO{CC}{CD}{CE}{CF}{D0}{D1}{D2}\
-    {D3}{D4}{D5}{D6}{D7}{D8}{D9}{DA}{DB}{DC}{DD}{DE}{DF}{E0}{E1}{E2}{E3}{E4}{E5}{E6}{E7}{E8}{E9}{EA}\
-    {EB}{EC}{ED}{EE}{EF}{F0}{F1}{F2}{F3}{F4}{F5}{F6}{F7}{F8}{F9}{FA}{FB}{FC}{FD}{FE}{PI}\
+    POSSQRRNDLOGEXPCOSSINTANATNPEEKLENSTR$VALASCCHR$LEFT$RIGHT$MID$GO{PI}\
     RGRRCLRRLUMJOYRDOTDECHEX$ERR$INSTRELSERESUMETRAPTRONTROFFSOUNDVOLAUTOPUDEFGRAPHICPAINTCHARBOX\
     CIRCLEGSHAPESSHAPEDRAWLOCATECOLORSCNCLRSCALEHELPDOLOOPEXITDIRECTORYDSAVEDLOADHEADERSCRATCH\
     COLLECTCOPYRENAMEBACKUPDELETERENUMBERKEYMONITORUSINGUNTILWHILE";
@@ -226,133 +225,146 @@ pub const TEXT_STARTS: [u16; 307] = [
     805, // C9 RIGHT$
     811, // CA MID$
     815, // CB GO
-    817, // CC {CC}
-    821, // CD {CD}
-    825, // CE {CE}
-    829, // CF {CF}
-    833, // D0 {D0}
-    837, // D1 {D1}
-    841, // D2 {D2}
-    845, // D3 {D3}
-    849, // D4 {D4}
-    853, // D5 {D5}
-    857, // D6 {D6}
-    861, // D7 {D7}
-    865, // D8 {D8}
-    869, // D9 {D9}
-    873, // DA {DA}
-    877, // DB {DB}
-    881, // DC {DC}
-    885, // DD {DD}
-    889, // DE {DE}
-    893, // DF {DF}
-    897, // E0 {E0}
-    901, // E1 {E1}
-    905, // E2 {E2}
-    909, // E3 {E3}
-    913, // E4 {E4}
-    917, // E5 {E5}
-    921, // E6 {E6}
-    925, // E7 {E7}
-    929, // E8 {E8}
-    933, // E9 {E9}
-    937, // EA {EA}
-    941, // EB {EB}
-    945, // EC {EC}
-    949, // ED {ED}
-    953, // EE {EE}
-    957, // EF {EF}
-    961, // F0 {F0}
-    965, // F1 {F1}
-    969, // F2 {F2}
-    973, // F3 {F3}
-    977, // F4 {F4}
-    981, // F5 {F5}
-    985, // F6 {F6}
-    989, // F7 {F7}
-    993, // F8 {F8}
-    997, // F9 {F9}
-    1001, // FA {FA}
-    1005, // FB {FB}
-    1009, // FC {FC}
-    1013, // FD {FD}
-    1017, // FE {FE}
-    1021, // FF {PI}
-    1025, // CC RGR under BASIC 3.5
-    1028, // CD RCLR under BASIC 3.5
-    1032, // CE RLUM under BASIC 3.5
-    1036, // CF JOY under BASIC 3.5
-    1039, // D0 RDOT under BASIC 3.5
-    1043, // D1 DEC under BASIC 3.5
-    1046, // D2 HEX$ under BASIC 3.5
-    1050, // D3 ERR$ under BASIC 3.5
-    1054, // D4 INSTR under BASIC 3.5
-    1059, // D5 ELSE under BASIC 3.5
-    1063, // D6 RESUME under BASIC 3.5
-    1069, // D7 TRAP under BASIC 3.5
-    1073, // D8 TRON under BASIC 3.5
-    1077, // D9 TROFF under BASIC 3.5
-    1082, // DA SOUND under BASIC 3.5
-    1087, // DB VOL under BASIC 3.5
-    1090, // DC AUTO under BASIC 3.5
-    1094, // DD PUDEF under BASIC 3.5
-    1099, // DE GRAPHIC under BASIC 3.5
-    1106, // DF PAINT under BASIC 3.5
-    1111, // E0 CHAR under BASIC 3.5
-    1115, // E1 BOX under BASIC 3.5
-    1118, // E2 CIRCLE under BASIC 3.5
-    1124, // E3 GSHAPE under BASIC 3.5
-    1130, // E4 SSHAPE under BASIC 3.5
-    1136, // E5 DRAW under BASIC 3.5
-    1140, // E6 LOCATE under BASIC 3.5
-    1146, // E7 COLOR under BASIC 3.5
-    1151, // E8 SCNCLR under BASIC 3.5
-    1157, // E9 SCALE under BASIC 3.5
-    1162, // EA HELP under BASIC 3.5
-    1166, // EB DO under BASIC 3.5
-    1168, // EC LOOP under BASIC 3.5
-    1172, // ED EXIT under BASIC 3.5
-    1176, // EE DIRECTORY under BASIC 3.5
-    1185, // EF DSAVE under BASIC 3.5
-    1190, // F0 DLOAD under BASIC 3.5
-    1195, // F1 HEADER under BASIC 3.5
-    1201, // F2 SCRATCH under BASIC 3.5
-    1208, // F3 COLLECT under BASIC 3.5
-    1215, // F4 COPY under BASIC 3.5
-    1219, // F5 RENAME under BASIC 3.5
-    1225, // F6 BACKUP under BASIC 3.5
-    1231, // F7 DELETE under BASIC 3.5
-    1237, // F8 RENUMBER under BASIC 3.5
-    1245, // F9 KEY under BASIC 3.5
-    1248, // FA MONITOR under BASIC 3.5
-    1255, // FB USING under BASIC 3.5
-    1260, // FC UNTIL under BASIC 3.5
-    1265, // FD WHILE under BASIC 3.5
-    1270,
+    817, // CC
+    817, // CD
+    817, // CE
+    817, // CF
+    817, // D0
+    817, // D1
+    817, // D2
+    817, // D3
+    817, // D4
+    817, // D5
+    817, // D6
+    817, // D7
+    817, // D8
+    817, // D9
+    817, // DA
+    817, // DB
+    817, // DC
+    817, // DD
+    817, // DE
+    817, // DF
+    817, // E0
+    817, // E1
+    817, // E2
+    817, // E3
+    817, // E4
+    817, // E5
+    817, // E6
+    817, // E7
+    817, // E8
+    817, // E9
+    817, // EA
+    817, // EB
+    817, // EC
+    817, // ED
+    817, // EE
+    817, // EF
+    817, // F0
+    817, // F1
+    817, // F2
+    817, // F3
+    817, // F4
+    817, // F5
+    817, // F6
+    817, // F7
+    817, // F8
+    817, // F9
+    817, // FA
+    817, // FB
+    817, // FC
+    817, // FD
+    817, // FE
+    817, // FF {PI}
+    821, // CC RGR under BASIC 3.5
+    824, // CD RCLR under BASIC 3.5
+    828, // CE RLUM under BASIC 3.5
+    832, // CF JOY under BASIC 3.5
+    835, // D0 RDOT under BASIC 3.5
+    839, // D1 DEC under BASIC 3.5
+    842, // D2 HEX$ under BASIC 3.5
+    846, // D3 ERR$ under BASIC 3.5
+    850, // D4 INSTR under BASIC 3.5
+    855, // D5 ELSE under BASIC 3.5
+    859, // D6 RESUME under BASIC 3.5
+    865, // D7 TRAP under BASIC 3.5
+    869, // D8 TRON under BASIC 3.5
+    873, // D9 TROFF under BASIC 3.5
+    878, // DA SOUND under BASIC 3.5
+    883, // DB VOL under BASIC 3.5
+    886, // DC AUTO under BASIC 3.5
+    890, // DD PUDEF under BASIC 3.5
+    895, // DE GRAPHIC under BASIC 3.5
+    902, // DF PAINT under BASIC 3.5
+    907, // E0 CHAR under BASIC 3.5
+    911, // E1 BOX under BASIC 3.5
+    914, // E2 CIRCLE under BASIC 3.5
+    920, // E3 GSHAPE under BASIC 3.5
+    926, // E4 SSHAPE under BASIC 3.5
+    932, // E5 DRAW under BASIC 3.5
+    936, // E6 LOCATE under BASIC 3.5
+    942, // E7 COLOR under BASIC 3.5
+    947, // E8 SCNCLR under BASIC 3.5
+    953, // E9 SCALE under BASIC 3.5
+    958, // EA HELP under BASIC 3.5
+    962, // EB DO under BASIC 3.5
+    964, // EC LOOP under BASIC 3.5
+    968, // ED EXIT under BASIC 3.5
+    972, // EE DIRECTORY under BASIC 3.5
+    981, // EF DSAVE under BASIC 3.5
+    986, // F0 DLOAD under BASIC 3.5
+    991, // F1 HEADER under BASIC 3.5
+    997, // F2 SCRATCH under BASIC 3.5
+    1004, // F3 COLLECT under BASIC 3.5
+    1011, // F4 COPY under BASIC 3.5
+    1015, // F5 RENAME under BASIC 3.5
+    1021, // F6 BACKUP under BASIC 3.5
+    1027, // F7 DELETE under BASIC 3.5
+    1033, // F8 RENUMBER under BASIC 3.5
+    1041, // F9 KEY under BASIC 3.5
+    1044, // FA MONITOR under BASIC 3.5
+    1051, // FB USING under BASIC 3.5
+    1056, // FC UNTIL under BASIC 3.5
+    1061, // FD WHILE under BASIC 3.5
+    1066,
 ];
 
-// The text of a byte, with the run lent.
-pub fn text_at<'a>(bytes: &'a [u8], starts: &[u16], k: u8) -> &'a [u8]
+// The word of a byte, with the run lent; empty where it has none.
+pub fn word_at<'a>(bytes: &'a [u8], starts: &[u16], k: u8) -> &'a [u8]
     requires { ⌜ SpellsTexts (now bytes) (now starts) ⌝ }
-    ensures { λ r. ⌜ now r ≡ textOf k ⌝ }
+    ensures { λ r. ⌜ now r ≡ listedWord k ⌝ }
 {
     word_search::word_at(bytes, starts, k as usize)
 }
 
-// The text of a byte under BASIC 3.5.
-pub fn text35_at<'a>(bytes: &'a [u8], starts: &[u16], k: u8) -> &'a [u8]
+// The word of a byte under BASIC 3.5.
+pub fn word35_at<'a>(bytes: &'a [u8], starts: &[u16], k: u8) -> &'a [u8]
     requires { ⌜ SpellsTexts (now bytes) (now starts) ⌝ }
-    ensures { λ r. ⌜ now r ≡ textOf35 k ⌝ }
+    ensures { λ r. ⌜ now r ≡ listedWord35 k ⌝ }
 {
     if !base_ascii::between(0xCC, 0xFD, k) {
-        return text_at(bytes, starts, k);
+        return word_at(bytes, starts, k);
     }
     word_search::word_at(bytes, starts, base_ascii::wide(k) + 52)
+}
+
+// The two digits of a byte in braces.
+pub fn digits(k: u8) -> [u8; 4]
+    ensures { λ r. ⌜ r ≡ braced k ⌝ }
+{
+    let high = list_bytes::hex_digit(k / 16);
+    let low = list_bytes::hex_digit(k % 16);
+    [0x7B, high, low, 0x7D]
 }
 
 // Whether the text is the one of a byte.
 pub fn is_text_of(k: u8, text: &[u8]) -> bool
     ensures { λ r. ⌜ r ≡ same (textOf k) (now (text .entry)) ⌝ }
 {
-    word_search::same(text_at(&TEXT_BYTES, &TEXT_STARTS, k), text)
+    if base_ascii::between(0xCC, 0xFE, k) {
+        let held = digits(k);
+        return word_search::same(&held, text);
+    }
+    word_search::same(word_at(&TEXT_BYTES, &TEXT_STARTS, k), text)
 }

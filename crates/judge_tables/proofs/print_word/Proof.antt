@@ -7,9 +7,9 @@ use borrow.Author.Needs.{needs}
 use Rattle.judge_tables.proofs.print_word.Statement.{statement}
 use Rattle.judge_tables.proofs.print_word.Tie as tie
 
-text35-at-requires : tie.Need-text35-at-requires
+word35-at-requires : tie.Need-word35-at-requires
 unfolding textBytes textStarts
-text35-at-requires c κs = texts-spelt refl refl
+word35-at-requires c κs = texts-spelt refl refl
 
 token-of-requires : tie.Need-token-of-requires
 unfolding wordBytes wordIndex
@@ -21,7 +21,7 @@ print-word-spec =
     (tie.spec
     (λ c. search needs)
     (λ c. search needs)
-    text35-at-requires
+    word35-at-requires
     (λ c. search needs)
     (λ c. search needs)
     token-of-requires

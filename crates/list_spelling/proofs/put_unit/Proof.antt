@@ -15,23 +15,23 @@ slice-aggregate-put c = search (held-long, byte-text-short)
 put-requires : tie.Need-put-requires
 put-requires c κs = search (room-of, char-text)
 
+put-token-requires : tie.Need-put-token-requires
+put-token-requires c κs = search (room-of, token-text)
+
+put-token-requires-2 : tie.Need-put-token-requires-2
+put-token-requires-2 c κs = search (room-of, token35-text)
+
 put-requires-2 : tie.Need-put-requires-2
-put-requires-2 c κs = search (room-of, token-text)
-
-put-requires-3 : tie.Need-put-requires-3
-put-requires-3 c κs = search (room-of, token35-text)
-
-put-requires-4 : tie.Need-put-requires-4
-put-requires-4 c κs = search (room-of, pair-word)
+put-requires-2 c κs = search (room-of, pair-word)
 
 returns : tie.Need-returns
 returns c = search (put-of, pair-word)
 
-put-requires-5 : tie.Need-put-requires-5
-put-requires-5 c κs = search (room-of, pair-unknown)
+put-requires-3 : tie.Need-put-requires-3
+put-requires-3 c κs = search (room-of, pair-unknown)
 
-put-requires-6 : tie.Need-put-requires-6
-put-requires-6 c κs = search (room-of, lone-text)
+put-requires-4 : tie.Need-put-requires-4
+put-requires-4 c κs = search (room-of, lone-text)
 
 array-share-prefix-held-2 : tie.Need-array-share-prefix-held-2
 array-share-prefix-held-2 c = search (held-within, remark-text-short)
@@ -39,8 +39,8 @@ array-share-prefix-held-2 c = search (held-within, remark-text-short)
 slice-aggregate-put-4 : tie.Need-slice-aggregate-put-4
 slice-aggregate-put-4 c = search (held-long, remark-text-short)
 
-put-requires-7 : tie.Need-put-requires-7
-put-requires-7 c κs = search (room-of, remarked-text)
+put-requires-5 : tie.Need-put-requires-5
+put-requires-5 c κs = search (room-of, remarked-text)
 
 returns-2 : tie.Need-returns-2
 returns-2 c = search (put-of, char-text)
@@ -71,26 +71,26 @@ put-unit-spec =
     put-requires
     (λ c. search needs)
     (λ c κs. search needs)
+    put-token-requires
+    (λ c. search needs)
+    (λ c κs. search needs)
+    put-token-requires-2
+    (λ c. search needs)
+    (λ c κs. search needs)
     put-requires-2
-    (λ c. search needs)
-    (λ c κs. search needs)
-    put-requires-3
-    (λ c. search needs)
-    (λ c κs. search needs)
-    put-requires-4
     (λ c. search needs)
     returns
     (λ c κs. search needs)
     (λ c. search needs)
-    put-requires-5
+    put-requires-3
     (λ c. search needs)
     (λ c. search needs)
-    put-requires-6
+    put-requires-4
     (λ c. search needs)
     (λ c κs. search needs)
     array-share-prefix-held-2
     slice-aggregate-put-4
-    put-requires-7
+    put-requires-5
     (λ c. search needs)
     returns-2
     (λ c. search needs)

@@ -1,37 +1,33 @@
--- `list_texts::is_text_of` meets its contract: the stored texts are the texts, by the test over all of them.
+-- `list_texts::is_text_of` meets its contract: the stored words are the words, by the test over all of them.
 -- Assumes nothing.
-use mathlib.Core.Path.{refl, ap, _∙_}
-use mathlib.Core.List.{List}
-use Prim.Native.Nat.{ℕ}
-use denote.Ref.{now}
-use Rattle.word_search.specs.Compare.{same}
+use mathlib.Core.Path.{refl}
 use Rattle.list_texts.proofs.TextTable.{textBytes, textStarts, texts-spelt}
+use Rattle.list_texts.proofs.Made.{same-digits, same-word}
 use borrow.Author.Needs.{needs}
 use Rattle.list_texts.proofs.is_text_of.Statement.{statement}
 use Rattle.list_texts.proofs.is_text_of.Tie as tie
 
-slice-aggregate-text-at : tie.Need-slice-aggregate-text-at
-slice-aggregate-text-at c = search needs
-
-slice-aggregate-text-at-2 : tie.Need-slice-aggregate-text-at-2
-slice-aggregate-text-at-2 c = search needs
-
-text-at-requires : tie.Need-text-at-requires
-unfolding textBytes textStarts
-text-at-requires c κs = texts-spelt refl refl
-
-same-requires : tie.Need-same-requires
-same-requires c κs = search needs
-
 returns : tie.Need-returns
-returns c = c .same .ensures ∙ ap (λ (t : List ℕ). same t (now (c .before .before .before .before .before .args .text))) (c .before .text-at .ensures)
+returns c = search same-digits
+
+word-at-requires : tie.Need-word-at-requires
+unfolding textBytes textStarts
+word-at-requires c κs = texts-spelt refl refl
+
+returns-2 : tie.Need-returns-2
+returns-2 c = search same-word
 
 pub is-text-of-spec : {M : Type 1} → statement M
 is-text-of-spec =
     tie.close
     (tie.spec
-    slice-aggregate-text-at
-    slice-aggregate-text-at-2
-    text-at-requires
-    same-requires
-    returns)
+    (λ c κs. search needs)
+    (λ c κs. search needs)
+    (λ c. search needs)
+    (λ c κs. search needs)
+    returns
+    (λ c. search needs)
+    (λ c. search needs)
+    word-at-requires
+    (λ c κs. search needs)
+    returns-2)
