@@ -5,7 +5,7 @@ use mathlib.Core.Path.{_≡_, refl, sym, ap, _∙_}
 use mathlib.Core.Bool.{Bool, true, false, not, cond, _&&_}
 use mathlib.Core.List.{List, [], _∷_}
 use lib.Dec.{leb}
-use lib.ListN.{length, getD, take}
+use lib.ListN.{length, getD, take, length-take}
 use lib.Seq.{getD-take}
 use native.Mathlib.Omega.{arith}
 use mir.Val.{Fits}
@@ -75,8 +75,8 @@ module _ {d : List ℕ} {s : Seen} {a b : List ℕ} (k : Looks d s a b) where
   pub look-sound : not (s .sound) ≡ false → sound d ≡ true
   look-sound e = sym (k .verdict) ∙ not-false (s .sound) e
 
-  pub look-entries : Entries (take (s .files) b)
-  look-entries = known-entries d (k .files)
+  pub look-entries : not (s .sound) ≡ false → Entries (take (s .files) b)
+  look-entries e = known-entries d (k .files (look-sound e))
 
 -- ---- a name looked for
 
@@ -110,9 +110,10 @@ module _ (name : List ℕ) {d : List ℕ} {s : Seen} {a b : List ℕ} (k : Looks
     unfolding admitted
     seek-on l g h =
         let y : isFileName name ≡ true = sym f ∙ not-false r g in
+        let s : sound d ≡ true = look-sound k e in
         record {
-          answers = rw (look-sound k e) (rw y);
-          knows = record { size = l; short = name-short name y; few = k .few; chain = k .sectors; many = k .many; counts = k .counts; entries = k .files; first = rw (k .files) at h };
+          answers = rw s (rw y);
+          knows = record { size = l; short = name-short name y; few = k .few; chain = k .sectors s; many = k .many; counts = k .counts s; entries = k .files s; first = rw (k .files s) at h };
         }
 
 -- what is answered on a sound disk for a name, behind 20 and 21
@@ -155,6 +156,9 @@ module _ {d name : List ℕ} {m : Sought} {a b : List ℕ} (s : Seeks d name m a
 
     pub known-chain : take k a ≡ directory d .sectors
     known-chain = known .chain
+
+    pub known-long : length (take k a) ≤ 18
+    known-long = omega (arith, length-take k a, known .few)
 
     pub locate-in : i < f → i < 144
     locate-in j = omega (arith, known .many)

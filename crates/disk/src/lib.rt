@@ -19,7 +19,7 @@ ghost use lib.ListN.{length, set, replicate};
 ghost use Rattle.base_refusals.specs.Answer.{done};
 ghost use Rattle.base_lent.specs.Lent.{intoBuffer, left};
 ghost use Rattle.disk_rules.specs.Lists.{isIn};
-ghost use Rattle.disk_rules.specs.Entries.{chainOf};
+ghost use Rattle.disk_rules.specs.CountedHelpers.{chainOfWithin};
 ghost use Rattle.disk_rules.specs.Free.{markedAll};
 ghost use Rattle.disk_rules.specs.Calls.{isFileName, diskAnswer, diskHolding, chainBytes, fileBytes, formatted, scratched, saved, ontoDisk, leaving};
 ghost use Rattle.disk.specs.LocateHelpers.{Locates, Seeks};
@@ -170,7 +170,7 @@ pub fn read(disk: &[u8], name: &[u8], out: &mut [u8]) -> Outcome
 
 fn read_entry(disk: &[u8], p: usize, out: &mut [u8]) -> Outcome
     requires { ⌜ (length (now disk) ≡ 174848) × (p + 30 ≤ 174848) ⌝ }
-    ensures { λ r. ⌜ left r (now (out .exit)) ≡ intoBuffer (done (chainBytes (now (disk .entry)) (chainOf 683 (now (disk .entry)) p .sectors))) (now (out .entry)) ⌝ }
+    ensures { λ r. ⌜ left r (now (out .exit)) ≡ intoBuffer (done (chainBytes (now (disk .entry)) (chainOfWithin 683 (now (disk .entry)) p .sectors))) (now (out .entry)) ⌝ }
 {
     let mut log = [0usize; 683];
     let traced = trace_entry(disk, p, &mut log, 0);
@@ -198,7 +198,7 @@ pub fn scratch(disk: &mut [u8], name: &[u8]) -> Changed
 
 fn scratch_entry(disk: &mut [u8], p: usize)
     requires { ⌜ (length (now disk) ≡ 174848) × (p + 30 ≤ 174848) ⌝ }
-    ensures { λ r. ⌜ now (disk .exit) ≡ markedAll (set (now (disk .entry)) p 0) (chainOf 683 (now (disk .entry)) p .sectors) true ⌝ }
+    ensures { λ r. ⌜ now (disk .exit) ≡ markedAll (set (now (disk .entry)) p 0) (chainOfWithin 683 (now (disk .entry)) p .sectors) true ⌝ }
 {
     let mut log = [0usize; 683];
     let traced = trace_entry(disk, p, &mut log, 0);

@@ -12,8 +12,10 @@ use native.Mathlib.Omega.{arith}
 use mir.Val.{Fits}
 use mir.Syntax.{w64}
 use borrow.Author.Tests.{lt-ltb, le-ltb, le-leb, lt-leb, leb-true, ltb-true, not-true, not-false}
+use Rattle.base_steps.specs.Again.{again}
 use Rattle.disk_rules.specs.Links.{linkAt}
-use Rattle.disk_rules.specs.Chains.{Chain, chain, brokenChain, mayHold, mayEnd, chainOnward}
+use Rattle.disk_rules.specs.Chains.{Chain, mayHold, mayEnd, chainOnward}
+use Rattle.disk_rules.specs.CountedHelpers.{chainWithin}
 use Rattle.disk_rules.specs.declared.Link.{Link}
 use Rattle.disk_rules.specs.declared.Link.the-variants.{Last, To, Astray}
 use Rattle.disk_chains.specs.ChainHelpers.{Traces}
@@ -64,10 +66,10 @@ pub record Tracing (dir : Bool) (d : List ℕ) (c : Chain) (log₀ : List ℕ) (
   pub size : length d ≡ 174848
   pub sized : length log ≡ length log₀
   pub within : to ≤ length log₀
-  pub owes : Owes c log₀ at (chain dir (length log₀ - to) d n) log to
+  pub owes : Owes c log₀ at (chainWithin dir (length log₀ - to) d n) log to
 
 pub trace-start : (dir : Bool) (d log : List ℕ) (at n : ℕ) → length d ≡ 174848 → at ≤ length log
-    → Tracing dir d (chain dir (length log - at) d n) log at log n at
+    → Tracing dir d (chainWithin dir (length log - at) d n) log at log n at
 trace-start dir d log at n e h =
     record { size = e; sized = refl; within = h; owes = record { counts = refl; ends = refl; logs = refl } }
 
@@ -97,12 +99,12 @@ module _ {dir : Bool} {d : List ℕ} {c : Chain} {log₀ : List ℕ} {at : ℕ} 
 
   -- the log is full
   pub trace-full : length log ≤ to → Traces c log₀ at (record { to = to; ends = false }) log
-  unfolding chain
+  unfolding again
   trace-full h =
       let z : length log₀ - to ≡ 0 = omega (arith, t .sized) in owes-none (t .within) (rw z at (t .owes))
 
   pub trace-not : {r : Bool} → to < length log → not r ≡ true → r ≡ mayHold dir n → Traces c log₀ at (record { to = to; ends = false }) log
-  unfolding chain
+  unfolding again
   trace-not {r} h e g =
       let m : mayHold dir n ≡ false = sym g ∙ not-true r e in
       owes-none (t .within) (simp m at (rw (one-more h) at (t .owes)))
@@ -119,8 +121,8 @@ module _ {dir : Bool} {d : List ℕ} {c : Chain} {log₀ : List ℕ} {at : ℕ} 
 
     module _ {l : Link} (f : l ≡ linkAt d (256 * n)) where
       -- what is owed, by the sector's link
-      linked : {k : Link} → l ≡ k → Owes c log₀ at (chainOnward dir n (chain dir (length log₀ - (to + 1)) d) k) log to
-      unfolding chain
+      linked : {k : Link} → l ≡ k → Owes c log₀ at (chainOnward dir n (chainWithin dir (length log₀ - (to + 1)) d) k) log to
+      unfolding again
       linked {k} i =
           let m : linkAt d (256 * n) ≡ k = sym f ∙ i in
           rw m at (simp held at (rw (one-more h) at (t .owes)))
@@ -138,5 +140,5 @@ module _ {dir : Bool} {d : List ℕ} {c : Chain} {log₀ : List ℕ} {at : ℕ} 
             size = t .size;
             sized = length-set log to n ∙ t .sized;
             within = omega (arith, t .sized);
-            owes = owes-one {x = chain dir (length log₀ - (to + 1)) d m} (linked i);
+            owes = owes-one {x = chainWithin dir (length log₀ - (to + 1)) d m} (linked i);
           }

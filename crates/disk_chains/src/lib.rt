@@ -12,7 +12,8 @@ ghost use mathlib.Core.List.{[]};
 ghost use Prim.Native.Nat.{_-_, _≤_, _<_};
 ghost use lib.ListN.{length, getD};
 ghost use Rattle.disk_rules.specs.Lists.{isIn, noneTwice};
-ghost use Rattle.disk_rules.specs.Chains.{chain, mayHold, mayEnd};
+ghost use Rattle.disk_rules.specs.Chains.{mayHold, mayEnd};
+ghost use Rattle.disk_rules.specs.CountedHelpers.{chainWithin};
 ghost use Rattle.disk_rules.specs.Free.{bitAgrees, mapAgrees, freeSectors, markedAll};
 ghost use Rattle.disk_chains.specs.ChainHelpers.{Sectors, Traces, Marks, Marked, Lists};
 
@@ -54,7 +55,7 @@ fn may_end(directory: bool, byte: u8) -> bool
 // Follows the chain from a sector on and logs its sectors from a place on: at most as many as the log has room for.
 pub fn trace(disk: &[u8], directory: bool, first: usize, log: &mut [usize], at: usize) -> Traced
     requires { ⌜ (length (now disk) ≡ 174848) × (at ≤ length (now log)) ⌝ }
-    ensures { λ r. ⌜ Traces (chain directory (length (now (log .entry)) - at) (now (disk .entry)) first) (now (log .entry)) at r (now (log .exit)) ⌝ }
+    ensures { λ r. ⌜ Traces (chainWithin directory (length (now (log .entry)) - at) (now (disk .entry)) first) (now (log .entry)) at r (now (log .exit)) ⌝ }
 {
     let mut n = first;
     let mut to = at;
@@ -116,7 +117,7 @@ fn bit_agrees(disk: &[u8], marks: &[bool], track: usize, sector: usize) -> bool
     }
     let bit = bit_at(disk, track, sector);
     if sector >= sectors_on(track) {
-        return bit == 0;
+        return bit == 0; // no such sector is there to be free
     }
     if marks[sectors_before(track) + sector] {
         return bit == 0;

@@ -7,8 +7,7 @@ use disk_entries::entries_that;
 use disk_entries::trace_all;
 ghost use mathlib.Core.Path.{_≡_};
 ghost use lib.ListN.{length};
-ghost use Rattle.disk_rules.specs.Entries.{directory, listed};
-ghost use Rattle.disk_rules.specs.Check.{sound};
+ghost use Rattle.disk_rules.specs.CountedHelpers.{directoryWithin, listedWithin, soundWithin};
 ghost use Rattle.disk_check.specs.SoundHelpers.{Looks};
 
 // What a disk was seen to be: how many sectors its directory has, how many files are listed, and whether it is sound.
@@ -20,8 +19,8 @@ pub struct Seen {
 
 // The rest of the check, after the length, of a disk whose directory's sectors and listed entries are known.
 fn holds(disk: &[u8], sectors: &[usize], ends: bool, files: &[usize]) -> bool
-    requires { ⌜ (length (now disk) ≡ 174848) × (now sectors ≡ directory (now disk) .sectors) × (ends ≡ directory (now disk) .ends) × (now files ≡ listed (now disk)) ⌝ }
-    ensures { λ r. ⌜ r ≡ sound (now (disk .entry)) ⌝ }
+    requires { ⌜ (length (now disk) ≡ 174848) × (now sectors ≡ directoryWithin 18 (now disk) .sectors) × (ends ≡ directoryWithin 18 (now disk) .ends) × (now files ≡ listedWithin 18 (now disk)) ⌝ }
+    ensures { λ r. ⌜ r ≡ soundWithin 18 683 (now (disk .entry)) ⌝ }
 {
     if disk[91392] != 18 {
         return false;

@@ -18,7 +18,7 @@ use Rattle.disk_rules.specs.Lists.{isIn, those, some}
 use Rattle.disk_rules.specs.Entries.{listed, isNamed, chainOf}
 use Rattle.disk_rules.specs.Check.{sound}
 use Rattle.image_layout.specs.Changed.{ChangedAt}
-use Rattle.disk_laws.proofs.Kept.{in-those-list}
+use Rattle.disk_rules.proofs.Counting.{in-those-list}
 use Rattle.disk_laws.proofs.Saved.{passes}
 use Rattle.disk_laws.proofs.ReadBack.{those-named}
 use Rattle.disk_damage.specs.Worn.{isFileByte, placeOnDisk, fileSectors, sectorsFiled, Worn, ReadsWorn}
@@ -83,20 +83,20 @@ record Filed (d name image : List ℕ) : Type 0 where
   at : ℕ
   more : List ℕ
   named : entriesNamed d name ≡ at ∷ more
-  bytes : chainBytes d (chainOf 683 d at .sectors) ≡ image
+  bytes : chainBytes d (chainOf d at .sectors) ≡ image
 
 filed : (d name image : List ℕ) → fileBytes d name ≡ done image → Filed d name image
 unfolding fileBytes
 filed d name image e =
-    let f : ℕ → Answer (List ℕ) = λ p. done (chainBytes d (chainOf 683 d p .sectors)) in
+    let f : ℕ → Answer (List ℕ) = λ p. done (chainBytes d (chainOf d p .sectors)) in
     let a : (sound d ≡ true) × (cond (isFileName name) (ofFile (entriesNamed d name) f) (refused badName) ≡ done image) =
     passes (sound d) badDisk (cond (isFileName name) (ofFile (entriesNamed d name) f) (refused badName)) image e in
     let b : (isFileName name ≡ true) × (ofFile (entriesNamed d name) f ≡ done image) = passes (isFileName name) badName (ofFile (entriesNamed d name) f) image (a .1) in
     go (entriesNamed d name) refl (a .0) (b .0) (b .1)
   where
-    go : (l : List ℕ) → entriesNamed d name ≡ l → sound d ≡ true → isFileName name ≡ true → ofFile l (λ p. done (chainBytes d (chainOf 683 d p .sectors))) ≡ done image → Filed d name image
+    go : (l : List ℕ) → entriesNamed d name ≡ l → sound d ≡ true → isFileName name ≡ true → ofFile l (λ p. done (chainBytes d (chainOf d p .sectors))) ≡ done image → Filed d name image
     go [] g s n h = let z : _≡_ {A = ℕ} 0 1 = cc in absurd (omega arith)
-    go (p ∷ l) g s n h = let z : chainBytes d (chainOf 683 d p .sectors) ≡ image = cc in record { is-sound = s; is-name = n; at = p; more = l; named = g; bytes = z }
+    go (p ∷ l) g s n h = let z : chainBytes d (chainOf d p .sectors) ≡ image = cc in record { is-sound = s; is-name = n; at = p; more = l; named = g; bytes = z }
 
 -- what is read of a file that was read before
 module _ {changes : ℕ → Bool} (d name now image : List ℕ) (e : fileBytes d name ≡ done image) (w : Worn changes d name now) where
@@ -104,7 +104,7 @@ module _ {changes : ℕ → Bool} (d name now image : List ℕ) (e : fileBytes d
   x = filed d name image e
 
   abbrev own : List ℕ
-  own = chainOf 683 d (x .at) .sectors
+  own = chainOf d (x .at) .sectors
 
   abbrev found : List ℕ
   found = chainBytes now own

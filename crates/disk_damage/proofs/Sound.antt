@@ -17,7 +17,7 @@ use Rattle.disk_rules.specs.Entries.{directory, listed, entriesThat, isThat, is
 use Rattle.disk_rules.specs.Check.{sound}
 use Rattle.image_layout.specs.Changed.{ChangedAt}
 use Rattle.disk_laws.proofs.Without.{Same, AllSame, those-same, good-same, sectors-same, ends-same}
-use Rattle.disk_laws.proofs.Fuel.{allSectors}
+use Rattle.disk_laws.proofs.Chained.{allSectors}
 use Rattle.disk_laws.proofs.Parts.{Parts, parts, parts-sound, link-same, directory-same, entry-same, map-same, EntryPlace, entry-place, FromRun, that-from}
 use Rattle.disk_damage.specs.Worn.{isFileByte}
 
@@ -43,7 +43,7 @@ module _ (d now : List ℕ) (c : ChangedAt isFileByte d now) where
       link-same d now (256 * m) (rw z at (link-byte m 0 (omega arith))) (link-byte m 1 (omega arith))
 
   pub directory-stays : directory now ≡ directory d
-  directory-stays = directory-same d now (λ m a b. links-stay m)
+  directory-stays = directory-same d now (c .long) (λ m a b. links-stay m)
 
   entry-byte : (e i : ℕ) → e < 8 * length (directory d .sectors) → i < 30 → getD now (entryAt (directory d .sectors) e + i) 0 ≡ getD d (entryAt (directory d .sectors) e + i) 0
   entry-byte e i h k = let x : EntryPlace (entryAt (directory d .sectors) e) = entry-place d e h in on-18 (entryAt (directory d .sectors) e + i) (omega (arith, x .is, x .low)) (omega (arith, x .is, x .high, x .eight))

@@ -19,7 +19,7 @@ isFileByte j = leb 2 (j % 256) && offTrack18 (j / 256)
 -- the sectors of the first entry's chain, none where there is no entry
 abbrev pub sectorsFiled : List ℕ → List ℕ → List ℕ
 sectorsFiled disk [] = []
-sectorsFiled disk (p ∷ ps) = chainOf 683 disk p .sectors
+sectorsFiled disk (p ∷ ps) = chainOf disk p .sectors
 
 -- the sectors of the file of a name
 abbrev pub fileSectors : List ℕ → List ℕ → List ℕ

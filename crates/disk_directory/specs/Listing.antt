@@ -21,7 +21,7 @@ use Rattle.disk_names.specs.Names.{nameShown}
 -- the line of the entry p
 unfoldable pub fileLine : List ℕ → ℕ → List ℕ
 unfolding decimal nameAt nameShown
-fileLine disk p = decimal (length (chainOf 683 disk p .sectors)) ++ (0x20 ∷ (nameShown (nameAt disk p) ++ (0x0A ∷ [])))
+fileLine disk p = decimal (length (chainOf disk p .sectors)) ++ (0x20 ∷ (nameShown (nameAt disk p) ++ (0x0A ∷ [])))
 
 unfoldable pub fileLines : List ℕ → List ℕ → List ℕ
 unfolding fileLine

@@ -9,15 +9,18 @@ use disk_names::put_name;
 use say_sentences::put::put_decimal;
 use say_sentences::put::put_text;
 ghost use mathlib.Core.Path.{_≡_};
+ghost use mathlib.Core.Bool.{true};
 ghost use Prim.Native.Nat.{_+_, _≤_};
 ghost use lib.ListN.{length};
 ghost use Rattle.say_sentences.specs.Clipped.{Clipped};
-ghost use Rattle.disk_entries.specs.EntryHelpers.{Entries};
+ghost use Rattle.disk_rules.specs.Lists.{isIn};
+ghost use Rattle.disk_rules.specs.Entries.{listed};
+ghost use Rattle.disk_rules.specs.Check.{sound};
 ghost use Rattle.disk_directory.specs.Listing.{fileLine, fileLines, freeLine, Shows};
 
 // Stores the line of a file: how many sectors its chain has, and its name.
 fn put_file(out: &mut [u8], at: usize, disk: &[u8], p: usize) -> usize
-    requires { ⌜ (at ≤ length (now out)) × (length (now disk) ≡ 174848) × (p + 30 ≤ 174848) ⌝ }
+    requires { ⌜ (at ≤ length (now out)) × (length (now disk) ≡ 174848) × (sound (now disk) ≡ true) × (isIn (listed (now disk)) p ≡ true) ⌝ }
     ensures { λ r. ⌜ Clipped (now (out .entry)) at (fileLine (now (disk .entry)) p) r (now (out .exit)) ⌝ }
 {
     let mut log = [0usize; 683];
@@ -29,7 +32,7 @@ fn put_file(out: &mut [u8], at: usize, disk: &[u8], p: usize) -> usize
 }
 
 fn put_files(out: &mut [u8], disk: &[u8], files: &[usize]) -> usize
-    requires { ⌜ (length (now disk) ≡ 174848) × Entries (now files) ⌝ }
+    requires { ⌜ (length (now disk) ≡ 174848) × (sound (now disk) ≡ true) × (now files ≡ listed (now disk)) ⌝ }
     ensures { λ r. ⌜ Clipped (now (out .entry)) 0 (fileLines (now (disk .entry)) (now (files .entry))) r (now (out .exit)) ⌝ }
 {
     let mut i: usize = 0;

@@ -13,8 +13,8 @@ use Rattle.base_lent.proofs.Storing.{sets-append}
 use Rattle.disk_rules.specs.Links.{linkAt}
 use Rattle.disk_rules.specs.declared.Link.{Link}
 use Rattle.disk_rules.specs.declared.Link.the-variants.{Last, To, Astray}
-use Rattle.disk_rules.specs.Chains.{Chain, chain, brokenChain}
-use Rattle.disk_rules.specs.Entries.{chainBy, chainOf, chainsBehind, chains}
+use Rattle.disk_rules.specs.Chains.{Chain, brokenChain}
+use Rattle.disk_rules.specs.CountedHelpers.{chainWithin, chainByWithin, chainOfWithin, chainsBehind, chainsWithin}
 use Rattle.disk_chains.specs.ChainHelpers.{Traces}
 use Rattle.disk_chains.specs.declared.Traced.{Traced}
 use Rattle.disk_chains.proofs.Tracing.{Owes}
@@ -23,20 +23,20 @@ use Rattle.disk_entries.specs.EntryHelpers.{Entries}
 -- ---- one entry
 
 module _ (d log : List ℕ) (p at : ℕ) {l : Link} (e : l ≡ linkAt d (p + 1)) where
-  chained : {k : Link} → l ≡ k → chainBy d (length log - at) k ≡ chainOf (length log - at) d p
-  chained {k} f = let g : k ≡ linkAt d (p + 1) = sym f ∙ e in ap (chainBy d (length log - at)) g
+  chained : {k : Link} → l ≡ k → chainByWithin d (length log - at) k ≡ chainOfWithin (length log - at) d p
+  chained {k} f = let g : k ≡ linkAt d (p + 1) = sym f ∙ e in ap (chainByWithin d (length log - at)) g
 
-  pub entry-to : {n : ℕ} {r : Traced} {after : List ℕ} → l ≡ To n → Traces (chain false (length log - at) d n) log at r after
-      → Traces (chainOf (length log - at) d p) log at r after
+  pub entry-to : {n : ℕ} {r : Traced} {after : List ℕ} → l ≡ To n → Traces (chainWithin false (length log - at) d n) log at r after
+      → Traces (chainOfWithin (length log - at) d p) log at r after
   entry-to f t = rw (chained f) at t
 
   nothing : at ≤ length log → Traces brokenChain log at (record { to = at; ends = false }) log
   nothing h = record { to = omega arith; within = h; ends = refl; logged = refl }
 
-  pub entry-last : {b : ℕ} → l ≡ Last b → at ≤ length log → Traces (chainOf (length log - at) d p) log at (record { to = at; ends = false }) log
+  pub entry-last : {b : ℕ} → l ≡ Last b → at ≤ length log → Traces (chainOfWithin (length log - at) d p) log at (record { to = at; ends = false }) log
   entry-last f h = rw (chained f) at (nothing h)
 
-  pub entry-astray : l ≡ Astray → at ≤ length log → Traces (chainOf (length log - at) d p) log at (record { to = at; ends = false }) log
+  pub entry-astray : l ≡ Astray → at ≤ length log → Traces (chainOfWithin (length log - at) d p) log at (record { to = at; ends = false }) log
   entry-astray f h = rw (chained f) at (nothing h)
 
 -- ---- all
@@ -45,7 +45,7 @@ pub record Following (d l log₀ log : List ℕ) (at i : ℕ) : Type 0 where
   pub within : at ≤ length log₀
   pub sized : length log ≡ length log₀
   pub entries : Entries l
-  pub owes : Owes (chains (length log₀) d l) log₀ 0 (chains (length log₀ - at) d (drop i l)) log at
+  pub owes : Owes (chainsWithin (length log₀) d l) log₀ 0 (chainsWithin (length log₀ - at) d (drop i l)) log at
 
 pub follow-start : (d : List ℕ) {l : List ℕ} (log : List ℕ) → Entries l → Following d l log log 0 0
 follow-start d {l} log e =
@@ -59,26 +59,26 @@ module _ {d l log₀ log : List ℕ} {at i : ℕ} (f : Following d l log₀ log 
   pub follow-in : at ≤ length log
   follow-in = omega (arith, f .within, f .sized)
 
-  pub follow-end : length l ≤ i → Traces (chains (length log₀) d l) log₀ 0 (record { to = at; ends = true }) log
-  unfolding chains
+  pub follow-end : length l ≤ i → Traces (chainsWithin (length log₀) d l) log₀ 0 (record { to = at; ends = true }) log
+  unfolding chainsWithin
   follow-end h =
-      let o : Owes (chains (length log₀) d l) log₀ 0 (record { sectors = []; ends = true }) log at = rw (drop-of-length-le l {i = i} h) at (f .owes) in
-      let m : at + 0 ≡ 0 + length (chains (length log₀) d l .sectors) = o .counts in
+      let o : Owes (chainsWithin (length log₀) d l) log₀ 0 (record { sectors = []; ends = true }) log at = rw (drop-of-length-le l {i = i} h) at (f .owes) in
+      let m : at + 0 ≡ 0 + length (chainsWithin (length log₀) d l .sectors) = o .counts in
       record { to = omega arith; within = f .within; ends = o .ends; logged = o .logs }
 
-  module _ (h : i < length l) {r : Traced} {after : List ℕ} (t : Traces (chainOf (length log - at) d (getD l i 0)) log at r after) where
+  module _ (h : i < length l) {r : Traced} {after : List ℕ} (t : Traces (chainOfWithin (length log - at) d (getD l i 0)) log at r after) where
     abbrev this : Chain
-    this = chainOf (length log - at) d (getD l i 0)
+    this = chainOfWithin (length log - at) d (getD l i 0)
 
     -- what is owed, by whether this chain ends
-    owed : Owes (chains (length log₀) d l) log₀ 0 (chainsBehind this (λ n. chains (length log - at - n) d (drop (suc i) l))) log at
-    unfolding chains
+    owed : Owes (chainsWithin (length log₀) d l) log₀ 0 (chainsBehind this (λ n. chainsWithin (length log - at - n) d (drop (suc i) l))) log at
+    unfolding chainsWithin
     owed = rw (f .sized) (rw (drop-cons l i 0 h) at (f .owes))
 
-    pub follow-broken : not (r .ends) ≡ true → Traces (chains (length log₀) d l) log₀ 0 (record { to = r .to; ends = false }) after
+    pub follow-broken : not (r .ends) ≡ true → Traces (chainsWithin (length log₀) d l) log₀ 0 (record { to = r .to; ends = false }) after
     follow-broken e =
         let b : this .ends ≡ false = sym (t .ends) ∙ not-true (r .ends) e in
-        let o : Owes (chains (length log₀) d l) log₀ 0 this log at = simp b at owed in
+        let o : Owes (chainsWithin (length log₀) d l) log₀ 0 this log at = simp b at owed in
         record {
           to = t .to ∙ o .counts;
           within = omega (arith, t .within, f .sized);
@@ -90,8 +90,8 @@ module _ {d l log₀ log : List ℕ} {at i : ℕ} (f : Following d l log₀ log 
     follow-turn e =
         let b : this .ends ≡ true = sym (t .ends) ∙ not-false (r .ends) e in
         let k : length log - at - length (this .sectors) ≡ length log₀ - r .to = omega (arith, t .to, f .sized) in
-        let rest : Chain = chains (length log₀ - r .to) d (drop (suc i) l) in
-        let o : Owes (chains (length log₀) d l) log₀ 0 (record { sectors = this .sectors ++ rest .sectors; ends = rest .ends }) log at =
+        let rest : Chain = chainsWithin (length log₀ - r .to) d (drop (suc i) l) in
+        let o : Owes (chainsWithin (length log₀) d l) log₀ 0 (record { sectors = this .sectors ++ rest .sectors; ends = rest .ends }) log at =
         rw k at (simp b at owed)
         in
         record {

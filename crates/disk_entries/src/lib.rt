@@ -6,7 +6,8 @@ use disk_sectors::link_at;
 ghost use mathlib.Core.Path.{_≡_};
 ghost use Prim.Native.Nat.{_+_, _*_, _-_, _≤_, _<_};
 ghost use lib.ListN.{length};
-ghost use Rattle.disk_rules.specs.Entries.{entryAt, isThat, entriesThat, nameAt, isNamed, entriesGood, chainOf, chains as chainsOf};
+ghost use Rattle.disk_rules.specs.Entries.{entryAt, isThat, entriesThat, nameAt, isNamed, entriesGood};
+ghost use Rattle.disk_rules.specs.CountedHelpers.{chainOfWithin, chainsWithin};
 ghost use Rattle.disk_chains.specs.ChainHelpers.{Sectors, Traces, Lists};
 ghost use Rattle.disk_entries.specs.EntryHelpers.{Entries, Before, firstEntry};
 
@@ -109,7 +110,7 @@ pub fn entries_good(disk: &[u8], entries: &[usize]) -> bool
         }
         let behind = &entries[i..];
         if find(disk, behind, name_at(disk, p)) < behind.len() {
-            return false;
+            return false; // two of one name
         }
     }
     true
@@ -118,7 +119,7 @@ pub fn entries_good(disk: &[u8], entries: &[usize]) -> bool
 // Follows an entry's chain and logs its sectors from a place on.
 pub fn trace_entry(disk: &[u8], p: usize, log: &mut [usize], at: usize) -> Traced
     requires { ⌜ (length (now disk) ≡ 174848) × (p + 30 ≤ 174848) × (at ≤ length (now log)) ⌝ }
-    ensures { λ r. ⌜ Traces (chainOf (length (now (log .entry)) - at) (now (disk .entry)) p) (now (log .entry)) at r (now (log .exit)) ⌝ }
+    ensures { λ r. ⌜ Traces (chainOfWithin (length (now (log .entry)) - at) (now (disk .entry)) p) (now (log .entry)) at r (now (log .exit)) ⌝ }
 {
     match link_at(disk, p + 1) {
         Link::To(first) => trace(disk, false, first, log, at),
@@ -136,7 +137,7 @@ pub fn trace_entry(disk: &[u8], p: usize, log: &mut [usize], at: usize) -> Trace
 // Follows the chains of entries one after the other, and logs their sectors.
 pub fn trace_all(disk: &[u8], entries: &[usize], log: &mut [usize]) -> Traced
     requires { ⌜ (length (now disk) ≡ 174848) × Entries (now entries) ⌝ }
-    ensures { λ r. ⌜ Traces (chainsOf (length (now (log .entry))) (now (disk .entry)) (now (entries .entry))) (now (log .entry)) 0 r (now (log .exit)) ⌝ }
+    ensures { λ r. ⌜ Traces (chainsWithin (length (now (log .entry))) (now (disk .entry)) (now (entries .entry))) (now (log .entry)) 0 r (now (log .exit)) ⌝ }
 {
     let mut at: usize = 0;
     let mut i: usize = 0;

@@ -13,7 +13,6 @@ use Rattle.base_refusals.specs.Answer.{Answer, done}
 use Rattle.disk_rules.specs.Places.{trackOf, sectorOf, offTrack18}
 use Rattle.disk_rules.specs.Lists.{some, isIn, noneTwice}
 use Rattle.disk_rules.specs.Links.{linkTo, linkAt}
-use Rattle.disk_rules.specs.declared.Link.{Link}
 use Rattle.disk_rules.specs.declared.Link.the-variants.{To}
 use Rattle.disk_rules.specs.Map.{bitAt}
 use Rattle.disk_rules.specs.Free.{markedAll}
@@ -21,12 +20,12 @@ use Rattle.disk_rules.specs.Chains.{Chain}
 use Rattle.disk_rules.specs.Entries.{directory, listed, nameAt, beforeA0, isNamed, chainBy, chainOf}
 use Rattle.disk_rules.specs.Calls.{isFileName, taken, laid, entryBytes, saved, ontoDisk}
 use Rattle.disk_laws.specs.Runs.{Save}
-use Rattle.disk_laws.proofs.Counting.{and-right, or-right, in-append}
+use Rattle.disk_rules.proofs.Counting.{and-right, or-right, in-append, never, in-at}
 use Rattle.disk_laws.proofs.Geometry.{link-back}
 use Rattle.disk_laws.proofs.Elsewhere.{Within, laid-off}
-use Rattle.disk_laws.proofs.Kept.{never, in-at, name-short, taken-below, not-taken, kept-by-calls}
+use Rattle.disk_laws.proofs.Kept.{name-short, taken-below, not-taken, kept-by-calls}
 use Rattle.disk_laws.proofs.Saved.{Tested, was-tested, taken-once, taken-held, taken-long, laid-long, saved-chain}
-use Rattle.disk_laws.proofs.Fuel.{allSectors}
+use Rattle.disk_laws.proofs.Chained.{allSectors}
 use Rattle.disk_laws.proofs.Without.{Without, Apart, in-all, end-all, apart-all, good-more, AllSame, some-same, good-same, sectors-same, ends-same}
 use Rattle.disk_laws.proofs.Mapped.{agrees-again}
 use Rattle.disk_laws.proofs.Parts.{Parts, parts, files-all, link-same, entry-same, map-same}
@@ -54,13 +53,13 @@ part-as d l from h g =
       at : (i : ℕ) → i < length l → getD (take (length l) (drop from d)) i 0 ≡ getD l i 0
       at i k = getD-take (length l) (drop from d) i 0 k ∙ getD-drop from d i 0 ∙ g i k
 
-pub in-own : (d l : List ℕ) (q m : ℕ) → isIn l q ≡ true → isIn (chainOf 683 d q .sectors) m ≡ true → isIn (allSectors d l) m ≡ true
+pub in-own : (d l : List ℕ) (q m : ℕ) → isIn l q ≡ true → isIn (chainOf d q .sectors) m ≡ true → isIn (allSectors d l) m ≡ true
 unfolding allSectors some
 in-own d [] q m e h = never e
-in-own d (p ∷ l) q m e h = in-append (chainOf 683 d p .sectors) (allSectors d l) m ∙ go (eqb q p) refl e (λ i. in-own d l q m i h) where
-  go : (x : Bool) → eqb q p ≡ x → (x || isIn l q) ≡ true → (isIn l q ≡ true → isIn (allSectors d l) m ≡ true) → (isIn (chainOf 683 d p .sectors) m || isIn (allSectors d l) m) ≡ true
-  go true f g i = let z : isIn (chainOf 683 d p .sectors) m ≡ true = ap (λ (y : ℕ). isIn (chainOf 683 d y .sectors) m) (sym (eqb-true q p f)) ∙ h in rw z
-  go false f g i = or-right (isIn (chainOf 683 d p .sectors) m) (isIn (allSectors d l) m) (i g)
+in-own d (p ∷ l) q m e h = in-append (chainOf d p .sectors) (allSectors d l) m ∙ go (eqb q p) refl e (λ i. in-own d l q m i h) where
+  go : (x : Bool) → eqb q p ≡ x → (x || isIn l q) ≡ true → (isIn l q ≡ true → isIn (allSectors d l) m ≡ true) → (isIn (chainOf d p .sectors) m || isIn (allSectors d l) m) ≡ true
+  go true f g i = let z : isIn (chainOf d p .sectors) m ≡ true = ap (λ (y : ℕ). isIn (chainOf d y .sectors) m) (sym (eqb-true q p f)) ∙ h in rw z
+  go false f g i = or-right (isIn (chainOf d p .sectors) m) (isIn (allSectors d l) m) (i g)
 
 -- ---- a file added
 
@@ -114,7 +113,7 @@ module _ (d name image made : List ℕ) (p : ℕ) (e : saved d name image ≡ do
   first-below : getD (taken d image) 0 0 < 683
   first-below = taken-below d image (getD chosen 0 0) (in-at chosen 0 (omega (arith, taken-long d name image made e)))
 
-  pub chain-new : chainOf 683 made p ≡ record { sectors = taken d image; ends = true }
+  pub chain-new : chainOf made p ≡ record { sectors = taken d image; ends = true }
   chain-new =
       let two : p + 1 + 1 ≡ p + 2 = omega arith in
       let a : getD made (p + 1) 0 ≡ trackOf (getD chosen 0 0) = w .entry 1 (omega arith) in
@@ -122,7 +121,7 @@ module _ (d name image made : List ℕ) (p : ℕ) (e : saved d name image ≡ do
       let l : linkAt made (p + 1) ≡ To (getD chosen 0 0) =
       ap (λ (y : ℕ). linkTo y (getD made (p + 1 + 1) 0)) a ∙ ap (λ (y : ℕ). linkTo (trackOf (getD chosen 0 0)) y) b ∙ link-back (getD chosen 0 0) first-below
       in
-      ap (λ (y : Link). chainBy made 683 y) l ∙ saved-chain d name image made e
+      ap (chainBy made) l ∙ saved-chain d name image made e
 
   pub name-new : nameAt made p ≡ name
   unfolding nameAt
@@ -143,7 +142,7 @@ module _ (d name image made : List ℕ) (p : ℕ) (e : saved d name image ≡ do
         no-a0 n f = not-true (isIn n 0xA0) (and-right (leb 1 (length n) && leb (length n) 16) (not (isIn n 0xA0)) f)
 
   -- its sectors are in no listed file
-  apart-new : Apart (chainOf 683 made p .sectors) (allSectors made (listed d))
+  apart-new : Apart (chainOf made p .sectors) (allSectors made (listed d))
   apart-new = subst (λ (a : List ℕ). Apart a (allSectors made (listed d))) (sym (ap (λ (c : Chain). c .sectors) chain-new))
       (subst (λ (b : List ℕ). Apart (taken d image) b) (sym (sectors-same d made (listed d) same))
       (record { left = taken-once d image; right = x .apart; none = λ m h. not-in (isIn (allSectors d (listed d)) m) (isIn (taken d image) m) h (other m) })) where

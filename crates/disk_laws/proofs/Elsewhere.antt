@@ -15,7 +15,7 @@ use Rattle.disk_rules.specs.Lists.{some, isIn}
 use Rattle.disk_rules.specs.Map.{marked, mapAt}
 use Rattle.disk_rules.specs.Free.{markedAll}
 use Rattle.disk_rules.specs.Calls.{sectorBytes, linkBytes, laid}
-use Rattle.disk_laws.proofs.Counting.{or-right}
+use Rattle.disk_rules.proofs.Counting.{or-right}
 use Rattle.disk_laws.proofs.Geometry.{Placed, place}
 
 -- ---- bytes that are set

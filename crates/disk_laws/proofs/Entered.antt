@@ -17,10 +17,11 @@ use Rattle.disk_rules.specs.Free.{markedAll}
 use Rattle.disk_rules.specs.Chains.{Chain}
 use Rattle.disk_rules.specs.Entries.{directory, entryAt, entriesOf, isListed, isThat, entriesThat, listed}
 use Rattle.disk_rules.specs.Calls.{isFileName, taken, laid, entryBytes}
+use Rattle.disk_rules.proofs.Counting.{never}
 use Rattle.disk_chains.proofs.Marking.{marked-all-long}
 use Rattle.disk_laws.proofs.Elsewhere.{Off, before, behind, sets-off, marked-all-off}
 use Rattle.disk_laws.proofs.Fresh.{sets-at}
-use Rattle.disk_laws.proofs.Kept.{never, in-those, taken-below, entry-long, name-short}
+use Rattle.disk_laws.proofs.Kept.{in-those, taken-below, entry-long, name-short}
 use Rattle.disk_laws.proofs.Saved.{laid-long}
 use Rattle.disk_laws.proofs.Without.{Without, put-in}
 use Rattle.disk_laws.proofs.Parts.{Parts, link-same, directory-same, FromRun, that-from, EntryPlace, entry-place, entries-apart}
@@ -80,7 +81,7 @@ module _ (d name image : List ℕ) (p : ℕ) (x : Parts d) (n : isFileName name 
       (byte (256 * m + 1) (omega arith) (omega arith) (behind (omega arith)) (off-link p m (256 * m + 1) place (omega arith) (omega arith)))
 
   dir-same : directory made ≡ directory d
-  dir-same = directory-same d made link-18
+  dir-same = directory-same d made (length-sets (written d image) p entry ∙ written-long d image) link-18
 
   still : (q : ℕ) → EntryPlace q → (q ≡ p → ⊥) → (i : ℕ) → i < 30 → getD made (q + i) 0 ≡ getD d (q + i) 0
   still q a z i h =

@@ -9,6 +9,7 @@ use lib.ListN.{length, getD, take, drop, set, length-take, length-drop, length-s
 use lib.Seq.{ext-getD, getD-take, getD-drop}
 use native.Mathlib.Omega.{arith}
 use borrow.Author.Tests.{eq-eqb}
+use Rattle.base_steps.specs.Again.{again}
 use Rattle.base_refusals.specs.Numbers.{Numbered, badDisk, badName}
 use Rattle.base_refusals.specs.Answer.{Answer, done, refused}
 use Rattle.disk_rules.specs.Lists.{some, isIn}
@@ -16,34 +17,35 @@ use Rattle.disk_rules.specs.Links.{linkTo, linkAt}
 use Rattle.disk_rules.specs.declared.Link.{Link}
 use Rattle.disk_rules.specs.declared.Link.the-variants.{Last, To, Astray}
 use Rattle.disk_rules.specs.Chains.{Chain, chain, brokenChain, mayHold, chainOnward}
+use Rattle.disk_rules.specs.CountedHelpers.{chainWithin}
 use Rattle.disk_rules.specs.Entries.{chainOf}
 use Rattle.disk_rules.specs.Free.{markedAll}
 use Rattle.disk_rules.specs.Check.{files, sound}
 use Rattle.disk_rules.specs.Calls.{isFileName, onSound, ofFile, entriesNamed, payload, chainBytes, saved, scratched, ontoDisk}
 use Rattle.disk_laws.specs.Runs.{Call, Format, Check, Read, Save, Scratch, isFormat, afterCall}
-use Rattle.disk_laws.proofs.Counting.{or-right}
+use Rattle.disk_rules.proofs.Counting.{or-right, never}
 use Rattle.disk_laws.proofs.Elsewhere.{Within}
 use Rattle.disk_chains.proofs.Marking.{marked-all-long}
-use Rattle.disk_laws.proofs.Kept.{never, kept-by-calls}
+use Rattle.disk_laws.proofs.Kept.{kept-by-calls}
 use Rattle.disk_laws.proofs.Saved.{size, made-long}
 
 -- a chain is told by the links of its sectors
 pub chain-same : (dir : Bool) (k : ℕ) (d d′ : List ℕ) (n : ℕ)
-    → ((m : ℕ) → isIn (chain dir k d n .sectors) m ≡ true → linkAt d′ (256 * m) ≡ linkAt d (256 * m)) → chain dir k d′ n ≡ chain dir k d n
-unfolding chain some
+    → ((m : ℕ) → isIn (chainWithin dir k d n .sectors) m ≡ true → linkAt d′ (256 * m) ≡ linkAt d (256 * m)) → chainWithin dir k d′ n ≡ chainWithin dir k d n
+unfolding again some
 chain-same dir zero d d′ n h = refl
 chain-same dir (suc k) d d′ n h = go (mayHold dir n) (linkAt d (256 * n)) refl (chain-same dir k d d′) h where
   go : (q : Bool) (l : Link) → linkAt d (256 * n) ≡ l
-      → ((m : ℕ) → ((x : ℕ) → isIn (chain dir k d m .sectors) x ≡ true → linkAt d′ (256 * x) ≡ linkAt d (256 * x)) → chain dir k d′ m ≡ chain dir k d m)
-      → ((x : ℕ) → isIn (cond q (chainOnward dir n (chain dir k d) l) brokenChain .sectors) x ≡ true → linkAt d′ (256 * x) ≡ linkAt d (256 * x))
-      → cond q (chainOnward dir n (chain dir k d′) (linkAt d′ (256 * n))) brokenChain ≡ cond q (chainOnward dir n (chain dir k d) l) brokenChain
+      → ((m : ℕ) → ((x : ℕ) → isIn (chainWithin dir k d m .sectors) x ≡ true → linkAt d′ (256 * x) ≡ linkAt d (256 * x)) → chainWithin dir k d′ m ≡ chainWithin dir k d m)
+      → ((x : ℕ) → isIn (cond q (chainOnward dir n (chainWithin dir k d) l) brokenChain .sectors) x ≡ true → linkAt d′ (256 * x) ≡ linkAt d (256 * x))
+      → cond q (chainOnward dir n (chainWithin dir k d′) (linkAt d′ (256 * n))) brokenChain ≡ cond q (chainOnward dir n (chainWithin dir k d) l) brokenChain
   go false l e f g = refl
-  go true (Last b) e f g = ap (chainOnward dir n (chain dir k d′)) (g n (rw (eq-eqb n n refl)) ∙ e)
+  go true (Last b) e f g = ap (chainOnward dir n (chainWithin dir k d′)) (g n (rw (eq-eqb n n refl)) ∙ e)
   go true (To m) e f g =
-      ap (chainOnward dir n (chain dir k d′)) (g n (rw (eq-eqb n n refl)) ∙ e)
+      ap (chainOnward dir n (chainWithin dir k d′)) (g n (rw (eq-eqb n n refl)) ∙ e)
       ∙ ap (λ (c : Chain). record { sectors = n ∷ c .sectors; ends = c .ends })
-      (f m (λ x i. g x (or-right (eqb x n) (isIn (chain dir k d m .sectors) x) i)))
-  go true Astray e f g = ap (chainOnward dir n (chain dir k d′)) (g n (rw (eq-eqb n n refl)) ∙ e)
+      (f m (λ x i. g x (or-right (eqb x n) (isIn (chainWithin dir k d m .sectors) x) i)))
+  go true Astray e f g = ap (chainOnward dir n (chainWithin dir k d′)) (g n (rw (eq-eqb n n refl)) ∙ e)
 
 -- ---- bytes
 
@@ -91,9 +93,9 @@ by-tests P d name a r f = go (sound d) (isFileName name) where
   go true false = r badName
   go false q = r badDisk
 
-scratched-long : (d l : List ℕ) → length (ontoDisk (ofFile l (λ p. done (markedAll (set d p 0) (chainOf 683 d p .sectors) true))) d .disk) ≡ length d
+scratched-long : (d l : List ℕ) → length (ontoDisk (ofFile l (λ p. done (markedAll (set d p 0) (chainOf d p .sectors) true))) d .disk) ≡ length d
 scratched-long d [] = refl
-scratched-long d (p ∷ l) = marked-all-long (set d p 0) (chainOf 683 d p .sectors) true ∙ length-set d p 0
+scratched-long d (p ∷ l) = marked-all-long (set d p 0) (chainOf d p .sectors) true ∙ length-set d p 0
 
 saved-long : (d name image : List ℕ) (a : Answer (List ℕ)) → saved d name image ≡ a → length (ontoDisk a d .disk) ≡ length d
 saved-long d name image (done made) e = made-long d name image made e ∙ sym (size d name image made e)
@@ -107,7 +109,7 @@ long-kept d Check e = refl
 long-kept d (Read name) e = refl
 long-kept d (Save name image) e = saved-long d name image (saved d name image) refl
 long-kept d (Scratch name) e =
-    by-tests (λ a. length (ontoDisk a d .disk) ≡ length d) d name (ofFile (entriesNamed d name) (λ p. done (markedAll (set d p 0) (chainOf 683 d p .sectors) true))) (λ n. refl)
+    by-tests (λ a. length (ontoDisk a d .disk) ≡ length d) d name (ofFile (entriesNamed d name) (λ p. done (markedAll (set d p 0) (chainOf d p .sectors) true))) (λ n. refl)
     (scratched-long d (entriesNamed d name))
 
 -- ---- a file behind a call
@@ -120,9 +122,9 @@ module _ (d : List ℕ) (c : Call) (f : isFormat c ≡ false) where
       ∙ ap (λ (s : ℕ). linkTo (getD d (256 * m) 0) s) (kept-by-calls d m (256 * m + 1) u (record { from = omega arith; to = omega arith }) c f)
 
   -- a chain of sectors that listed files have is the same behind every call but formatting
-  pub chain-kept : (k n : ℕ) → ((m : ℕ) → isIn (chain false k d n .sectors) m ≡ true → isIn (files d .sectors) m ≡ true)
-      → chain false k (afterCall d c) n ≡ chain false k d n
-  chain-kept k n h = chain-same false k d (afterCall d c) n (λ m i. link-kept m (h m i))
+  pub chain-kept : (n : ℕ) → ((m : ℕ) → isIn (chain false d n .sectors) m ≡ true → isIn (files d .sectors) m ≡ true) → chain false (afterCall d c) n ≡ chain false d n
+  unfolding chain
+  chain-kept n h = ap (λ (k : ℕ). chainWithin false k (afterCall d c) n) (long-kept d c f) ∙ chain-same false (length d) d (afterCall d c) n (λ m i. link-kept m (h m i))
 
   -- and so are its bytes
   pub bytes-kept : (ns : List ℕ) → ((j : ℕ) → getD d j 0 < 256) → ((m : ℕ) → isIn ns m ≡ true → isIn (files d .sectors) m ≡ true)

@@ -9,14 +9,15 @@ use lib.ListN.{length, getD, set, replicate, length-set, length-replicate}
 use lib.Seq.{sets, length-sets, getD-set-same}
 use native.Mathlib.Omega.{arith}
 use borrow.Author.Tests.{eq-eqb}
+use Rattle.base_steps.specs.Again.{again}
 use Rattle.disk_rules.specs.Places.{sectorsOn}
 use Rattle.disk_rules.specs.Lists.{numbersFrom, those, every, some, isIn, noneTwice}
 use Rattle.disk_rules.specs.Links.{linkTo, linkAt}
-use Rattle.disk_rules.specs.declared.Link.{Link}
 use Rattle.disk_rules.specs.declared.Link.the-variants.{Last}
 use Rattle.disk_rules.specs.Map.{bitOf, mapAt}
 use Rattle.disk_rules.specs.Free.{bitAgrees, mapAgrees}
 use Rattle.disk_rules.specs.Chains.{Chain, chain, chainOnward}
+use Rattle.disk_rules.specs.CountedHelpers.{chainWithin}
 use Rattle.disk_rules.specs.Entries.{directory, entryAt, isThat, entriesThat, listed, entriesGood, chains}
 use Rattle.disk_rules.specs.Check.{files, sound}
 use Rattle.disk_rules.specs.Calls.{repeatedBytes, freshHeader, fresh}
@@ -95,8 +96,8 @@ module _ (b : List ℕ) (l : length b ≡ 174848) (z : (j : ℕ) → getD b j 0 
   ended = ap (λ (t : ℕ). linkTo t (getD d 91649 0)) (in-last 0 (omega arith)) ∙ ap (λ (s : ℕ). linkTo 0 s) (in-last 1 (omega arith))
 
   dir-is : directory d ≡ record { sectors = 358 ∷ []; ends = true }
-  unfolding directory chain
-  dir-is = ap (λ (k : Link). chainOnward true 358 (chain true 17 d) k) ended
+  unfolding directory chain again
+  dir-is = ap (λ (k : ℕ). chainWithin true k d 358) long ∙ ap (chainOnward true 358 (chainWithin true 174847 d)) ended
 
   none-listed : listed d ≡ []
   unfolding entriesThat
@@ -109,7 +110,7 @@ module _ (b : List ℕ) (l : length b ≡ 174848) (z : (j : ℕ) → getD b j 0 
 
   files-are : files d ≡ record { sectors = []; ends = true }
   unfolding chains
-  files-are = ap (λ (x : List ℕ). chains 683 d x) none-listed
+  files-are = ap (λ (x : List ℕ). chains d x) none-listed
 
   map-agrees : mapAgrees d (isIn []) ≡ true
   unfolding mapAgrees some

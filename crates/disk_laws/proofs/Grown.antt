@@ -10,6 +10,7 @@ use lib.Seq.{sets, length-sets}
 use native.Mathlib.Decide.{decLt}
 use native.Mathlib.Omega.{arith}
 use borrow.Author.Tests.{eqb-true, eq-eqb, ne-eqb, le-leb, leb-true}
+use Rattle.base_steps.specs.Again.{again}
 use Rattle.disk_rules.specs.Places.{trackOf, sectorOf}
 use Rattle.disk_rules.specs.Lists.{numbersFrom, those, some, isIn, noneTwice}
 use Rattle.disk_rules.specs.Links.{linkTo, linkAt}
@@ -17,18 +18,18 @@ use Rattle.disk_rules.specs.declared.Link.{Link}
 use Rattle.disk_rules.specs.declared.Link.the-variants.{Last, To, Astray}
 use Rattle.disk_rules.specs.Map.{bitOf, bitAt, marked}
 use Rattle.disk_rules.specs.Chains.{Chain, chain, brokenChain, mayHold, chainOnward}
+use Rattle.disk_rules.specs.CountedHelpers.{chainWithin}
 use Rattle.disk_rules.specs.Entries.{directory, entryAt, isListed, isThat, entriesThat, listed}
 use Rattle.disk_rules.specs.Calls.{isFileName, taken, entryBytes, sectorBytes, grown}
 use Rattle.disk_chains.proofs.Marking.{marked-long}
-use Rattle.disk_check.proofs.Looking.{numbers-long}
 use Rattle.disk_saves.proofs.Placing.{directory-some}
-use Rattle.disk_laws.proofs.Counting.{and-left, and-right, or-right, count-not, stand-all}
+use Rattle.disk_rules.proofs.Counting.{never, and-left, and-right, or-right, in-at, run-few}
+use Rattle.disk_rules.proofs.Ends.{chain-held}
 use Rattle.disk_laws.proofs.Geometry.{link-back, track-2}
 use Rattle.disk_laws.proofs.Marks.{bit-marked}
-use Rattle.disk_laws.proofs.Totals.{chain-held}
 use Rattle.disk_laws.proofs.Elsewhere.{Off, before, behind, narrow, sets-off, marked-off, sector-long}
 use Rattle.disk_laws.proofs.Fresh.{sets-at, none-those}
-use Rattle.disk_laws.proofs.Kept.{never, in-at, entry-long, name-short, dir-sector}
+use Rattle.disk_laws.proofs.Kept.{entry-long, name-short, dir-sector}
 use Rattle.disk_laws.proofs.Without.{Without, put-in, lists-apart}
 use Rattle.disk_laws.proofs.Parts.{Parts, link-same, FromRun, that-from}
 use Rattle.disk_laws.proofs.Added.{Added}
@@ -40,11 +41,11 @@ not-in : (x y : Bool) → (not x && y) ≡ true → x ≡ false
 not-in true y g = never g
 not-in false y g = refl
 
-some-end : (dir : Bool) (k : ℕ) (d : List ℕ) (n : ℕ) → chain dir k d n .ends ≡ true → 1 ≤ length (chain dir k d n .sectors)
-unfolding chain
+some-end : (dir : Bool) (k : ℕ) (d : List ℕ) (n : ℕ) → chainWithin dir k d n .ends ≡ true → 1 ≤ length (chainWithin dir k d n .sectors)
+unfolding again
 some-end dir zero d n e = never e
 some-end dir (suc k) d n e = go (mayHold dir n) (linkAt d (256 * n)) e where
-  go : (q : Bool) (l : Link) → cond q (chainOnward dir n (chain dir k d) l) brokenChain .ends ≡ true → 1 ≤ length (cond q (chainOnward dir n (chain dir k d) l) brokenChain .sectors)
+  go : (q : Bool) (l : Link) → cond q (chainOnward dir n (chainWithin dir k d) l) brokenChain .ends ≡ true → 1 ≤ length (cond q (chainOnward dir n (chainWithin dir k d) l) brokenChain .sectors)
   go false l f = never f
   go true (Last b) f = omega arith
   go true (To m) f = omega arith
@@ -55,41 +56,41 @@ last-on : (s : ℕ) (l : List ℕ) → 1 ≤ length l → getD (s ∷ l) (length
 last-on s l h = let z : length (s ∷ l) - 1 ≡ suc (length l - 1) = omega arith in ap (λ (i : ℕ). getD (s ∷ l) i 0) z
 
 module _ (d d′ : List ℕ) (n last : ℕ) (h : mayHold true n ≡ true) (a : linkAt d′ (256 * n) ≡ Last 0xFF) (b : linkAt d′ (256 * last) ≡ To n) where
-  lone : (j : ℕ) → chain true (suc j) d′ n ≡ record { sectors = n ∷ []; ends = true }
-  unfolding chain
-  lone j = ap (λ (q : Bool). cond q (chainOnward true n (chain true j d′) (linkAt d′ (256 * n))) brokenChain) h ∙ ap (chainOnward true n (chain true j d′)) a
+  lone : (j : ℕ) → chainWithin true (suc j) d′ n ≡ record { sectors = n ∷ []; ends = true }
+  unfolding again
+  lone j = ap (λ (q : Bool). cond q (chainOnward true n (chainWithin true j d′) (linkAt d′ (256 * n))) brokenChain) h ∙ ap (chainOnward true n (chainWithin true j d′)) a
 
   abbrev Links : List ℕ → Type 0
   Links l = (m : ℕ) → isIn l m ≡ true → (m ≡ last → ⊥) → linkAt d′ (256 * m) ≡ linkAt d (256 * m)
 
-  pub chain-on : (k j s : ℕ) → chain true k d s .ends ≡ true → noneTwice (chain true k d s .sectors) ≡ true → length (chain true k d s .sectors) ≤ j
-      → getD (chain true k d s .sectors) (length (chain true k d s .sectors) - 1) 0 ≡ last → Links (chain true k d s .sectors)
-      → chain true (suc j) d′ s ≡ record { sectors = chain true k d s .sectors ++ n ∷ []; ends = true }
-  unfolding chain noneTwice some
+  pub chain-on : (k j s : ℕ) → chainWithin true k d s .ends ≡ true → noneTwice (chainWithin true k d s .sectors) ≡ true → length (chainWithin true k d s .sectors) ≤ j
+      → getD (chainWithin true k d s .sectors) (length (chainWithin true k d s .sectors) - 1) 0 ≡ last → Links (chainWithin true k d s .sectors)
+      → chainWithin true (suc j) d′ s ≡ record { sectors = chainWithin true k d s .sectors ++ n ∷ []; ends = true }
+  unfolding again noneTwice some
   chain-on zero j s e o f l g = never e
   chain-on (suc k) j s e o f l g = go j (mayHold true s) (linkAt d (256 * s)) refl (chain-on k) e o f l g where
     go : (j : ℕ) (q : Bool) (x : Link) → linkAt d (256 * s) ≡ x
-        → ((j m : ℕ) → chain true k d m .ends ≡ true → noneTwice (chain true k d m .sectors) ≡ true → length (chain true k d m .sectors) ≤ j
-        → getD (chain true k d m .sectors) (length (chain true k d m .sectors) - 1) 0 ≡ last → Links (chain true k d m .sectors)
-        → chain true (suc j) d′ m ≡ record { sectors = chain true k d m .sectors ++ n ∷ []; ends = true })
-        → cond q (chainOnward true s (chain true k d) x) brokenChain .ends ≡ true → noneTwice (cond q (chainOnward true s (chain true k d) x) brokenChain .sectors) ≡ true
-        → length (cond q (chainOnward true s (chain true k d) x) brokenChain .sectors) ≤ j
-        → getD (cond q (chainOnward true s (chain true k d) x) brokenChain .sectors) (length (cond q (chainOnward true s (chain true k d) x) brokenChain .sectors) - 1) 0 ≡ last
-        → Links (cond q (chainOnward true s (chain true k d) x) brokenChain .sectors)
-        → cond q (chainOnward true s (chain true j d′) (linkAt d′ (256 * s))) brokenChain ≡ record { sectors = cond q (chainOnward true s (chain true k d) x) brokenChain .sectors ++ n ∷ []; ends = true }
+        → ((j m : ℕ) → chainWithin true k d m .ends ≡ true → noneTwice (chainWithin true k d m .sectors) ≡ true → length (chainWithin true k d m .sectors) ≤ j
+        → getD (chainWithin true k d m .sectors) (length (chainWithin true k d m .sectors) - 1) 0 ≡ last → Links (chainWithin true k d m .sectors)
+        → chainWithin true (suc j) d′ m ≡ record { sectors = chainWithin true k d m .sectors ++ n ∷ []; ends = true })
+        → cond q (chainOnward true s (chainWithin true k d) x) brokenChain .ends ≡ true → noneTwice (cond q (chainOnward true s (chainWithin true k d) x) brokenChain .sectors) ≡ true
+        → length (cond q (chainOnward true s (chainWithin true k d) x) brokenChain .sectors) ≤ j
+        → getD (cond q (chainOnward true s (chainWithin true k d) x) brokenChain .sectors) (length (cond q (chainOnward true s (chainWithin true k d) x) brokenChain .sectors) - 1) 0 ≡ last
+        → Links (cond q (chainOnward true s (chainWithin true k d) x) brokenChain .sectors)
+        → cond q (chainOnward true s (chainWithin true j d′) (linkAt d′ (256 * s))) brokenChain ≡ record { sectors = cond q (chainOnward true s (chainWithin true k d) x) brokenChain .sectors ++ n ∷ []; ends = true }
     go j false x y i e o f l g = never e
     go zero true (Last c) y i e o f l g = absurd (omega arith)
     go (suc j) true (Last c) y i e o f l g =
-        ap (chainOnward true s (chain true (suc j) d′)) (ap (λ (z : ℕ). linkAt d′ (256 * z)) l ∙ b)
+        ap (chainOnward true s (chainWithin true (suc j) d′)) (ap (λ (z : ℕ). linkAt d′ (256 * z)) l ∙ b)
         ∙ ap (λ (z : Chain). record { sectors = s ∷ z .sectors; ends = z .ends }) (lone j)
     go zero true (To m) y i e o f l g = absurd (omega arith)
     go (suc j) true (To m) y i e o f l g =
-        let t : List ℕ = chain true k d m .sectors in
+        let t : List ℕ = chainWithin true k d m .sectors in
         let one : 1 ≤ length t = some-end true k d m e in
         let l′ : getD t (length t - 1) 0 ≡ last = sym (last-on s t one) ∙ l in
         let out : isIn t s ≡ false = not-in (isIn t s) (noneTwice t) o in
         let far : s ≡ last → ⊥ = λ z. never (sym out ∙ ap (isIn t) (z ∙ sym l′) ∙ in-at t (length t - 1) (omega arith)) in
-        ap (chainOnward true s (chain true (suc j) d′)) (g s (rw (eq-eqb s s refl)) far ∙ y)
+        ap (chainOnward true s (chainWithin true (suc j) d′)) (g s (rw (eq-eqb s s refl)) far ∙ y)
         ∙ ap (λ (z : Chain). record { sectors = s ∷ z .sectors; ends = z .ends })
         (i j m e (and-right (not (isIn t s)) (noneTwice t) o) (omega arith) l′ (λ z u. g z (or-right (eqb z s) (isIn t z) u)))
     go j true Astray y i e o f l g = never e
@@ -136,7 +137,7 @@ module _ (d name image : List ℕ) (n : ℕ) (x : Parts d) (fit : isFileName nam
   long-sector = sector-long 0 0xFF [] (omega arith)
 
   some-dir : 1 ≤ length (directory d .sectors)
-  some-dir = omega (arith, directory-some d refl)
+  some-dir = omega (arith, directory-some d (x .size) refl)
 
   last-in : isIn (directory d .sectors) last ≡ true
   last-in = in-at (directory d .sectors) (length (directory d .sectors) - 1) (omega (arith, some-dir))
@@ -219,9 +220,9 @@ module _ (d name image : List ℕ) (n : ℕ) (x : Parts d) (fit : isFileName nam
   held-n = rw (le-leb 358 n low, le-leb n 375 high) refl
 
   in-dir : (m : ℕ) → isIn (directory d .sectors) m ≡ true → (358 ≤ m) × (m ≤ 375)
-  unfolding directory
+  unfolding directory chain
   in-dir m i =
-      let e : (leb 358 m && leb m 375) ≡ true = chain-held true 18 d 358 m i in
+      let e : (leb 358 m && leb m 375) ≡ true = chain-held true (length d) d 358 m i in
       (leb-true 358 m (and-left (leb 358 m) (leb m 375) e), leb-true m 375 (and-right (leb 358 m) (leb m 375) e))
 
   dir-far : (m : ℕ) → isIn (directory d .sectors) m ≡ true → m ≡ n → ⊥
@@ -233,7 +234,7 @@ module _ (d name image : List ℕ) (n : ℕ) (x : Parts d) (fit : isFileName nam
   room-left =
       let more : List ℕ = n ∷ directory d .sectors in
       let o : noneTwice more ≡ true = rw out (x .once) in
-      omega (arith, stand-all more 358 18 o (λ m i. at m (eqb m n) refl i), count-not (isIn more) (numbersFrom 358 18), numbers-long 358 18) where
+      omega (arith, run-few more 358 18 o (λ m i. at m (eqb m n) refl i)) where
         at : (m : ℕ) (q : Bool) → eqb m n ≡ q → (q || isIn (directory d .sectors) m) ≡ true → (358 ≤ m) × (m < 358 + 18)
         at m true e i = let z : m ≡ n = eqb-true m n e in (omega arith, omega arith)
         at m false e i = let z : (358 ≤ m) × (m ≤ 375) = in-dir m i in (z .0, omega arith)
@@ -253,8 +254,10 @@ module _ (d name image : List ℕ) (n : ℕ) (x : Parts d) (fit : isFileName nam
         byte j (omega arith) (omega arith) (behind (omega arith)) (off-sector m n j 0 256 (dir-far m i) a (omega arith) (omega arith)) (off-sector m last j 0 2 z a (omega arith) (omega arith))
 
   dir-made : directory made ≡ record { sectors = directory d .sectors ++ n ∷ []; ends = true }
-  unfolding directory
-  dir-made = chain-on d made n last held-n link-new link-last 18 17 358 (x .ends) (x .once) room-left refl link-dir
+  unfolding directory chain
+  dir-made =
+      ap (λ (k : ℕ). chainWithin true k made 358) (length-sets (grown (written d image) last n) (256 * n + 2) entry ∙ long-grown)
+      ∙ chain-on d made n last held-n link-new link-last (length d) 174847 358 (x .ends) (x .once) (omega (arith, room-left)) refl link-dir
 
   once-made : noneTwice (directory d .sectors ++ n ∷ []) ≡ true
   unfolding noneTwice some

@@ -15,10 +15,9 @@ use Rattle.base_refusals.specs.Numbers.{badDisk}
 use Rattle.base_refusals.specs.Answer.{Answer, done, refused}
 use Rattle.disk_rules.specs.Lists.{numbersFrom, some, isIn, noneTwice}
 use Rattle.disk_rules.specs.Entries.{directory, entriesThat}
-use Rattle.disk_rules.specs.Free.{freeSectors}
 use Rattle.disk_rules.specs.Check.{files, sound}
 use Rattle.disk_rules.specs.Calls.{taken, entryBytes, outside, grown, withEntry, saved, scratched, fresh, ontoDisk}
-use Rattle.disk_laws.specs.Runs.{Call, Format, Check, Read, Save, Scratch, afterCall, afterCalls}
+use Rattle.disk_laws.specs.Runs.{Call, Format, Check, Read, Save, Scratch, afterCall, afterCalls, AccountedFor}
 use Rattle.disk_laws.proofs.Totals.{all-accounted-for, in-one-chain}
 use Rattle.disk_laws.proofs.Fresh.{fresh-sound}
 use Rattle.disk_laws.proofs.Kept.{in-those, outside-on}
@@ -94,7 +93,7 @@ module _ (cs : List Call) where
   always-sound = sound-throughout fresh cs fresh-sound
 
   -- "free sectors off track 18 plus sectors in chains of listed files plus the 19 make 683"
-  pub always-accounted-for : length (freeSectors (afterCalls fresh cs)) + length (files (afterCalls fresh cs) .sectors) + 19 ≡ 683
+  pub always-accounted-for : AccountedFor (afterCalls fresh cs)
   always-accounted-for = all-accounted-for (afterCalls fresh cs) always-sound
 
   -- "no sector is in two chains"

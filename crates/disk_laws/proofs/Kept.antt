@@ -9,7 +9,7 @@ use lib.ListN.{length, getD, take, set, length-append, length-replicate}
 use lib.Seq.{sets}
 use native.Mathlib.Decide.{decLt}
 use native.Mathlib.Omega.{arith}
-use borrow.Author.Tests.{eqb-true, eq-eqb, leb-true, ltb-true, le-ltb}
+use borrow.Author.Tests.{eqb-true, leb-true, ltb-true, le-ltb}
 use Rattle.base_steps.specs.Each.{Each}
 use Rattle.base_steps.proofs.Each.{each-map}
 use Rattle.base_refusals.specs.Numbers.{nameTaken, directoryFull, diskFull}
@@ -18,6 +18,7 @@ use Rattle.disk_rules.specs.Places.{trackOf, sectorOf, offTrack18}
 use Rattle.disk_rules.specs.Lists.{numbersFrom, those, some, isIn}
 use Rattle.disk_rules.specs.Links.{linkAt}
 use Rattle.disk_rules.specs.Map.{isFree}
+use Rattle.disk_rules.specs.Chains.{chain}
 use Rattle.disk_rules.specs.Entries.{directory, entryAt, entriesOf, isThat, entriesThat, listed, isNamed, chainOf}
 use Rattle.disk_rules.specs.Free.{freeSectors, markedAll}
 use Rattle.disk_rules.specs.Check.{files, sound}
@@ -26,13 +27,12 @@ use Rattle.disk_check.proofs.Looking.{each-those, numbers-each}
 use Rattle.disk_saves.specs.SaveHelpers.{savedNew}
 use Rattle.disk_saves.proofs.Placing.{directory-some}
 use Rattle.disk_laws.specs.Runs.{Call, Format, Check, Read, Save, Scratch, isFormat, afterCall}
-use Rattle.disk_laws.proofs.Counting.{and-left, and-right, or-right}
-use Rattle.disk_laws.proofs.Totals.{chain-held, chains-held, by-held, free-is}
+use Rattle.disk_rules.proofs.Counting.{never, and-left, and-right, in-at, in-those-list}
+use Rattle.disk_rules.proofs.Ends.{chain-held}
+use Rattle.disk_rules.proofs.Counted.{chains-held, by-held}
+use Rattle.disk_laws.proofs.Totals.{holds, free-is}
 use Rattle.disk_laws.proofs.Room.{tested}
 use Rattle.disk_laws.proofs.Elsewhere.{Off, before, behind, narrow, set-off, sets-off, marked-off, marked-all-off, Within, laid-off}
-
-pub never : {A : Type 0} → _≡_ {A = Bool} false true → A
-never e = absurd (let z : _≡_ {A = ℕ} 0 1 = cc in omega arith)
 
 -- ---- what stands in lists
 
@@ -56,24 +56,6 @@ in-take (suc k) (m ∷ l) n e = go (eqb n m) (in-take k l n) e where
   go true f g = refl
   go false f g = f g
 
-pub in-at : (l : List ℕ) (i : ℕ) → i < length l → isIn l (getD l i 0) ≡ true
-unfolding some
-in-at [] i h = absurd (omega arith)
-in-at (n ∷ l) zero h = rw (eq-eqb n n refl)
-in-at (n ∷ l) (suc i) h = or-right (eqb (getD l i 0) n) (isIn l (getD l i 0)) (in-at l i (omega arith))
-
--- what passes a test stands in the list
-pub in-those-list : (test : ℕ → Bool) (l : List ℕ) (n : ℕ) → isIn (those test l) n ≡ true → isIn l n ≡ true
-unfolding those some
-in-those-list test [] n e = never e
-in-those-list test (m ∷ l) n e = go (test m) (in-those-list test l n) e where
-  go : (q : Bool) → (isIn (those test l) n ≡ true → isIn l n ≡ true) → isIn (cond q (m ∷ those test l) (those test l)) n ≡ true → (eqb n m || isIn l n) ≡ true
-  go false g h = or-right (eqb n m) (isIn l n) (g h)
-  go true g h = by (eqb n m) h where
-    by : (r : Bool) → (r || isIn (those test l) n) ≡ true → (r || isIn l n) ≡ true
-    by true j = refl
-    by false j = g j
-
 run-below : (from k n : ℕ) → isIn (numbersFrom from k) n ≡ true → n < from + k
 unfolding numbersFrom some
 run-below from zero n e = never e
@@ -96,10 +78,10 @@ pub record OnTrack18 (size p : ℕ) : Type 0 where
 
 -- a sector of the directory
 pub dir-sector : (d : List ℕ) (i : ℕ) → i < length (directory d .sectors) → (358 ≤ getD (directory d .sectors) i 0) × (getD (directory d .sectors) i 0 ≤ 375)
-unfolding directory
+unfolding directory chain
 dir-sector d i h =
     let n : ℕ = getD (directory d .sectors) i 0 in
-    let e : (leb 358 n && leb n 375) ≡ true = chain-held true 18 d 358 n (in-at (directory d .sectors) i h) in
+    let e : (leb 358 n && leb n 375) ≡ true = chain-held true (length d) d 358 n (in-at (directory d .sectors) i h) in
     (leb-true 358 n (and-left (leb 358 n) (leb n 375) e), leb-true n 375 (and-right (leb 358 n) (leb n 375) e))
 
 pub entries-on : (which : Bool) (d : List ℕ) → Each (OnTrack18 30) (entriesThat which d (directory d .sectors))
@@ -163,7 +145,7 @@ unfolding freeSectors
 taken-below d image m e = run-below 0 683 m (in-those-list (isFree d) (numbersFrom 0 683) m (in-take (sectorsFor image) (freeSectors d) m e))
 
 -- a file written: off track 18 it is what was laid
-module _ (d name image : List ℕ) (m : isFileName name ≡ true) (j : ℕ) (off : Off 91392 96256 j) where
+module _ (d name image : List ℕ) (z : length d ≡ 174848) (m : isFileName name ≡ true) (j : ℕ) (off : Off 91392 96256 j) where
   pub file-18 : (y : List ℕ) → getD (laid d (taken d image) image) j 0 ≡ getD y j 0
       → getD (ontoDisk (withFile d name image (taken d image)) y .disk) j 0 ≡ getD y j 0
   file-18 y h =
@@ -171,7 +153,7 @@ module _ (d name image : List ℕ) (m : isFileName name ≡ true) (j : ℕ) (off
       (entriesThat false d (directory d .sectors)) (outside (directory d .sectors))
       (marks-18 j off (laid d (taken d image) image) (taken d image) false (taken-below d image) ∙ h)
       (entry-long name (taken d image) (name-short name m)) (entries-on false d) (outside-on (directory d .sectors))
-      (dir-sector d (length (directory d .sectors) - 1) (omega (arith, directory-some d refl)))
+      (dir-sector d (length (directory d .sectors) - 1) (omega (arith, directory-some d z refl)))
 
 -- a sector off track 18
 pub sector-off : (n j : ℕ) → Within n j → offTrack18 n ≡ true → Off 91392 96256 j
@@ -185,7 +167,7 @@ sector-off n j w = go (decLt n 357) (decLt 375 n) where
 
 module _ (d : List ℕ) (n j : ℕ) (u : isIn (files d .sectors) n ≡ true) (w : Within n j) where
   held : (ltb n 683 && offTrack18 n) ≡ true
-  held = chains-held 683 d (listed d) n u
+  held = chains-held d (listed d) n u
 
   below : n < 683
   below = ltb-true n 683 (and-left (ltb n 683) (offTrack18 n) held)
@@ -213,12 +195,12 @@ module _ (d : List ℕ) (n j : ℕ) (u : isIn (files d .sectors) n ≡ true) (w 
   kept-behind : (name : List ℕ) (a : Answer (List ℕ)) → (sound d ≡ true → isFileName name ≡ true → Kept a) → Kept (onSound d name a)
   kept-behind name a f = kept-either (sound d) _ _ (λ s. kept-either (isFileName name) _ _ (λ m. f s m) refl) refl
 
-  kept-first : (l : List ℕ) → Each (OnTrack18 30) l → Kept (ofFile l (λ p. done (markedAll (set d p 0) (chainOf 683 d p .sectors) true)))
+  kept-first : (l : List ℕ) → Each (OnTrack18 30) l → Kept (ofFile l (λ p. done (markedAll (set d p 0) (chainOf d p .sectors) true)))
   kept-first [] e = refl
   kept-first (p ∷ l) e =
       let o : OnTrack18 30 p = e .0 in
-      marks-18 j off-18 (set d p 0) (chainOf 683 d p .sectors) true
-      (λ m i. ltb-true m 683 (and-left (ltb m 683) (offTrack18 m) (by-held d 683 (linkAt d (p + 1)) m i)))
+      marks-18 j off-18 (set d p 0) (chainOf d p .sectors) true
+      (λ m i. ltb-true m 683 (and-left (ltb m 683) (offTrack18 m) (by-held d (linkAt d (p + 1)) m i)))
       ∙ set-off d p 0 j (narrow off-18 (omega (arith, o .from)) (omega (arith, o .to)))
 
   kept-scratched : (name : List ℕ) → Kept (scratched d name)
@@ -230,7 +212,7 @@ module _ (d : List ℕ) (n j : ℕ) (u : isIn (files d .sectors) n ≡ true) (w 
   unfolding savedNew
   kept-new name image s m =
       kept-either (ltb (length (freeSectors d)) (sectorsFor image)) (refused diskFull) (withFile d name image (taken d image)) (λ e. refl)
-      (file-18 d name image m j off-18 d (laid-off d (taken d image) image n j (not-taken s image) w))
+      (file-18 d name image (eqb-true (length d) 174848 (holds d s .size)) m j off-18 d (laid-off d (taken d image) image n j (not-taken s image) w))
 
   kept-saved : (name image : List ℕ) → Kept (saved d name image)
   kept-saved name image =

@@ -9,13 +9,15 @@ use lib.ListN.{length, getD, take, drop, replicate, length-take, length-drop, ta
 use lib.Seq.{sets, length-sets, ext-getD, getD-take, getD-drop, take-all, length-take-le}
 use native.Mathlib.Omega.{arith}
 use borrow.Author.Tests.{eq-eqb, ne-eqb, ltb-true, not-true}
+use Rattle.base_steps.specs.Again.{again}
 use Rattle.disk_rules.specs.Places.{trackOf, offTrack18}
 use Rattle.disk_rules.specs.Lists.{some, isIn, noneTwice}
 use Rattle.disk_rules.specs.Links.{linkTo, linkAt}
 use Rattle.disk_rules.specs.declared.Link.the-variants.{Last, To}
-use Rattle.disk_rules.specs.Chains.{Chain, chain, brokenChain, mayHold, chainOnward}
+use Rattle.disk_rules.specs.Chains.{Chain, brokenChain, mayHold, chainOnward}
+use Rattle.disk_rules.specs.CountedHelpers.{chainWithin}
 use Rattle.disk_rules.specs.Calls.{linkBytes, laid, payload, chainBytes}
-use Rattle.disk_laws.proofs.Counting.{and-left, and-right, or-right}
+use Rattle.disk_rules.proofs.Counting.{and-left, and-right, or-right}
 use Rattle.disk_laws.proofs.Geometry.{place, link-back}
 use Rattle.disk_laws.proofs.Elsewhere.{Within, laid-off, link-long}
 use Rattle.disk_laws.proofs.Fresh.{sets-at}
@@ -72,20 +74,20 @@ held-low : (m : ℕ) → mayHold false m ≡ true → m < 683
 held-low m e = ltb-true m 683 (and-left _ (offTrack18 m) e)
 
 pub lies-chain : (d : List ℕ) (k n : ℕ) (ns image : List ℕ) → ((m : ℕ) → isIn (n ∷ ns) m ≡ true → mayHold false m ≡ true) → length ns < k
-    → LieAll d (n ∷ ns) image → chain false k d n ≡ record { sectors = n ∷ ns; ends = true }
-unfolding chain some LieAll
+    → LieAll d (n ∷ ns) image → chainWithin false k d n ≡ record { sectors = n ∷ ns; ends = true }
+unfolding again some LieAll
 lies-chain d zero n ns image h g y = absurd (omega arith)
 lies-chain d (suc k) n [] image h g y =
     let e : mayHold false n ≡ true = h n (rw (eq-eqb n n refl)) in
     let z : 1 + length image ≡ 0 → ⊥ = λ i. omega arith in
-    ap (λ (q : Bool). cond q (chainOnward false n (chain false k d) (linkAt d (256 * n))) brokenChain) e
-    ∙ ap (chainOnward false n (chain false k d)) (link-last d n image (y .0))
+    ap (λ (q : Bool). cond q (chainOnward false n (chainWithin false k d) (linkAt d (256 * n))) brokenChain) e
+    ∙ ap (chainOnward false n (chainWithin false k d)) (link-last d n image (y .0))
     ∙ ap (λ (q : Bool). record { sectors = n ∷ []; ends = not q }) (ne-eqb (1 + length image) 0 z)
 lies-chain d (suc k) n (m ∷ ns) image h g y =
     let e : mayHold false n ≡ true = h n (rw (eq-eqb n n refl)) in
     let f : mayHold false m ≡ true = h m (or-right (eqb m n) (isIn (m ∷ ns) m) (rw (eq-eqb m m refl))) in
-    ap (λ (q : Bool). cond q (chainOnward false n (chain false k d) (linkAt d (256 * n))) brokenChain) e
-    ∙ ap (chainOnward false n (chain false k d)) (link-next d n m ns image (held-low m f) (y .0))
+    ap (λ (q : Bool). cond q (chainOnward false n (chainWithin false k d) (linkAt d (256 * n))) brokenChain) e
+    ∙ ap (chainOnward false n (chainWithin false k d)) (link-next d n m ns image (held-low m f) (y .0))
     ∙ ap (λ (c : Chain). record { sectors = n ∷ c .sectors; ends = c .ends })
     (lies-chain d k m ns (drop 254 image) (λ x i. h x (or-right (eqb x n) (isIn (m ∷ ns) x) i)) (omega arith) (y .1))
 

@@ -1,10 +1,9 @@
 pub mod Added
-pub mod Counting
+pub mod Chained
 pub mod Elsewhere
 pub mod Entered
 pub mod Files
 pub mod Fresh
-pub mod Fuel
 pub mod Geometry
 pub mod Grown
 pub mod Invariant

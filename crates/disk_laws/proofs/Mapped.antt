@@ -13,7 +13,7 @@ use Rattle.disk_rules.specs.Lists.{numbersFrom, every, some, isIn}
 use Rattle.disk_rules.specs.Map.{bitAt, marked}
 use Rattle.disk_rules.specs.Free.{bitAgrees, mapAgrees, markedAll}
 use Rattle.disk_chains.proofs.Marking.{marked-long}
-use Rattle.disk_laws.proofs.Counting.{one, and-left, and-right, or-right, every-at}
+use Rattle.disk_rules.proofs.Counting.{one, and-left, and-right, or-right, every-at}
 use Rattle.disk_laws.proofs.Geometry.{Placed, place, Stands, stands}
 use Rattle.disk_laws.proofs.Marks.{same-test, bit-marked}
 

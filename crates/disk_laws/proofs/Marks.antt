@@ -13,7 +13,7 @@ use native.Mathlib.Omega.{arith}
 use borrow.Author.Tests.{eqb-true, eqb-false, eq-eqb, ne-eqb}
 use Rattle.disk_rules.specs.Places.{trackOf, sectorOf}
 use Rattle.disk_rules.specs.Map.{bitOf, withBit, mapAt, bitAt, marked}
-use Rattle.disk_laws.proofs.Counting.{one, and-left, and-right}
+use Rattle.disk_rules.proofs.Counting.{one, and-left, and-right}
 use Rattle.disk_laws.proofs.Geometry.{Placed, place}
 
 -- ---- bits, from the lowest on

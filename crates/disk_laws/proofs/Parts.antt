@@ -4,26 +4,26 @@ use Prim.Native.Nat.{ℕ, zero, suc, _+_, _*_, _/_, _%_, _≤_, _<_}
 use mathlib.Core.Path.{_≡_, refl, sym, ap, _∙_}
 use mathlib.Core.Bool.{Bool, true, false, not, _&&_, _||_}
 use mathlib.Core.List.{List, [], _∷_, map}
-use lib.Dec.{eqb, leb, ltb}
+use lib.Dec.{eqb, leb}
 use lib.ListN.{length, getD}
 use native.Mathlib.Omega.{arith}
-use borrow.Author.Tests.{eqb-true, eq-eqb, ltb-true, leb-true}
-use Rattle.disk_rules.specs.Places.{offTrack18}
+use borrow.Author.Tests.{eqb-true, eq-eqb, leb-true}
 use Rattle.disk_rules.specs.Lists.{numbersFrom, some, isIn, noneTwice}
 use Rattle.disk_rules.specs.Links.{linkTo, linkAt}
 use Rattle.disk_rules.specs.declared.Link.{Link}
 use Rattle.disk_rules.specs.declared.Link.the-variants.{Last, To, Astray}
 use Rattle.disk_rules.specs.Map.{bitAt}
 use Rattle.disk_rules.specs.Free.{mapAgrees, markedAll}
-use Rattle.disk_rules.specs.Chains.{Chain, chain, mayHold}
+use Rattle.disk_rules.specs.Chains.{Chain, chain}
+use Rattle.disk_rules.specs.CountedHelpers.{chainWithin}
 use Rattle.disk_rules.specs.Entries.{directory, entryAt, entriesOf, isThat, entriesThat, listed, nameAt, beforeA0, entriesGood, chainBy, chainOf}
 use Rattle.disk_rules.specs.Check.{files, sound}
-use Rattle.disk_check.proofs.Looking.{numbers-long}
-use Rattle.disk_laws.proofs.Counting.{and-left, and-right, count-not, stand-all, in-append}
-use Rattle.disk_laws.proofs.Totals.{Holds, holds, all-hold, chain-held, by-held}
-use Rattle.disk_laws.proofs.Kept.{never, in-at, in-those-list, dir-sector}
+use Rattle.disk_rules.proofs.Counting.{never, and-left, and-right, in-at, in-those-list}
+use Rattle.disk_rules.proofs.Ends.{chain-held}
+use Rattle.disk_laws.proofs.Totals.{Holds, holds, all-hold}
+use Rattle.disk_laws.proofs.Kept.{dir-sector}
 use Rattle.disk_laws.proofs.Files.{chain-same, part-same}
-use Rattle.disk_laws.proofs.Fuel.{allSectors, AllEnd, Ended, chains-apart, chains-together}
+use Rattle.disk_laws.proofs.Chained.{allSectors, AllEnd, chains-all, chains-end, chains-together}
 use Rattle.disk_laws.proofs.Without.{Same}
 use Rattle.disk_laws.proofs.Mapped.{agrees-again}
 
@@ -40,29 +40,10 @@ pub record Parts (d : List ℕ) : Type 0 where
   pub apart : noneTwice (allSectors d (listed d)) ≡ true
   pub agrees : mapAgrees d (isIn (allSectors d (listed d))) ≡ true
 
-pub all-held : (d l : List ℕ) (m : ℕ) → isIn (allSectors d l) m ≡ true → mayHold false m ≡ true
-unfolding allSectors some
-all-held d [] m e = never e
-all-held d (p ∷ l) m e = go (isIn (chainOf 683 d p .sectors) m) refl (all-held d l m) (sym (in-append (chainOf 683 d p .sectors) (allSectors d l) m) ∙ e) where
-  go : (q : Bool) → isIn (chainOf 683 d p .sectors) m ≡ q → (isIn (allSectors d l) m ≡ true → mayHold false m ≡ true) → (q || isIn (allSectors d l) m) ≡ true → mayHold false m ≡ true
-  go true f g h = by-held d 683 (linkAt d (p + 1)) m f
-  go false f g h = g h
-
--- no more sectors than there are
-all-few : (d l : List ℕ) → noneTwice (allSectors d l) ≡ true → length (allSectors d l) ≤ 683
-all-few d l e =
-    let met : List ℕ = allSectors d l in
-    omega (
-      arith,
-      stand-all met 0 683 e (λ m h. (omega arith, ltb-true m 683 (and-left (ltb m 683) (offTrack18 m) (all-held d l m h)))),
-      count-not (isIn met) (numbersFrom 0 683),
-      numbers-long 0 683,
-    )
-
 pub parts : (d : List ℕ) → sound d ≡ true → Parts d
 parts d e =
     let h : Holds d = holds d e in
-    let x : Ended 683 d (listed d) = chains-apart 683 d (listed d) (omega arith) (h .through) in
+    let x : files d .sectors ≡ allSectors d (listed d) = chains-all d (listed d) in
     record {
       size = eqb-true (length d) 174848 (h .size);
       track = eqb-true (getD d 91392 0) 18 (h .track);
@@ -70,14 +51,14 @@ parts d e =
       ends = h .ends;
       once = h .once;
       good = h .good;
-      each = x .each;
-      apart = sym (ap noneTwice (x .all)) ∙ h .apart;
-      agrees = sym (ap (λ (l : List ℕ). mapAgrees d (isIn l)) (x .all)) ∙ h .agrees;
+      each = chains-end d (listed d) (h .through);
+      apart = sym (ap noneTwice x) ∙ h .apart;
+      agrees = sym (ap (λ (l : List ℕ). mapAgrees d (isIn l)) x) ∙ h .agrees;
     }
 
 pub parts-sound : (d : List ℕ) → Parts d → sound d ≡ true
 parts-sound d h =
-    let x : files d ≡ record { sectors = allSectors d (listed d); ends = true } = chains-together 683 d (listed d) (h .each) (all-few d (listed d) (h .apart)) in
+    let x : files d ≡ record { sectors = allSectors d (listed d); ends = true } = chains-together d (listed d) (h .each) in
     all-hold d
     (record {
       size = eq-eqb (length d) 174848 (h .size);
@@ -93,7 +74,7 @@ parts-sound d h =
 
 -- the sectors of listed files are those of their chains
 pub files-all : (d : List ℕ) → sound d ≡ true → files d .sectors ≡ allSectors d (listed d)
-files-all d e = chains-apart 683 d (listed d) (omega arith) (holds d e .through) .all
+files-all d e = chains-all d (listed d)
 
 -- ---- what the parts hang on
 
@@ -103,21 +84,23 @@ module _ (d d′ : List ℕ) where
   link-same j a b = ap (λ (t : ℕ). linkTo t (getD d′ (j + 1) 0)) a ∙ ap (λ (s : ℕ). linkTo (getD d j 0) s) b
 
   -- the directory, by the links of its sectors
-  pub directory-same : ((m : ℕ) → 358 ≤ m → m ≤ 375 → linkAt d′ (256 * m) ≡ linkAt d (256 * m)) → directory d′ ≡ directory d
-  unfolding directory
-  directory-same h =
-      chain-same true 18 d d′ 358
-      (λ m i. let e : (leb 358 m && leb m 375) ≡ true = chain-held true 18 d 358 m i in
+  pub directory-same : length d′ ≡ length d → ((m : ℕ) → 358 ≤ m → m ≤ 375 → linkAt d′ (256 * m) ≡ linkAt d (256 * m)) → directory d′ ≡ directory d
+  unfolding directory chain
+  directory-same l h =
+      ap (λ (k : ℕ). chainWithin true k d′ 358) l
+      ∙ chain-same true (length d) d d′ 358
+      (λ m i. let e : (leb 358 m && leb m 375) ≡ true = chain-held true (length d) d 358 m i in
       h m (leb-true 358 m (and-left (leb 358 m) (leb m 375) e)) (leb-true m 375 (and-right (leb 358 m) (leb m 375) e)))
 
-  by-same : (l : Link) → ((m : ℕ) → isIn (chainBy d 683 l .sectors) m ≡ true → linkAt d′ (256 * m) ≡ linkAt d (256 * m)) → chainBy d′ 683 l ≡ chainBy d 683 l
-  by-same (Last b) h = refl
-  by-same (To n) h = chain-same false 683 d d′ n h
-  by-same Astray h = refl
+  by-same : length d′ ≡ length d → (l : Link) → ((m : ℕ) → isIn (chainBy d l .sectors) m ≡ true → linkAt d′ (256 * m) ≡ linkAt d (256 * m)) → chainBy d′ l ≡ chainBy d l
+  unfolding chain
+  by-same l (Last b) h = refl
+  by-same l (To n) h = ap (λ (k : ℕ). chainWithin false k d′ n) l ∙ chain-same false (length d) d d′ n h
+  by-same l Astray h = refl
 
   -- an entry, by its bytes and the links of its sectors
   pub entry-same : (q : ℕ) → length d′ ≡ length d → ((i : ℕ) → i < 30 → getD d′ (q + i) 0 ≡ getD d (q + i) 0)
-      → ((m : ℕ) → isIn (chainOf 683 d q .sectors) m ≡ true → linkAt d′ (256 * m) ≡ linkAt d (256 * m)) → Same d d′ q
+      → ((m : ℕ) → isIn (chainOf d q .sectors) m ≡ true → linkAt d′ (256 * m) ≡ linkAt d (256 * m)) → Same d d′ q
   unfolding nameAt
   entry-same q l h g =
       let z : q + 0 ≡ q = omega arith in
@@ -125,7 +108,7 @@ module _ (d d′ : List ℕ) where
       record {
         type = rw z at (h 0 (omega arith));
         name = ap beforeA0 (part-same d d′ l (q + 3) 16 (λ i k. let y : q + 3 + i ≡ q + (3 + i) = omega arith in rw y (h (3 + i) (omega arith))));
-        chain = ap (λ (x : Link). chainBy d′ 683 x) (link-same (q + 1) (h 1 (omega arith)) (rw two (h 2 (omega arith)))) ∙ by-same (linkAt d (q + 1)) g;
+        chain = ap (chainBy d′) (link-same (q + 1) (h 1 (omega arith)) (rw two (h 2 (omega arith)))) ∙ by-same l (linkAt d (q + 1)) g;
       }
 
   -- the map, by its bytes

@@ -15,8 +15,8 @@ use Rattle.disk_rules.specs.Chains.{Chain}
 use Rattle.disk_rules.specs.Entries.{listed, isNamed, nameAt, sameName, chainOf}
 use Rattle.disk_rules.specs.Check.{files, sound}
 use Rattle.disk_rules.specs.Calls.{isFileName, ofFile, entriesNamed, taken, sectorsFor, chainBytes, fileBytes, saved, scratched, ontoDisk}
-use Rattle.disk_laws.proofs.Counting.{and-left, and-right, or-right}
-use Rattle.disk_laws.proofs.Kept.{never, in-those, in-those-list, kept-by-calls}
+use Rattle.disk_rules.proofs.Counting.{and-left, and-right, or-right, never, in-those-list}
+use Rattle.disk_laws.proofs.Kept.{in-those, kept-by-calls}
 use Rattle.disk_laws.proofs.Saved.{Tested, was-tested, passes, taken-long, all-lie, saved-bytes}
 use Rattle.disk_laws.proofs.Without.{Without, here, there, Same, AllSame, some-same}
 use Rattle.disk_laws.proofs.Added.{in-own, same, chain-new, name-new}
@@ -26,7 +26,7 @@ use Rattle.disk_laws.proofs.Scratched.{left, left-is, fewer, same as sa
 use Rattle.disk_rules.specs.Free.{markedAll}
 use Rattle.disk_laws.proofs.Laid.{LieAll, lies-bytes}
 use Rattle.disk_laws.proofs.Elsewhere.{Within}
-use Rattle.disk_laws.proofs.Totals.{by-held}
+use Rattle.disk_rules.proofs.Counted.{by-held}
 use Rattle.disk_rules.specs.Places.{offTrack18}
 use Rattle.disk_rules.specs.Links.{linkAt}
 use Rattle.disk_laws.specs.Runs.{Call, Format, Check, Read, Save, Scratch, isFormat, afterCall, afterCalls, spares, allSpare}
@@ -87,12 +87,12 @@ same-true (x ∷ a) (y ∷ b) e =
 -- ---- at once
 
 -- what is read where the check holds and the name has one entry
-read-one : (d name : List ℕ) (p : ℕ) → sound d ≡ true → isFileName name ≡ true → entriesNamed d name ≡ p ∷ [] → fileBytes d name ≡ done (chainBytes d (chainOf 683 d p .sectors))
+read-one : (d name : List ℕ) (p : ℕ) → sound d ≡ true → isFileName name ≡ true → entriesNamed d name ≡ p ∷ [] → fileBytes d name ≡ done (chainBytes d (chainOf d p .sectors))
 unfolding fileBytes
 read-one d name p s f e =
-    ap (λ (q : Bool). cond q (cond (isFileName name) (ofFile (entriesNamed d name) (λ p. done (chainBytes d (chainOf 683 d p .sectors)))) (refused badName)) (refused badDisk)) s
-    ∙ ap (λ (q : Bool). cond q (ofFile (entriesNamed d name) (λ p. done (chainBytes d (chainOf 683 d p .sectors)))) (refused badName)) f
-    ∙ ap (λ (l : List ℕ). ofFile l (λ p. done (chainBytes d (chainOf 683 d p .sectors)))) e
+    ap (λ (q : Bool). cond q (cond (isFileName name) (ofFile (entriesNamed d name) (λ p. done (chainBytes d (chainOf d p .sectors)))) (refused badName)) (refused badDisk)) s
+    ∙ ap (λ (q : Bool). cond q (ofFile (entriesNamed d name) (λ p. done (chainBytes d (chainOf d p .sectors)))) (refused badName)) f
+    ∙ ap (λ (l : List ℕ). ofFile l (λ p. done (chainBytes d (chainOf d p .sectors)))) e
 
 module _ (d name image made : List ℕ) (e : saved d name image ≡ done made) where
   a : AddedAt d name image made
@@ -123,7 +123,7 @@ pub record InPlace (d name image : List ℕ) : Type 0 where
   pub is-sound : sound d ≡ true
   pub is-name : isFileName name ≡ true
   pub named : entriesNamed d name ≡ at ∷ []
-  pub chain : chainOf 683 d at ≡ record { sectors = sectors; ends = true }
+  pub chain : chainOf d at ≡ record { sectors = sectors; ends = true }
   pub long : length sectors ≡ sectorsFor image
   pub lies : LieAll d sectors image
 
@@ -147,7 +147,7 @@ module _ (d name image : List ℕ) (x : InPlace d name image) where
       ∙ ap done (bytes-of d image (x .sectors) (parts d (x .is-sound) .size) (x .long) below (x .lies)) where
         below : (m : ℕ) → isIn (x .sectors) m ≡ true → m < 683
         below m i =
-            ltb-true m 683 (and-left (ltb m 683) (offTrack18 m) (by-held d 683 (linkAt d (x .at + 1)) m (ap (λ (c : Chain). isIn (c .sectors) m) (x .chain) ∙ i)))
+            ltb-true m 683 (and-left (ltb m 683) (offTrack18 m) (by-held d (linkAt d (x .at + 1)) m (ap (λ (c : Chain). isIn (c .sectors) m) (x .chain) ∙ i)))
 
   in-named : isIn (entriesNamed d name) (x .at) ≡ true
   unfolding some
@@ -192,18 +192,18 @@ module _ (d name image : List ℕ) (x : InPlace d name image) where
 
   -- behind a scratch of another name
   first-gone : (other l out : List ℕ) → scratched d other ≡ done out → sameName other name ≡ false → ((q : ℕ) → isIn l q ≡ true → isIn (entriesNamed d other) q ≡ true)
-      → ofFile l (λ p. done (markedAll (set d p 0) (chainOf 683 d p .sectors) true)) ≡ done out → InPlace out name image
+      → ofFile l (λ p. done (markedAll (set d p 0) (chainOf d p .sectors) true)) ≡ done out → InPlace out name image
   unfolding some
   first-gone other [] out e n h f = absurd (let z : _≡_ {A = ℕ} 0 1 = cc in omega arith)
   first-gone other (p ∷ l) out e n h f =
-      let z : markedAll (set d p 0) (chainOf 683 d p .sectors) true ≡ out = cc in
+      let z : markedAll (set d p 0) (chainOf d p .sectors) true ≡ out = cc in
       let i : isIn (entriesNamed d other) p ≡ true = h p (rw (eq-eqb p p refl)) in
       let u : isIn (listed d) p ≡ true = in-those-list (isNamed d other) (listed d) p i in
       let y : Parts d = parts d (x .is-sound) in
       let off : isNamed d name p ≡ false = ap (λ (k : List ℕ). sameName k name) (same-true (nameAt d p) other (in-those (isNamed d other) (listed d) p i)) ∙ n in
       let k : those (isNamed d name) (listed d) ≡ those (isNamed d name) (left d p y u) = those-skip (isNamed d name) (fewer d p y u) off in
       let v : isIn (left d p y u) (x .at) ≡ true = in-those-list (isNamed d name) (left d p y u) (x .at) (ap (λ (m : List ℕ). isIn m (x .at)) (sym k) ∙ in-named) in
-      let gone : List ℕ = markedAll (set d p 0) (chainOf 683 d p .sectors) true in
+      let gone : List ℕ = markedAll (set d p 0) (chainOf d p .sectors) true in
       subst (λ (m : List ℕ). InPlace m name image) z
       (stays (Scratch other) gone (ap (λ (a : Answer (List ℕ)). ontoDisk a d .disk) e ∙ sym z) refl
       (ap (those (isNamed gone name)) (left-is d p y u) ∙ those-named d gone name (left d p y u) (same-left d p y u) ∙ sym k) (same-left d p y u (x .at) v))
@@ -212,7 +212,7 @@ module _ (d name image : List ℕ) (x : InPlace d name image) where
   unfolding scratched
   behind-scratch other n (refused k) e = x
   behind-scratch other n (done out) e =
-      let all : Answer (List ℕ) = ofFile (entriesNamed d other) (λ p. done (markedAll (set d p 0) (chainOf 683 d p .sectors) true)) in
+      let all : Answer (List ℕ) = ofFile (entriesNamed d other) (λ p. done (markedAll (set d p 0) (chainOf d p .sectors) true)) in
       let a : (sound d ≡ true) × (cond (isFileName other) all (refused badName) ≡ done out) = passes (sound d) badDisk (cond (isFileName other) all (refused badName)) out e in
       let b : (isFileName other ≡ true) × (all ≡ done out) = passes (isFileName other) badName all out (a .1) in
       first-gone other (entriesNamed d other) out e n (λ q i. i) (b .1)

@@ -15,9 +15,8 @@ use Rattle.disk_rules.specs.Entries.{directory, entriesOf, entryAt, isListed, e
 use Rattle.disk_rules.specs.Free.{freeSectors}
 use Rattle.disk_rules.specs.Check.{sound}
 use Rattle.disk_rules.specs.Calls.{isFileName, onSound, sectorsFor, taken, outside, withEntry, withFile, saved}
-use Rattle.disk_check.proofs.Looking.{numbers-long}
 use Rattle.disk_saves.specs.SaveHelpers.{savedNew}
-use Rattle.disk_laws.proofs.Counting.{count, count-not, stand-few}
+use Rattle.disk_rules.proofs.Counting.{count, count-not, stand-few, numbers-long}
 
 -- an answer is no refusal
 pub record IsDone (a : Answer (List ℕ)) : Type 0 where

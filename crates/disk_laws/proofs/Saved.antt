@@ -23,11 +23,11 @@ use Rattle.disk_rules.specs.Calls.{isFileName, sectorsFor, taken, sectorBytes, 
 use Rattle.disk_chains.proofs.Marking.{marked-long, marked-all-long}
 use Rattle.disk_saves.specs.SaveHelpers.{savedNew}
 use Rattle.disk_saves.proofs.Choosing.{free-few}
-use Rattle.disk_laws.proofs.Counting.{and-left, and-right}
+use Rattle.disk_rules.proofs.Counting.{and-left, and-right, never, in-those-list}
 use Rattle.disk_laws.proofs.Totals.{holds}
 use Rattle.disk_laws.proofs.Elsewhere.{Within}
 use Rattle.disk_laws.proofs.Room.{tested}
-use Rattle.disk_laws.proofs.Kept.{never, in-those-list, in-take, taken-free, taken-below, sector-off, file-18}
+use Rattle.disk_laws.proofs.Kept.{in-take, taken-free, taken-below, sector-off, file-18}
 use Rattle.disk_laws.proofs.Laid.{LieAll, laid-lies, lies-chain, lies-bytes}
 
 -- ---- the sectors that a save takes stand in it once
@@ -158,28 +158,29 @@ module _ (d name image made : List ℕ) (e : saved d name image ≡ done made) w
   made-byte : (n j : ℕ) → isIn (taken d image) n ≡ true → Within n j → getD made j 0 ≡ getD (laid d (taken d image) image) j 0
   made-byte n j i w =
       sym (ap (λ (a : Answer (List ℕ)). getD (ontoDisk a (laid d (taken d image) image) .disk) j 0) (t .file))
-      ∙ file-18 d name image (t .is-name) j (sector-off n j w (and-right (ltb n 683) (offTrack18 n) (taken-held d image n i))) (laid d (taken d image) image) refl
+      ∙ file-18 d name image size (t .is-name) j (sector-off n j w (and-right (ltb n 683) (offTrack18 n) (taken-held d image n i))) (laid d (taken d image) image) refl
 
   pub all-lie : LieAll made (taken d image) image
   all-lie = laid-lies d (taken d image) image made size (taken-below d image) (taken-once d image) made-byte
 
   -- of the sectors that were taken
   of-taken : (l : List ℕ) → length l ≡ sectorsFor image → length l ≤ 683 → ((m : ℕ) → isIn l m ≡ true → mayHold false m ≡ true) → LieAll made l image
-      → (chain false 683 made (getD l 0 0) ≡ record { sectors = l; ends = true }) × (chainBytes made l ≡ image)
+      → (chain false made (getD l 0 0) ≡ record { sectors = l; ends = true }) × (chainBytes made l ≡ image)
+  unfolding chain
   of-taken [] a b h y = absurd (omega arith)
   of-taken (n ∷ ns) a b h y = (
-    lies-chain made 683 n ns image h (omega arith) y,
+    lies-chain made (length made) n ns image h (omega (arith, made-long)) y,
     lies-bytes made n ns image made-long (λ m i. ltb-true m 683 (and-left (ltb m 683) (offTrack18 m) (h m i))) (omega arith) (omega arith) y,
   )
 
   pub taken-long : length (taken d image) ≡ sectorsFor image
   taken-long = length-take-le (sectorsFor image) (freeSectors d) (t .room)
 
-  read-back : (chain false 683 made (getD (taken d image) 0 0) ≡ record { sectors = taken d image; ends = true }) × (chainBytes made (taken d image) ≡ image)
+  read-back : (chain false made (getD (taken d image) 0 0) ≡ record { sectors = taken d image; ends = true }) × (chainBytes made (taken d image) ≡ image)
   read-back = of-taken (taken d image) taken-long (omega (arith, taken-long, t .room, free-few d)) (taken-held d image) all-lie
 
   -- the chain from the first sector taken is the sectors taken
-  pub saved-chain : chain false 683 made (getD (taken d image) 0 0) ≡ record { sectors = taken d image; ends = true }
+  pub saved-chain : chain false made (getD (taken d image) 0 0) ≡ record { sectors = taken d image; ends = true }
   saved-chain = read-back .0
 
   -- and their bytes are the image

@@ -21,12 +21,12 @@ use Rattle.disk_rules.specs.Entries.{directory, entryAt, entriesOf, isThat, ent
 use Rattle.disk_rules.specs.Check.{sound}
 use Rattle.disk_rules.specs.Calls.{isFileName, ofFile, entriesNamed, scratched}
 use Rattle.disk_chains.proofs.Marking.{marked-all-long}
-use Rattle.disk_laws.proofs.Counting.{and-left, and-right}
-use Rattle.disk_laws.proofs.Totals.{by-held}
+use Rattle.disk_rules.proofs.Counting.{and-left, and-right, never, in-those-list}
+use Rattle.disk_rules.proofs.Counted.{by-held}
 use Rattle.disk_laws.proofs.Elsewhere.{Off, before, behind, set-off, marked-all-off}
-use Rattle.disk_laws.proofs.Kept.{never, in-those, in-those-list}
+use Rattle.disk_laws.proofs.Kept.{in-those}
 use Rattle.disk_laws.proofs.Saved.{passes}
-use Rattle.disk_laws.proofs.Fuel.{allSectors, AllEnd}
+use Rattle.disk_laws.proofs.Chained.{allSectors, AllEnd}
 use Rattle.disk_laws.proofs.Without.{Without, Apart, in-all, all-end, all-apart, good-less, AllSame, good-same, sectors-same, ends-same, put-in}
 use Rattle.disk_laws.proofs.Mapped.{agrees-again}
 use Rattle.disk_laws.proofs.Parts.{Parts, parts, parts-sound, link-same, directory-same, entry-same, map-same, FromRun, that-from, EntryPlace, entry-place, entries-apart}
@@ -44,10 +44,10 @@ entry-bytes p q i a b z h e = z (omega (arith, a .is, b .is, a .eight, b .eight)
 
 module _ (d : List ℕ) (p : ℕ) (x : Parts d) (listed-p : isIn (listed d) p ≡ true) where
   abbrev own : List ℕ
-  own = chainOf 683 d p .sectors
+  own = chainOf d p .sectors
 
   abbrev pub made : List ℕ
-  made = markedAll (set d p 0) (chainOf 683 d p .sectors) true
+  made = markedAll (set d p 0) (chainOf d p .sectors) true
 
   abbrev dir : List ℕ
   dir = directory d .sectors
@@ -58,18 +58,18 @@ module _ (d : List ℕ) (p : ℕ) (x : Parts d) (listed-p : isIn (listed d) p �
   place : EntryPlace p
   place = subst EntryPlace (sym (run .is)) (entry-place d (run .at) (omega (arith, run .high)))
 
-  own-held : (m : ℕ) → isIn (chainOf 683 d p .sectors) m ≡ true → m < 683
-  own-held m i = ltb-true m 683 (and-left (ltb m 683) (offTrack18 m) (by-held d 683 (linkAt d (p + 1)) m i))
+  own-held : (m : ℕ) → isIn (chainOf d p .sectors) m ≡ true → m < 683
+  own-held m i = ltb-true m 683 (and-left (ltb m 683) (offTrack18 m) (by-held d (linkAt d (p + 1)) m i))
 
   long : length made ≡ length d
-  long = marked-all-long (set d p 0) (chainOf 683 d p .sectors) true ∙ length-set d p 0
+  long = marked-all-long (set d p 0) (chainOf d p .sectors) true ∙ length-set d p 0
 
   byte : (j : ℕ) → Off 91396 91536 j → (j ≡ p → ⊥) → getD made j 0 ≡ getD d j 0
-  byte j o z = marked-all-off (set d p 0) (chainOf 683 d p .sectors) true j own-held o ∙ set-off d p 0 j (off-one p j z)
+  byte j o z = marked-all-off (set d p 0) (chainOf d p .sectors) true j own-held o ∙ set-off d p 0 j (off-one p j z)
 
   cleared : getD made p 0 ≡ 0
   cleared =
-      marked-all-off (set d p 0) (chainOf 683 d p .sectors) true p own-held (behind (omega (arith, place .is, place .low)))
+      marked-all-off (set d p 0) (chainOf d p .sectors) true p own-held (behind (omega (arith, place .is, place .low)))
       ∙ getD-set-same d p 0 0 (omega (arith, place .is, place .high, place .eight, x .size))
 
   link-18 : (m : ℕ) → 358 ≤ m → m ≤ 375 → linkAt made (256 * m) ≡ linkAt d (256 * m)
@@ -79,7 +79,7 @@ module _ (d : List ℕ) (p : ℕ) (x : Parts d) (listed-p : isIn (listed d) p �
       (byte (256 * m + 1) (behind (omega arith)) (λ e. omega (arith, place .is, place .eight)))
 
   dir-same : directory made ≡ directory d
-  dir-same = directory-same d made link-18
+  dir-same = directory-same d made long link-18
 
   still : (q : ℕ) → EntryPlace q → (q ≡ p → ⊥) → (i : ℕ) → i < 30 → getD made (q + i) 0 ≡ getD d (q + i) 0
   still q a z i h = byte (q + i) (behind (omega (arith, a .is, a .low))) (entry-bytes p q i place a z h)
@@ -139,16 +139,16 @@ module _ (d : List ℕ) (p : ℕ) (x : Parts d) (listed-p : isIn (listed d) p �
         (byte (256 * m + 1) (behind (omega arith)) (λ e. omega (arith, place .is, place .high, place .eight)))
 
   pub same : AllSame d made left
-  same q i = entry-same d made q long (λ j h. still q (left-from q i) (left-not q i) j h) (λ m k. off-link m (by-held d 683 (linkAt d (q + 1)) m k))
+  same q i = entry-same d made q long (λ j h. still q (left-from q i) (left-not q i) j h) (λ m k. off-link m (by-held d (linkAt d (q + 1)) m k))
 
-  apart-two : Apart (chainOf 683 d p .sectors) (allSectors d left)
+  apart-two : Apart (chainOf d p .sectors) (allSectors d left)
   apart-two = all-apart d p fewer (x .apart)
 
   agreed : mapAgrees made (isIn (allSectors d left)) ≡ true
   agreed =
-      agrees-again (set d p 0) made (chainOf 683 d p .sectors) true (isIn (allSectors d (listed d))) (isIn (allSectors d left))
+      agrees-again (set d p 0) made (chainOf d p .sectors) true (isIn (allSectors d (listed d))) (isIn (allSectors d left))
       (length-set d p 0 ∙ x .size) own-held (λ t s a b c z. refl)
-      (λ n. by (isIn (chainOf 683 d p .sectors) n) (isIn (allSectors d left) n) (isIn (allSectors d (listed d)) n) (in-all d p fewer n) (apart-two .none n))
+      (λ n. by (isIn (chainOf d p .sectors) n) (isIn (allSectors d left) n) (isIn (allSectors d (listed d)) n) (in-all d p fewer n) (apart-two .none n))
       (map-same d (set d p 0) (isIn (allSectors d (listed d))) (x .size) (λ j a b. set-off d p 0 j (before (omega (arith, place .is, place .low)))) (x .agrees)) where
         by : (a b c : Bool) → c ≡ (a || b) → (a ≡ true → b ≡ false) → b ≡ cond a false c
         by true b c e f = f refl
@@ -170,18 +170,18 @@ module _ (d : List ℕ) (p : ℕ) (x : Parts d) (listed-p : isIn (listed d) p �
 -- ---- the call
 
 first-of : (d : List ℕ) (l out : List ℕ) → Parts d → ((q : ℕ) → isIn l q ≡ true → isIn (listed d) q ≡ true)
-    → ofFile l (λ p. done (markedAll (set d p 0) (chainOf 683 d p .sectors) true)) ≡ done out → Parts out
+    → ofFile l (λ p. done (markedAll (set d p 0) (chainOf d p .sectors) true)) ≡ done out → Parts out
 unfolding some
 first-of d [] out x h e = absurd (let z : _≡_ {A = ℕ} 0 1 = cc in omega arith)
 first-of d (p ∷ l) out x h e =
-    let z : markedAll (set d p 0) (chainOf 683 d p .sectors) true ≡ out = cc in
+    let z : markedAll (set d p 0) (chainOf d p .sectors) true ≡ out = cc in
     subst Parts z (scratch-parts d p x (h p (rw (eq-eqb p p refl))))
 
 -- a scratch that is done leaves a disk on which the check holds
 pub scratched-sound : (d name out : List ℕ) → scratched d name ≡ done out → sound out ≡ true
 unfolding scratched
 scratched-sound d name out e =
-    let all : Answer (List ℕ) = ofFile (entriesNamed d name) (λ p. done (markedAll (set d p 0) (chainOf 683 d p .sectors) true)) in
+    let all : Answer (List ℕ) = ofFile (entriesNamed d name) (λ p. done (markedAll (set d p 0) (chainOf d p .sectors) true)) in
     let a : (sound d ≡ true) × (cond (isFileName name) all (refused badName) ≡ done out) = passes (sound d) badDisk (cond (isFileName name) all (refused badName)) out e in
     let b : (isFileName name ≡ true) × (all ≡ done out) = passes (isFileName name) badName all out (a .1) in
     parts-sound out (first-of d (entriesNamed d name) out (parts d (a .0)) (λ q i. in-those-list (isNamed d name) (listed d) q i) (b .1))

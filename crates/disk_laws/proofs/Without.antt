@@ -12,9 +12,8 @@ use borrow.Author.Tests.{eqb-true, eqb-false, eq-eqb, ne-eqb, not-true}
 use Rattle.disk_rules.specs.Lists.{numbersFrom, those, some, isIn, noneTwice}
 use Rattle.disk_rules.specs.Chains.{Chain}
 use Rattle.disk_rules.specs.Entries.{isNamed, nameAt, sameName, entriesGood, chainOf}
-use Rattle.disk_laws.proofs.Counting.{and-left, and-right, or-right, in-append}
-use Rattle.disk_laws.proofs.Kept.{never}
-use Rattle.disk_laws.proofs.Fuel.{allSectors, AllEnd}
+use Rattle.disk_rules.proofs.Counting.{and-left, and-right, or-right, in-append, never}
+use Rattle.disk_laws.proofs.Chained.{allSectors, AllEnd}
 
 -- the first list is the second with one number put in
 pub data Without (p : ℕ) : List ℕ → List ℕ → Type 0 where
@@ -76,32 +75,32 @@ swap false b c = refl
 
 module _ (d : List ℕ) (p : ℕ) where
   abbrev own : List ℕ
-  own = chainOf 683 d p .sectors
+  own = chainOf d p .sectors
 
-  pub in-all : {m l : List ℕ} → Without p m l → (n : ℕ) → isIn (allSectors d m) n ≡ (isIn (chainOf 683 d p .sectors) n || isIn (allSectors d l) n)
+  pub in-all : {m l : List ℕ} → Without p m l → (n : ℕ) → isIn (allSectors d m) n ≡ (isIn (chainOf d p .sectors) n || isIn (allSectors d l) n)
   unfolding allSectors
   in-all (here l) n = in-append own (allSectors d l) n
   in-all (there q m l w) n =
-      in-append (chainOf 683 d q .sectors) (allSectors d m) n
-      ∙ ap (λ (x : Bool). isIn (chainOf 683 d q .sectors) n || x) (in-all w n)
-      ∙ swap (isIn (chainOf 683 d q .sectors) n) (isIn own n) (isIn (allSectors d l) n)
-      ∙ ap (λ (x : Bool). isIn own n || x) (sym (in-append (chainOf 683 d q .sectors) (allSectors d l) n))
+      in-append (chainOf d q .sectors) (allSectors d m) n
+      ∙ ap (λ (x : Bool). isIn (chainOf d q .sectors) n || x) (in-all w n)
+      ∙ swap (isIn (chainOf d q .sectors) n) (isIn own n) (isIn (allSectors d l) n)
+      ∙ ap (λ (x : Bool). isIn own n || x) (sym (in-append (chainOf d q .sectors) (allSectors d l) n))
 
-  pub all-end : {m l : List ℕ} → Without p m l → AllEnd d m → (chainOf 683 d p .ends ≡ true) × AllEnd d l
+  pub all-end : {m l : List ℕ} → Without p m l → AllEnd d m → (chainOf d p .ends ≡ true) × AllEnd d l
   unfolding AllEnd
   all-end (here l) e = e
-  all-end (there q m l w) e = let r : (chainOf 683 d p .ends ≡ true) × AllEnd d l = all-end w (e .1) in (r .0, (e .0, r .1))
+  all-end (there q m l w) e = let r : (chainOf d p .ends ≡ true) × AllEnd d l = all-end w (e .1) in (r .0, (e .0, r .1))
 
-  pub end-all : {m l : List ℕ} → Without p m l → chainOf 683 d p .ends ≡ true → AllEnd d l → AllEnd d m
+  pub end-all : {m l : List ℕ} → Without p m l → chainOf d p .ends ≡ true → AllEnd d l → AllEnd d m
   unfolding AllEnd
   end-all (here l) f e = (f, e)
   end-all (there q m l w) f e = (e .0, end-all w f (e .1))
 
-  pub all-apart : {m l : List ℕ} → Without p m l → noneTwice (allSectors d m) ≡ true → Apart (chainOf 683 d p .sectors) (allSectors d l)
+  pub all-apart : {m l : List ℕ} → Without p m l → noneTwice (allSectors d m) ≡ true → Apart (chainOf d p .sectors) (allSectors d l)
   unfolding allSectors
   all-apart (here l) e = apart-lists own (allSectors d l) e
   all-apart (there q m l w) e =
-      let other : List ℕ = chainOf 683 d q .sectors in
+      let other : List ℕ = chainOf d q .sectors in
       let a : Apart other (allSectors d m) = apart-lists other (allSectors d m) e in
       let r : Apart own (allSectors d l) = all-apart w (a .right) in
       let o : (n : ℕ) → isIn other n ≡ true → (isIn own n ≡ false) × (isIn (allSectors d l) n ≡ false) =
@@ -116,11 +115,11 @@ module _ (d : List ℕ) (p : ℕ) where
         not-in true b e f = never (sym (f refl) ∙ e)
         not-in false b e f = refl
 
-  pub apart-all : {m l : List ℕ} → Without p m l → Apart (chainOf 683 d p .sectors) (allSectors d l) → noneTwice (allSectors d m) ≡ true
+  pub apart-all : {m l : List ℕ} → Without p m l → Apart (chainOf d p .sectors) (allSectors d l) → noneTwice (allSectors d m) ≡ true
   unfolding allSectors
   apart-all (here l) a = lists-apart own (allSectors d l) a
   apart-all (there q m l w) a =
-      let other : List ℕ = chainOf 683 d q .sectors in
+      let other : List ℕ = chainOf d q .sectors in
       let b : Apart other (allSectors d l) = apart-lists other (allSectors d l) (a .right) in
       let o : (n : ℕ) → isIn own n ≡ true → (isIn other n ≡ false) × (isIn (allSectors d l) n ≡ false) =
       λ n h. or-false (isIn other n) (isIn (allSectors d l) n) (sym (in-append other (allSectors d l) n) ∙ a .none n h)
@@ -198,7 +197,7 @@ module _ (d : List ℕ) (p : ℕ) where
 pub record Same (d d′ : List ℕ) (q : ℕ) : Type 0 where
   pub type : getD d′ q 0 ≡ getD d q 0
   pub name : nameAt d′ q ≡ nameAt d q
-  pub chain : chainOf 683 d′ q ≡ chainOf 683 d q
+  pub chain : chainOf d′ q ≡ chainOf d q
 
 abbrev pub AllSame : List ℕ → List ℕ → List ℕ → Type 0
 AllSame d d′ l = (q : ℕ) → isIn l q ≡ true → Same d d′ q
@@ -235,7 +234,7 @@ module _ (d d′ : List ℕ) where
   unfolding allSectors
   sectors-same [] h = refl
   sectors-same (p ∷ l) h =
-      ap (λ (c : Chain). c .sectors ++ allSectors d′ l) (first-same p l h .chain) ∙ ap (λ (x : List ℕ). chainOf 683 d p .sectors ++ x) (sectors-same l (behind-first p l h))
+      ap (λ (c : Chain). c .sectors ++ allSectors d′ l) (first-same p l h .chain) ∙ ap (λ (x : List ℕ). chainOf d p .sectors ++ x) (sectors-same l (behind-first p l h))
 
   pub ends-same : (l : List ℕ) → AllSame d d′ l → AllEnd d l → AllEnd d′ l
   unfolding AllEnd

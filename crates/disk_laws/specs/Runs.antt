@@ -1,9 +1,13 @@
--- A call over a disk, and the disk behind it (docs/RULES.md, "Disks").
+-- A call over a disk, and the disk behind it (docs/RULES.md, "Disks"); and what is kept over any calls.
 -- Assumes nothing.
-use Prim.Native.Nat.{ℕ}
+use Prim.Native.Nat.{ℕ, _+_}
+use mathlib.Core.Path.{_≡_}
 use mathlib.Core.Bool.{Bool, true, false, not, _&&_}
 use mathlib.Core.List.{List, [], _∷_}
+use lib.ListN.{length}
 use Rattle.disk_rules.specs.Entries.{sameName}
+use Rattle.disk_rules.specs.Free.{freeSectors}
+use Rattle.disk_rules.specs.Check.{files}
 use Rattle.disk_rules.specs.Calls.{formatted, saved, scratched, ontoDisk}
 
 -- a call, with the name and the image that it is given
@@ -33,6 +37,10 @@ afterCall disk (Scratch name) = ontoDisk (scratched disk name) disk .disk
 unfoldable pub afterCalls : List ℕ → List Call → List ℕ
 afterCalls disk [] = disk
 afterCalls disk (c ∷ cs) = afterCalls (afterCall disk c) cs
+
+-- "sectors outside track 18 that the map calls free plus sectors in the chains of listed files plus the 19 of track 18 make 683"
+abbrev pub AccountedFor : List ℕ → Type 0
+AccountedFor disk = length (freeSectors disk) + length (files disk .sectors) + 19 ≡ 683
 
 -- a call that neither formats nor scratches the file of a name
 abbrev pub spares : List ℕ → Call → Bool

@@ -1,1 +1,4 @@
+pub mod Counted
+pub mod Counting
+pub mod Ends
 pub mod Tight

@@ -64,7 +64,7 @@ chainBytes disk (n ∷ ns) = payload disk n ++ chainBytes disk ns
 -- the bytes of a file; into a lent buffer they go by `intoBuffer`, with 6
 unfoldable pub fileBytes : List ℕ → List ℕ → Answer (List ℕ)
 unfolding sound chainBytes those
-fileBytes disk name = onSound disk name (ofFile (entriesNamed disk name) (λ p. done (chainBytes disk (chainOf 683 disk p .sectors))))
+fileBytes disk name = onSound disk name (ofFile (entriesNamed disk name) (λ p. done (chainBytes disk (chainOf disk p .sectors))))
 
 -- ---- scratch
 
@@ -72,7 +72,7 @@ fileBytes disk name = onSound disk name (ofFile (entriesNamed disk name) (λ p. 
 unfoldable pub scratched : List ℕ → List ℕ → Answer (List ℕ)
 unfolding sound markedAll those
 scratched disk name =
-    onSound disk name (ofFile (entriesNamed disk name) (λ p. done (markedAll (set disk p 0) (chainOf 683 disk p .sectors) true)))
+    onSound disk name (ofFile (entriesNamed disk name) (λ p. done (markedAll (set disk p 0) (chainOf disk p .sectors) true)))
 
 -- ---- save
 

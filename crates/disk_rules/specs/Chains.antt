@@ -1,10 +1,12 @@
 -- Chains of sectors (docs/RULES.md, "Disks", "The check"). The directory's chain "stays on 18/1 to 18/18 until a link with track 00, whatever its second
 -- byte"; a file's "stays on existing sectors off track 18 until a link with track 00 whose second byte is not 00".
 -- Assumes nothing.
-use Prim.Native.Nat.{ℕ, zero, suc, _*_}
+use Prim.Native.Nat.{ℕ, _*_}
 use mathlib.Core.Bool.{Bool, true, false, cond, not, _&&_}
 use mathlib.Core.List.{List, [], _∷_}
 use lib.Dec.{leb, ltb, eqb}
+use lib.ListN.{length}
+use Rattle.base_steps.specs.Again.{again}
 use Rattle.disk_rules.specs.Places.{offTrack18}
 use Rattle.disk_rules.specs.Links.{linkAt}
 use Rattle.disk_rules.specs.declared.Link.{Link}
@@ -34,7 +36,11 @@ chainOnward dir n f (Last b) = record { sectors = n ∷ []; ends = mayEnd dir b 
 chainOnward dir n f (To m) = record { sectors = n ∷ f m .sectors; ends = f m .ends }
 chainOnward dir n f Astray = record { sectors = n ∷ []; ends = false }
 
--- the chain from n on, of at most so many sectors: one that goes on behind them does not end as it should
-unfoldable pub chain : Bool → ℕ → List ℕ → ℕ → Chain
-chain dir zero disk n = brokenChain
-chain dir (suc k) disk n = cond (mayHold dir n) (chainOnward dir n (chain dir k disk) (linkAt disk (256 * n))) brokenChain
+abbrev pub chainOn : Bool → List ℕ → (ℕ → Chain) → ℕ → Chain
+chainOn dir disk f n = cond (mayHold dir n) (chainOnward dir n f (linkAt disk (256 * n))) brokenChain
+
+-- the chain from n on. One that comes back to a sector goes on for ever, and does not end; so a step for each byte of the disk is more than any chain
+-- that ends takes, and which number it is does not matter (`chain-any`, proofs/Ends.antt)
+unfoldable pub chain : Bool → List ℕ → ℕ → Chain
+unfolding again
+chain dir disk n = again brokenChain (chainOn dir disk) (length disk) n

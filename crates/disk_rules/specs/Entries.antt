@@ -2,7 +2,7 @@
 -- sector, name of 16 .. Listed: type not 00, wherever it stands in the chain. An entry's name: its 16 bytes up to the first A0"). An entry
 -- is known by the offset of its type.
 -- Assumes nothing.
-use Prim.Native.Nat.{ℕ, _+_, _-_, _*_, _/_, _%_}
+use Prim.Native.Nat.{ℕ, _+_, _*_, _/_, _%_}
 use mathlib.Core.Bool.{Bool, true, false, cond, not, _&&_}
 use mathlib.Core.List.{List, [], _∷_, _++_, map}
 use lib.Dec.{eqb}
@@ -16,7 +16,7 @@ use Rattle.disk_rules.specs.Chains.{Chain, chain, brokenChain}
 -- the directory's chain, from 18/1, which is sector 358
 unfoldable pub directory : List ℕ → Chain
 unfolding chain
-directory disk = chain true 18 disk 358
+directory disk = chain true disk 358
 
 -- the e-th entry of a directory's sectors, from 0
 abbrev pub entryAt : List ℕ → ℕ → ℕ
@@ -68,21 +68,18 @@ entriesGood disk (p ∷ ps) = eqb (getD disk p 0) 0x82 && not (some (isNamed dis
 
 -- ---- the chains of files
 
-abbrev pub chainBy : List ℕ → ℕ → Link → Chain
-chainBy disk k (Last b) = brokenChain
-chainBy disk k (To n) = chain false k disk n
-chainBy disk k Astray = brokenChain
+abbrev pub chainBy : List ℕ → Link → Chain
+chainBy disk (Last b) = brokenChain
+chainBy disk (To n) = chain false disk n
+chainBy disk Astray = brokenChain
 
--- an entry's chain, of at most so many sectors
-abbrev pub chainOf : ℕ → List ℕ → ℕ → Chain
-chainOf k disk p = chainBy disk k (linkAt disk (p + 1))
+-- an entry's chain
+abbrev pub chainOf : List ℕ → ℕ → Chain
+chainOf disk p = chainBy disk (linkAt disk (p + 1))
 
--- one chain and what f, told how many sectors it takes, meets behind it
-abbrev pub chainsBehind : Chain → (ℕ → Chain) → Chain
-chainsBehind c f = cond (c .ends) (record { sectors = c .sectors ++ f (length (c .sectors)) .sectors; ends = f (length (c .sectors)) .ends }) c
-
--- the chains of entries one after the other, of at most so many sectors in all: a disk has 683, so more would meet one twice
-unfoldable pub chains : ℕ → List ℕ → List ℕ → Chain
+-- the chains of entries one after the other, and whether each ends as it should
+unfoldable pub chains : List ℕ → List ℕ → Chain
 unfolding chain
-chains k disk [] = record { sectors = []; ends = true }
-chains k disk (p ∷ ps) = chainsBehind (chainOf k disk p) (λ n. chains (k - n) disk ps)
+chains disk [] = record { sectors = []; ends = true }
+chains disk (p ∷ ps) =
+    record { sectors = chainOf disk p .sectors ++ chains disk ps .sectors; ends = chainOf disk p .ends && chains disk ps .ends }

@@ -1,6 +1,7 @@
 pub mod Calls
 pub mod Chains
 pub mod Check
+pub mod CountedHelpers
 pub mod Entries
 pub mod Free
 pub mod Links

@@ -16,8 +16,9 @@ use Rattle.disk_rules.specs.Lists.{numbersFrom, those}
 use Rattle.disk_rules.specs.Map.{isFree}
 use Rattle.disk_rules.specs.Free.{freeSectors}
 use Rattle.disk_rules.specs.Calls.{sectorsFor, taken, After, ontoDisk, withFile}
+use Rattle.disk_rules.proofs.Counting.{numbers-long}
 use Rattle.disk_chains.specs.ChainHelpers.{Lists}
-use Rattle.disk_check.proofs.Looking.{each-those, numbers-each, Sector, numbers-long, those-few, listed-start}
+use Rattle.disk_check.proofs.Looking.{each-those, numbers-each, Sector, those-few, listed-start}
 use Rattle.disk_saves.specs.FileHelpers.{Chosen}
 use Rattle.disk_saves.specs.SaveHelpers.{savedNew}
 

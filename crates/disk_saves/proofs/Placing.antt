@@ -2,18 +2,20 @@
 -- Assumes nothing.
 use Prim.Native.Nat.{ℕ, zero, suc, _+_, _-_, _*_, _≤_, _<_}
 use mathlib.Core.Path.{_≡_, refl, sym, ap, _∙_}
-use mathlib.Core.Bool.{Bool, true, false, not, cond}
+use mathlib.Core.Bool.{true, false, not}
 use mathlib.Core.List.{List, [], _∷_}
 use lib.ListN.{length, getD, take}
 use lib.Seq.{sets, getD-take}
 use native.Mathlib.Omega.{arith}
+use Rattle.base_steps.specs.Again.{again}
 use Rattle.base_refusals.specs.Numbers.{directoryFull}
 use Rattle.base_refusals.specs.Answer.{Answer, done, refused}
 use Rattle.disk_rules.specs.Lists.{isIn}
 use Rattle.disk_rules.specs.Links.{linkAt}
 use Rattle.disk_rules.specs.declared.Link.{Link}
 use Rattle.disk_rules.specs.declared.Link.the-variants.{Last, To, Astray}
-use Rattle.disk_rules.specs.Chains.{chain, brokenChain, mayHold, chainOnward}
+use Rattle.disk_rules.specs.Chains.{chain, chainOnward}
+use Rattle.disk_rules.specs.CountedHelpers.{chainWithin}
 use Rattle.disk_rules.specs.Entries.{directory, entriesThat}
 use Rattle.disk_rules.specs.Free.{markedAll}
 use Rattle.disk_rules.specs.Calls.{laid, entryBytes, outside, grown, withEntry, withFile, After, ontoDisk}
@@ -21,29 +23,19 @@ use Rattle.disk_chains.specs.ChainHelpers.{Lists}
 use Rattle.disk_check.proofs.Looking.{chain-sectors, that-entries, that-few, listed-start}
 use Rattle.disk_saves.proofs.Lowest.{none-lowest}
 
--- ---- a directory has 1 to 18 sectors
+-- ---- a directory has a sector
 
-chain-few : (dir : Bool) (k : ℕ) (d : List ℕ) (n : ℕ) → length (chain dir k d n .sectors) ≤ k
-unfolding chain
-chain-few dir zero d n = omega arith
-chain-few dir (suc k) d n = go (mayHold dir n) (linkAt d (256 * n)) (chain-few dir k d) where
-  go : (q : Bool) (l : Link) → ((m : ℕ) → length (chain dir k d m .sectors) ≤ k) → length (cond q (chainOnward dir n (chain dir k d) l) brokenChain .sectors) ≤ suc k
-  go false l f = omega arith
-  go true (Last b) f = omega arith
-  go true (To m) f = omega (arith, f m)
-  go true Astray f = omega arith
+pub directory-some : (d : List ℕ) {l : List ℕ} → length d ≡ 174848 → l ≡ directory d .sectors → 1 ≤ length l
+unfolding directory chain again
+directory-some d z e = rw e (some (length d) (omega arith)) where
+  on : (k : ℕ) (l : Link) → 1 ≤ length (chainOnward true 358 (chainWithin true k d) l .sectors)
+  on k (Last b) = omega arith
+  on k (To m) = omega arith
+  on k Astray = omega arith
 
-pub directory-few : (d : List ℕ) {l : List ℕ} → l ≡ directory d .sectors → length l ≤ 18
-unfolding directory
-directory-few d e = rw e (chain-few true 18 d 358)
-
-pub directory-some : (d : List ℕ) {l : List ℕ} → l ≡ directory d .sectors → 1 ≤ length l
-unfolding directory chain
-directory-some d e = rw e (go (linkAt d (256 * 358))) where
-  go : (l : Link) → 1 ≤ length (chainOnward true 358 (chain true 17 d) l .sectors)
-  go (Last b) = omega arith
-  go (To m) = omega arith
-  go Astray = omega arith
+  some : (k : ℕ) → 1 ≤ k → 1 ≤ length (chainWithin true k d 358 .sectors)
+  some zero h = absurd (omega arith)
+  some (suc k) h = on k (linkAt d (256 * 358))
 
 -- ---- the entry's place
 
@@ -62,9 +54,9 @@ in-grown disk entry sectors (p ∷ l) out h g = absurd (omega arith)
 in-grown disk entry sectors [] [] h g = absurd (omega arith)
 in-grown disk entry sectors [] (n ∷ out) h g = refl
 
-module _ (d : List ℕ) {sectors buffer after : List ℕ} {count : ℕ} (e : sectors ≡ directory d .sectors) (l : Lists (entriesThat false d sectors) buffer count after) (b : length buffer ≡ 144) where
+module _ (d : List ℕ) {sectors buffer after : List ℕ} {count : ℕ} (e : sectors ≡ directory d .sectors) (few : length sectors ≤ 18) (l : Lists (entriesThat false d sectors) buffer count after) (b : length buffer ≡ 144) where
   unlisted : take count after ≡ entriesThat false d sectors
-  unlisted = listed-start l (omega (arith, that-few false d sectors, directory-few d e))
+  unlisted = listed-start l (omega (arith, that-few false d sectors))
 
   first-unlisted : 0 < count → getD (entriesThat false d sectors) 0 0 ≡ getD after 0 0
   first-unlisted h = sym (ap (λ (x : List ℕ). getD x 0 0) unlisted) ∙ getD-take count after 0 0 h
@@ -101,11 +93,8 @@ module _ (d : List ℕ) {sectors buffer after : List ℕ} {count : ℕ} (e : sec
           ap (λ (x : List ℕ). ontoDisk (done x) d) (rw g at f)
           ∙ ap (λ (x : Answer (List ℕ)). ontoDisk x d) (in-grown written (entryBytes name chosen) sectors (entriesThat false d sectors) (outside sectors) (omega (arith, l .counts)) (omega arith) ∙ sym known)
 
-pub last-below : (d : List ℕ) {l : List ℕ} → l ≡ directory d .sectors → getD l (length l - 1) 0 < 683
-last-below d {l} e = rw e (chain-sectors d .below (length (directory d .sectors) - 1) (omega (arith, directory-some d refl)))
+pub last-below : (d : List ℕ) {l : List ℕ} → length d ≡ 174848 → l ≡ directory d .sectors → getD l (length l - 1) 0 < 683
+last-below d {l} z e = rw e (chain-sectors d .below (length (directory d .sectors) - 1) (omega (arith, directory-some d z refl)))
 
-pub entries-room : (d : List ℕ) {l : List ℕ} → l ≡ directory d .sectors → 8 * length l ≤ 144
-entries-room d e = omega (arith, directory-few d e)
-
-pub last-in : (d : List ℕ) {l : List ℕ} → l ≡ directory d .sectors → length l - 1 < length l
-last-in d e = omega (arith, directory-some d e)
+pub last-in : (d : List ℕ) {l : List ℕ} → length d ≡ 174848 → l ≡ directory d .sectors → length l - 1 < length l
+last-in d z e = omega (arith, directory-some d z e)

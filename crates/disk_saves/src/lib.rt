@@ -63,7 +63,7 @@ fn save_on(
     image: &[u8],
     chosen: &[usize],
 ) -> Changed
-    requires { ⌜ (length (now disk) ≡ 174848) × (now sectors ≡ directory (now disk) .sectors) × (length (now name) ≤ 16) × Chosen (now chosen) (now image) ⌝ }
+    requires { ⌜ (length (now disk) ≡ 174848) × (now sectors ≡ directory (now disk) .sectors) × (length (now sectors) ≤ 18) × (length (now name) ≤ 16) × Chosen (now chosen) (now image) ⌝ }
     ensures { λ r. ⌜ leaving r (now (disk .exit)) ≡ ontoDisk (withFile (now (disk .entry)) (now (name .entry)) (now (image .entry)) (now (chosen .entry))) (now (disk .entry)) ⌝ }
 {
     let mut unlisted = [0usize; 144];
@@ -81,7 +81,7 @@ fn save_on(
 
 // Saves a file on a sound disk that lists none of its name.
 pub fn save_new(disk: &mut [u8], sectors: &[usize], name: &[u8], image: &[u8]) -> Changed
-    requires { ⌜ (length (now disk) ≡ 174848) × (now sectors ≡ directory (now disk) .sectors) × (length (now name) ≤ 16) ⌝ }
+    requires { ⌜ (length (now disk) ≡ 174848) × (now sectors ≡ directory (now disk) .sectors) × (length (now sectors) ≤ 18) × (length (now name) ≤ 16) ⌝ }
     ensures { λ r. ⌜ leaving r (now (disk .exit)) ≡ ontoDisk (savedNew (now (disk .entry)) (now (name .entry)) (now (image .entry))) (now (disk .entry)) ⌝ }
 {
     let mut free = [0usize; 683];

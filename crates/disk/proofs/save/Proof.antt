@@ -2,7 +2,7 @@
 -- Assumes nothing.
 use mathlib.Core.Path.{sym}
 use lib.Seq.{length-take-le}
-use Rattle.disk.proofs.Locating.{known-size, known-short, known-few, known-chain}
+use Rattle.disk.proofs.Locating.{known-size, known-short, known-few, known-long, known-chain}
 use Rattle.disk.proofs.Saving.{save-taken, save-full, save-on, save-refused}
 use borrow.Author.Needs.{needs}
 use Rattle.disk.proofs.save.Statement.{statement}
@@ -11,9 +11,6 @@ use Rattle.disk.proofs.save.Tie as tie
 returns : tie.Need-returns
 returns c = search save-taken
 
-returns-2 : tie.Need-returns-2
-returns-2 c = search save-full
-
 array-share-prefix-sectors : tie.Need-array-share-prefix-sectors
 array-share-prefix-sectors c = search known-few
 
@@ -21,10 +18,13 @@ slice-aggregate-save-new : tie.Need-slice-aggregate-save-new
 slice-aggregate-save-new c = sym (length-take-le _ _ (search known-few))
 
 save-new-requires : tie.Need-save-new-requires
-save-new-requires c κs = (search known-size, search known-chain, search known-short)
+save-new-requires c κs = (search known-size, search known-chain, search known-long, search known-short)
 
 returns-3 : tie.Need-returns-3
 returns-3 c = search save-on
+
+returns-2 : tie.Need-returns-2
+returns-2 c = search save-full
 
 returns-4 : tie.Need-returns-4
 returns-4 c = search save-refused

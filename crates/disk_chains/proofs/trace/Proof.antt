@@ -3,14 +3,14 @@
 use Prim.Native.Nat.{_-_}
 use native.Mathlib.Omega.{arith}
 use lib.ListN.{length, length-set}
-use Rattle.disk_rules.specs.Chains.{chain}
+use Rattle.disk_rules.specs.CountedHelpers.{chainWithin}
 use Rattle.disk_chains.proofs.Tracing.{Tracing, trace-start, trace-full, trace-not, trace-fits, trace-room, trace-last, trace-astray, trace-turn}
 use borrow.Author.Needs.{needs}
 use Rattle.disk_chains.proofs.trace.Statement.{statement}
 use Rattle.disk_chains.proofs.trace.Tie as tie
 
 abbrev Inv-loop : tie.InvT-loop
-Inv-loop disk directory first log₀ at n₀ to₀ log n to = Tracing directory disk (chain directory (length log₀ - at) disk first) log₀ at log n to
+Inv-loop disk directory first log₀ at n₀ to₀ log n to = Tracing directory disk (chainWithin directory (length log₀ - at) disk first) log₀ at log n to
 
 abbrev μ-loop : tie.MeasureT-loop
 μ-loop disk directory first log₀ at n₀ to₀ log n to = length log - to

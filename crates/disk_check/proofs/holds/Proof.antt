@@ -3,7 +3,7 @@
 use mathlib.Core.Path.{sym}
 use native.Mathlib.Omega.{arith}
 use lib.Seq.{length-take-le}
-use Rattle.disk_check.proofs.Looking.{known-sectors, known-entries, logged-sectors}
+use Rattle.disk_check.proofs.Looking.{log-sectors, log-entries, logged-sectors}
 use Rattle.disk_check.proofs.Holding.{not-track, not-sector, not-ending, met-twice, not-good, not-through, all-told}
 use borrow.Author.Needs.{needs}
 use Rattle.disk_check.proofs.holds.Statement.{statement}
@@ -19,19 +19,19 @@ returns-3 : tie.Need-returns-3
 returns-3 c = search not-ending
 
 none-twice-requires : tie.Need-none-twice-requires
-none-twice-requires c κs = search known-sectors
+none-twice-requires c κs = search log-sectors
 
 returns-4 : tie.Need-returns-4
 returns-4 c = search met-twice
 
 entries-good-requires : tie.Need-entries-good-requires
-entries-good-requires c κs = search (needs, known-entries)
+entries-good-requires c κs = search (needs, log-entries)
 
 returns-5 : tie.Need-returns-5
 returns-5 c = search not-good
 
 trace-all-requires : tie.Need-trace-all-requires
-trace-all-requires c κs = search (needs, known-entries)
+trace-all-requires c κs = search (needs, log-entries)
 
 returns-6 : tie.Need-returns-6
 returns-6 c = search not-through

@@ -3,8 +3,8 @@
 use mathlib.Core.Path.{refl, sym}
 use native.Mathlib.Omega.{arith}
 use lib.Seq.{length-take-le}
-use Rattle.disk.proofs.Locating.{look-sound, look-unsound, look-entries}
-use Rattle.disk_directory.proofs.Lining.{long-put, text-put}
+use Rattle.disk.proofs.Locating.{look-sound, look-unsound}
+use Rattle.disk_directory.proofs.Lining.{long-put, look-files, text-put}
 use borrow.Author.Needs.{needs}
 use Rattle.disk_directory.proofs.put_directory.Statement.{statement}
 use Rattle.disk_directory.proofs.put_directory.Tie as tie
@@ -19,7 +19,7 @@ slice-aggregate-put-files : tie.Need-slice-aggregate-put-files
 slice-aggregate-put-files c = sym (length-take-le _ _ (omega arith))
 
 put-files-requires : tie.Need-put-files-requires
-put-files-requires c κs = search (needs, look-entries)
+put-files-requires c κs = search (needs, look-sound, look-files)
 
 returns-3 : tie.Need-returns-3
 returns-3 c = (search look-sound, search text-put)

@@ -3,7 +3,7 @@
 use Prim.Native.Nat.{_-_}
 use lib.ListN.{length}
 use Rattle.say_sentences.proofs.Clipping.{clip-long}
-use Rattle.disk_directory.proofs.Lining.{Lining, lining-start, lining-turn, lining-end, entry-in}
+use Rattle.disk_directory.proofs.Lining.{Lining, lining-start, lining-turn, lining-end, entry-listed}
 use borrow.Author.Needs.{needs}
 use Rattle.disk_directory.proofs.put_files.Statement.{statement}
 use Rattle.disk_directory.proofs.put_files.Tie as tie
@@ -18,7 +18,7 @@ loop-holds : tie.Need-loop-holds Inv-loop μ-loop
 loop-holds c = search lining-start
 
 put-file-requires : tie.Need-put-file-requires Inv-loop μ-loop
-put-file-requires c κs = search (needs, entry-in)
+put-file-requires c κs = search (needs, entry-listed)
 
 loop-again : tie.Need-loop-again Inv-loop μ-loop
 loop-again c = search lining-turn

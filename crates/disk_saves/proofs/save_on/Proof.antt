@@ -1,13 +1,14 @@
 -- `disk_saves::save_on` meets its contract.
 -- Assumes nothing.
+use native.Mathlib.Omega.{arith}
 use Rattle.disk_check.proofs.Looking.{known-sectors}
-use Rattle.disk_saves.proofs.Placing.{entries-room, place-in, saved-in, saved-none, saved-grown, directory-some, last-in, last-below}
+use Rattle.disk_saves.proofs.Placing.{place-in, saved-in, saved-none, saved-grown, directory-some, last-in, last-below}
 use borrow.Author.Needs.{needs}
 use Rattle.disk_saves.proofs.save_on.Statement.{statement}
 use Rattle.disk_saves.proofs.save_on.Tie as tie
 
 entries-that-requires : tie.Need-entries-that-requires
-entries-that-requires c κs = search (needs, known-sectors, entries-room)
+entries-that-requires c κs = (search needs, search known-sectors, omega arith, search needs)
 
 put-file-requires : tie.Need-put-file-requires
 put-file-requires c κs = search (needs, place-in)

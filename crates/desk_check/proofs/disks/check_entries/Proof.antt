@@ -1,8 +1,9 @@
 -- `desk_check::disks::check_entries` is safe and ends.
 -- Assumes nothing.
-use Prim.Native.Nat.{_-_}
-use lib.ListN.{length}
-use Rattle.disk_directory.proofs.Lining.{entry-in}
+use Prim.Native.Nat.{ℕ, _+_, _-_, _≤_, _<_}
+use mathlib.Core.List.{List}
+use lib.ListN.{length, getD}
+use Rattle.disk_entries.specs.EntryHelpers.{Entries}
 use borrow.Author.Needs.{needs}
 use Rattle.desk_check.proofs.disks.check_entries.Statement.{statement}
 use Rattle.desk_check.proofs.disks.check_entries.Tie as tie
@@ -12,6 +13,9 @@ Inv-loop name disk files is-quiet run₀ i₀ run i = Unit {0}
 
 abbrev μ-loop : tie.MeasureT-loop
 μ-loop name disk files is-quiet run₀ i₀ run i = length files - i
+
+entry-in : {l : List ℕ} {i : ℕ} → Entries l → i < length l → getD l i 0 + 30 ≤ 174848
+entry-in {i = i} k h = k .within i h
 
 check-entry-requires : tie.Need-check-entry-requires Inv-loop μ-loop
 check-entry-requires c κs = search (needs, entry-in)

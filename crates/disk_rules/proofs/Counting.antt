@@ -1,17 +1,20 @@
 -- Counting the numbers of a list, or of a run, that pass a test.
 -- Assumes nothing.
 use Prim.Native.Nat.{ℕ, zero, suc, _+_, _≤_, _<_}
-use mathlib.Core.Path.{_≡_, refl, ap}
+use mathlib.Core.Path.{_≡_, refl, sym, ap}
 use mathlib.Core.Bool.{Bool, true, false, not, cond, _&&_, _||_}
 use mathlib.Core.List.{List, [], _∷_, _++_}
 use lib.Dec.{eqb}
-use lib.ListN.{length}
+use lib.ListN.{length, getD}
 use native.Mathlib.Decide.{decLt}
 use native.Mathlib.Omega.{arith}
 use borrow.Author.Tests.{eqb-true, eq-eqb, ne-eqb, not-true}
 use Rattle.disk_rules.specs.Lists.{numbersFrom, those, every, some, isIn, noneTwice}
 
 -- ---- tests
+
+pub never : {A : Type 0} → _≡_ {A = Bool} false true → A
+never e = absurd (let z : _≡_ {A = ℕ} 0 1 = cc in omega arith)
 
 pub and-left : (a b : Bool) → (a && b) ≡ true → a ≡ true
 and-left true b e = refl
@@ -153,6 +156,15 @@ stand-all (m ∷ l) from k e h =
       equal-one m from k (own .0) (own .1),
     )
 
+pub numbers-long : (from k : ℕ) → length (numbersFrom from k) ≡ k
+unfolding numbersFrom
+numbers-long from zero = refl
+numbers-long from (suc k) = ap suc (numbers-long (from + 1) k)
+
+-- so a list has no more numbers than the run
+pub run-few : (l : List ℕ) (from k : ℕ) → noneTwice l ≡ true → ((m : ℕ) → isIn l m ≡ true → (from ≤ m) × (m < from + k)) → length l ≤ k
+run-few l from k e h = omega (arith, stand-all l from k e h, count-not (isIn l) (numbersFrom from k), numbers-long from k)
+
 -- ---- what holds of each number of a list, or of a run
 
 pub in-append : (a b : List ℕ) (n : ℕ) → isIn (a ++ b) n ≡ (isIn a n || isIn b n)
@@ -171,3 +183,35 @@ every-at test from (suc k) e i h g =
       go : Dec (from < i) → (from < i → test i ≡ true) → test i ≡ true
       go (yes f) x = x f
       go (no f) x = let z : i ≡ from = omega arith in rw z (and-left (test from) (every test (numbersFrom (from + 1) k)) e)
+
+-- what passes a test stands in the list
+pub in-those-list : (test : ℕ → Bool) (l : List ℕ) (n : ℕ) → isIn (those test l) n ≡ true → isIn l n ≡ true
+unfolding those some
+in-those-list test [] n e = never e
+in-those-list test (m ∷ l) n e = go (test m) (in-those-list test l n) e where
+  go : (q : Bool) → (isIn (those test l) n ≡ true → isIn l n ≡ true) → isIn (cond q (m ∷ those test l) (those test l)) n ≡ true → (eqb n m || isIn l n) ≡ true
+  go false g h = or-right (eqb n m) (isIn l n) (g h)
+  go true g h = by (eqb n m) h where
+    by : (r : Bool) → (r || isIn (those test l) n) ≡ true → (r || isIn l n) ≡ true
+    by true j = refl
+    by false j = g j
+
+pub in-at : (l : List ℕ) (i : ℕ) → i < length l → isIn l (getD l i 0) ≡ true
+unfolding some
+in-at [] i h = absurd (omega arith)
+in-at (n ∷ l) zero h = rw (eq-eqb n n refl)
+in-at (n ∷ l) (suc i) h = or-right (eqb (getD l i 0) n) (isIn l (getD l i 0)) (in-at l i (omega arith))
+
+-- where a number of a list stands
+pub record At (l : List ℕ) (n : ℕ) : Type 0 where
+  pub at : ℕ
+  pub within : at < length l
+  pub is : getD l at 0 ≡ n
+
+pub in-place : (l : List ℕ) (n : ℕ) → isIn l n ≡ true → At l n
+unfolding some
+in-place [] n e = never e
+in-place (m ∷ l) n e = go (eqb n m) refl (in-place l n) e where
+  go : (q : Bool) → eqb n m ≡ q → (isIn l n ≡ true → At l n) → (q || isIn l n) ≡ true → At (m ∷ l) n
+  go true f g h = record { at = 0; within = omega arith; is = sym (eqb-true n m f) }
+  go false f g h = let r : At l n = g h in record { at = suc (r .at); within = omega (arith, r .within); is = r .is }
