@@ -22,6 +22,7 @@ use Rattle.image_readers.proofs.Equations.{LiesAt}
 use Rattle.image_readers.proofs.Lined.{lined-end, lined-refused, chain-lined}
 use Rattle.image_readers.proofs.Reading.{lines-lead}
 use Rattle.image_find.specs.Sought.{limitReached, at, within, lineSought, bodyIn}
+use Rattle.image_find.proofs.Seeking.{soughtFrom}
 
 -- ---- `body` meets its contract, case by case
 
@@ -84,7 +85,7 @@ module _ (number limit : ℕ) (s : List ℕ) where
     sought-step = go (ltb 1048576 (length s)) (ltb (length s) 2) f
       where
         go : (b d : Bool)
-            → cond b (refused (imageTooLong (length s))) (cond d (refused tooShort) (within number limit 0 (linedFrom linkStep s 2 .lines) (linedFrom linkStep s 2 .ending))) ≡ done (at v l) → Stepped s l
+            → cond b (refused (imageTooLong (length s))) (cond d (refused tooShort) (soughtFrom number limit s 2 0)) ≡ done (at v l) → Stepped s l
         go true d g = let z : _≡_ {A = ℕ} 0 1 = cc in absurd (omega arith)
         go false true g = let z : _≡_ {A = ℕ} 0 1 = cc in absurd (omega arith)
         go false false g = chain-found 0 (chained .ending) (chained .chain) (ap (λ (x : Lined). within number limit 0 (x .lines) (x .ending)) (sym (chained .whole)) ∙ g)

@@ -22,7 +22,7 @@ use Rattle.image_layout.proofs.Laying.{image-length, line-length, end-above, fi
 use Rattle.image_layout.proofs.Standing.{Holds, holds-at, holds-long, Stands, stands-next}
 use Rattle.image_relink.specs.declared.Zero.the-variants.{At}
 use Rattle.image_relink.specs.declared.Passed.the-variants.{End, Kept as KeptLink}
-use Rattle.image_relink.specs.Relinking.{inMemory, zeroSought, stored, relinkStep, same, relinkBy, relinkFrom, relinking}
+use Rattle.image_relink.specs.Relinking.{comeRound, inMemory, zeroSought, stored, relinkStep, same, relinkBy, relinkFrom, relinking}
 use Rattle.image_relink.proofs.Following.{relink-from}
 
 -- a body that the machine's relinking can pass
@@ -37,21 +37,22 @@ no-zero-at (b ∷ body) n zero h = n .0
 no-zero-at (b ∷ body) n (suc j) h = no-zero-at body (n .1) j (omega arith)
 
 -- the first 00 that is looked at, from y on, stands at z
-module _ (s : List ℕ) (p z : ℕ) (small : z < 256) (there : (i : ℕ) → i ≤ z → inMemory s (p + i) ≡ true) (is : getD s (p + z) 0 ≡ 0) where
+module _ (s : List ℕ) (p z : ℕ) (small : z < 256) (flat : (i : ℕ) → i ≤ z → comeRound (p + i) ≡ p + i) (there : (i : ℕ) → i ≤ z → inMemory s (p + i) ≡ true)
+    (is : getD s (p + z) 0 ≡ 0) where
   zero-found : (n y : ℕ) → y ≤ z → z < n + y → ((i : ℕ) → y ≤ i → i < z → getD s (p + i) 0 ≡ 0 → ⊥) → zeroSought s p n y ≡ At z
   unfolding zeroSought
   zero-found zero y h l other = absurd (omega arith)
   zero-found (suc n) y h l other = go (λ m. zero-found n (y + 1) m (omega arith) (λ i a b. other i (omega arith) b)) (eq-or-lt-of-le h)
     where
       go : (y + 1 ≤ z → zeroSought s p n (y + 1) ≡ At z) → (y ≡ z) ⊎ (y < z) → zeroSought s p (suc n) y ≡ At z
-      go on (inl e) = rw (e, there z (omega arith), eq-eqb (getD s (p + z) 0) 0 is)
+      go on (inl e) = rw (e, flat z (omega arith), there z (omega arith), eq-eqb (getD s (p + z) 0) 0 is)
       go on (inr m) =
           let next : (y + 1) % 256 ≡ y + 1 = omega arith in
-          rw (there y (omega arith), ne-eqb (getD s (p + y) 0) 0 (other y (omega arith) m), next) (on (omega arith))
+          rw (flat y (omega arith), there y (omega arith), ne-eqb (getD s (p + y) 0) 0 (other y (omega arith) m), next) (on (omega arith))
 
 -- a line that stands at p, and at the address a
 module _ {s : List ℕ} {p a : ℕ} {l : NumberedBody} {rest : List ℕ} (k : Stands s p (linkOf a (l .body)) l rest) (m : a + 2 ≡ lowFirstAt s 0 + p)
-    (short : length s ≤ 65538) (up : 0x0100 ≤ a) (fits : linkOf a (l .body) ≤ 0xFFFF) (q : Passable l) where
+    (two : 2 ≤ p) (short : length s ≤ 65538) (up : 0x0100 ≤ a) (fits : linkOf a (l .body) ≤ 0xFFFF) (q : Passable l) where
   line-long : p + 5 + length (l .body) ≤ length s
   line-long =
       let b = linkedBytes (linkOf a (l .body)) (l .number) (l .body) in
@@ -63,6 +64,9 @@ module _ {s : List ℕ} {p a : ℕ} {l : NumberedBody} {rest : List ℕ} (k : St
   in-image i h =
       let near : p + i < length s = omega (arith, line-long) in
       rw (lt-ltb (p + i) (length s) near, lt-ltb (length s) 65539 (omega arith))
+
+  flat : (i : ℕ) → i ≤ 4 + length (l .body) → comeRound (p + i) ≡ p + i
+  flat i h = omega (arith, line-long)
 
   body-at : (j : ℕ) → getD s (p + (4 + j)) 0 ≡ getD (l .body ++ 0 ∷ rest) j 0
   unfolding linkedBytes
@@ -87,7 +91,7 @@ module _ {s : List ℕ} {p a : ℕ} {l : NumberedBody} {rest : List ℕ} (k : St
 
   sought : zeroSought s p 256 5 ≡ At (4 + length (l .body))
   sought =
-      zero-found s p (4 + length (l .body)) (omega (arith, q .few)) in-image
+      zero-found s p (4 + length (l .body)) (omega (arith, q .few)) flat in-image
       (body-at (length (l .body)) ∙ getD-append-seam (l .body) 0 rest 0) 256 5 (omega (arith, q .some)) (omega (arith, q .few)) no-zero
 
   pub line-kept : relinkStep s p ≡ KeptLink (p + (5 + length (l .body)))
@@ -98,25 +102,28 @@ module _ {s : List ℕ} {p a : ℕ} {l : NumberedBody} {rest : List ℕ} (k : St
       let count : (4 + n + 1) % 256 ≡ 5 + n = omega (arith, q .few) in
       let stays : (addressAt s p + (5 + n)) % 65536 ≡ lowFirstAt s p = omega (arith, link-there) in
       let some : 5 + n ≡ 0 → ⊥ = λ z. omega arith in
-      rw (in-image 1 (omega arith), ne-eqb (getD s (p + 1) 0) 0 high, sought, count, eq-eqb ((addressAt s p + (5 + n)) % 65536) (lowFirstAt s p) stays, ne-eqb (5 + n) 0 some)
+      let here : comeRound p ≡ p = omega (arith, line-long) in
+      let begins : inMemory s p ≡ true = ap (inMemory s) (let e : p ≡ p + 0 = omega arith in e) ∙ in-image 0 (omega arith) in
+      rw (flat 1 (omega arith), in-image 1 (omega arith), ne-eqb (getD s (p + 1) 0) 0 high, sought, count, here, begins)
+      (rw (flat 1 (omega arith), eq-eqb ((addressAt s p + (5 + n)) % 65536) (lowFirstAt s p) stays, ne-eqb (5 + n) 0 some))
 
 -- lines one behind the other, and the end
-lines-kept : {s : List ℕ} → length s ≤ 65538 → (ls : List NumberedBody) (a p : ℕ) → Holds s p (linesBytes a ls ++ 0 ∷ 0 ∷ []) → a + 2 ≡ lowFirstAt s 0 + p → 0x0100 ≤ a
+lines-kept : {s : List ℕ} → length s ≤ 65538 → (ls : List NumberedBody) (a p : ℕ) → 2 ≤ p → Holds s p (linesBytes a ls ++ 0 ∷ 0 ∷ []) → a + 2 ≡ lowFirstAt s 0 + p → 0x0100 ≤ a
     → Fits a ls → Each Passable ls → relinkFrom s p ≡ same
 unfolding linesBytes endAddress relinkStep inMemory
-lines-kept {s} short [] a p h m up f q =
+lines-kept {s} short [] a p two h m up f q =
     let long : length s ≡ p + 2 = holds-long h (omega arith) in
     let ends : relinkStep s p ≡ End =
-    rw (lt-ltb (p + 1) (length s) (omega arith), lt-ltb (length s) 65539 (omega arith), eq-eqb (getD s (p + 1) 0) 0 (holds-at h 1)) in
+    rw (let e : comeRound (p + 1) ≡ p + 1 = omega arith in e, lt-ltb (p + 1) (length s) (omega arith), lt-ltb (length s) 65539 (omega arith), eq-eqb (getD s (p + 1) 0) 0 (holds-at h 1)) in
     relink-from s p ∙ ap (relinkBy (relinkFrom s) p) ends
-lines-kept {s} short (l ∷ ls) a p h m up f q =
+lines-kept {s} short (l ∷ ls) a p two h m up f q =
     let b = linkOf a (l .body) in
     let k : Stands s p b l (linesBytes b ls ++ 0 ∷ 0 ∷ []) =
     record { holds = record { there = h .there ∙ append-assoc (lineBytes a (l .number) (l .body)) (linesBytes b ls) (0 ∷ 0 ∷ []) } } in
     let e : p + (5 + length (l .body)) ≡ p + 5 + length (l .body) = omega arith in
     relink-from s p
-    ∙ ap (relinkBy (relinkFrom s) p) (line-kept k m short up (first-fits a l ls f) (q .0) ∙ ap KeptLink e)
-    ∙ lines-kept short ls b (p + 5 + length (l .body)) (stands-next k) (omega arith) (omega arith) f (q .1)
+    ∙ ap (relinkBy (relinkFrom s) p) (line-kept k m two short up (first-fits a l ls f) (q .0) ∙ ap KeptLink e)
+    ∙ lines-kept short ls b (p + 5 + length (l .body)) (omega arith) (stands-next k) (omega arith) (omega arith) f (q .1)
 
 -- "the image .. at 0x0100 or above is left byte for byte as it is by that relinking", of any lines within the limits
 pub laid-kept : {load : ℕ} {ls : List NumberedBody} → Laid load ls → 0x0100 ≤ load → Each Passable ls → relinking (imageOf load ls) ≡ done same
@@ -126,4 +133,4 @@ laid-kept {load} {ls} laid up q =
     let short : length s ≤ 65538 = omega (arith, image-length load ls, laid .fits) in
     let first : lowFirstAt s 0 ≡ load = omega (arith, end-above load ls, laid .fits) in
     sym (sized-right s (done (relinkFrom s 2)) (omega arith) (omega (arith, image-length load ls, end-above load ls)))
-    ∙ ap done (lines-kept short ls load 2 (record { there = refl }) (omega (arith, first)) up (laid .fits) q)
+    ∙ ap done (lines-kept short ls load 2 (omega arith) (record { there = refl }) (omega (arith, first)) up (laid .fits) q)

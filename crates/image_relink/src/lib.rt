@@ -2,7 +2,7 @@
 ghost use mathlib.Core.Path.{_≡_};
 ghost use Prim.Native.Nat.{_+_, _≤_, _<_};
 ghost use lib.ListN.{length};
-ghost use Rattle.image_relink.specs.Relinking.{inMemory, zeroSought, stored, relinkStep, relinkedAnswer, relinking};
+ghost use Rattle.image_relink.specs.Relinking.{comeRound, inMemory, zeroSought, stored, relinkStep, relinkedAnswer, relinking};
 use base_refusals::Refusal;
 
 // An image has at most this many bytes.
@@ -78,30 +78,35 @@ pub fn relink(image: &[u8]) -> Relinked
 
 // The line at an offset.
 fn pass(image: &[u8], offset: usize) -> Passed
-    requires { ⌜ (2 ≤ length (now image)) × (length (now image) ≤ 1048576) × (offset ≤ length (now image)) × (2 ≤ offset) ⌝ }
+    requires { ⌜ (2 ≤ length (now image)) × (2 ≤ offset) × (offset ≤ 65537) ⌝ }
     ensures { λ r. ⌜ r ≡ relinkStep (now (image .entry)) offset ⌝ }
 {
-    if !is_in_memory(image, offset + 1) {
+    let high = come_round(offset + 1);
+    if !is_in_memory(image, high) {
         return Passed::Outside;
     }
-    if image[offset + 1] == 0 {
+    if image[high] == 0 {
         return Passed::End;
     }
     match zero_behind(image, offset) {
-        Zero::At(y) => store(image, offset, (y + 1) % 256),
+        Zero::At(y) => store(image, offset, high, (y + 1) % 256),
         Zero::Outside => Passed::Outside,
         Zero::Nowhere => Passed::Endless,
     }
 }
 
-// Stores the new link of the line at an offset, which leads so far behind the line's first byte.
-fn store(image: &[u8], offset: usize, count: usize) -> Passed
-    requires { ⌜ (offset + 1 < length (now image)) × (length (now image) ≤ 1048576) × (2 ≤ offset) × (count < 256) ⌝ }
+// Stores the new link of the line at an offset, whose high byte stands at `high`. It leads so far behind the line's first byte.
+fn store(image: &[u8], offset: usize, high: usize, count: usize) -> Passed
+    requires { ⌜ (2 ≤ length (now image)) × (2 ≤ offset) × (offset ≤ 65537) × (high ≡ comeRound (offset + 1)) × (high < length (now image)) × (count < 256) ⌝ }
     ensures { λ r. ⌜ r ≡ stored (now (image .entry)) offset count ⌝ }
 {
+    let low = come_round(offset);
+    if !is_in_memory(image, low) {
+        return Passed::Outside;
+    }
     let sum = image_bytes::low_first_at(image, 0) as usize + offset - 2 + count;
     let link = (sum % 65536) as u16;
-    if link != image_bytes::low_first_at(image, offset) {
+    if link != image_bytes::low_first(image[low], image[high]) {
         return Passed::Changed(link);
     }
     if count == 0 {
@@ -112,16 +117,17 @@ fn store(image: &[u8], offset: usize, count: usize) -> Passed
 
 // The search for the 00 of the line at an offset.
 fn zero_behind(image: &[u8], offset: usize) -> Zero
-    requires { ⌜ (2 ≤ length (now image)) × (length (now image) ≤ 1048576) × (offset ≤ length (now image)) ⌝ }
+    requires { ⌜ (2 ≤ offset) × (offset ≤ 65537) ⌝ }
     ensures { λ r. ⌜ r ≡ zeroSought (now (image .entry)) offset 256 5 ⌝ }
 {
     let mut left: usize = 256;
     let mut y: usize = 5;
     while left > 0 {
-        if !is_in_memory(image, offset + y) {
+        let at = come_round(offset + y);
+        if !is_in_memory(image, at) {
             return Zero::Outside;
         }
-        if image[offset + y] == 0 {
+        if image[at] == 0 {
             return Zero::At(y);
         }
         left -= 1;
@@ -130,7 +136,15 @@ fn zero_behind(image: &[u8], offset: usize) -> Zero
     Zero::Nowhere
 }
 
-// Whether the byte at an offset of the image is in memory, which has room for 65,536 bytes behind the load address.
+// The offset of the byte of memory that an offset leads to: memory comes round behind 65,536 bytes, to the image's first.
+fn come_round(offset: usize) -> usize
+    requires { ⌜ 2 ≤ offset ⌝ }
+    ensures { λ r. ⌜ r ≡ comeRound offset ⌝ }
+{
+    2 + (offset - 2) % 65536
+}
+
+// Whether the byte at an offset is the image's, and the image fits into memory, which has room for 65,536 bytes behind the load address.
 fn is_in_memory(image: &[u8], offset: usize) -> bool
     ensures { λ r. ⌜ r ≡ inMemory (now (image .entry)) offset ⌝ }
 {

@@ -114,6 +114,49 @@ fn what_relinking_does_beyond_them() {
     assert_eq!(line_ten(&[0x41; 251]), changed(0x0801));
 }
 
+/// An image at `load` whose lines, with right links, lead up to one at `top`; that one has
+/// the link `link`, and behind it stand bytes up to a length of `size`.
+fn up_to(load: u16, top: u16, link: u16, size: usize) -> Vec<u8> {
+    let mut image = load.to_le_bytes().to_vec();
+    let mut at = load;
+    while at < top {
+        let next = at.saturating_add(255).min(top);
+        image.extend(next.to_le_bytes());
+        image.extend(vec![0x41; usize::from(next - at) - 3]);
+        image.push(0);
+        at = next;
+    }
+    image.extend(link.to_le_bytes());
+    image.resize(size, 0x41);
+    image
+}
+
+#[test]
+fn what_relinking_meets_round_the_top_of_memory() {
+    let relinked = |image: &[u8]| relinked::relink(image).unwrap();
+    // FFFC and a count of 5 is 0001, the image's first byte, which is the 00 of a link to 0100
+    let changed = |offset, link| Relinked::Changed { offset, link };
+    assert_eq!(
+        relinked(&up_to(0x0001, 0xFFFC, 0x4141, 65_535)),
+        changed(65_533, 2)
+    );
+    // at load address 0003 that byte is not the image's
+    assert_eq!(
+        relinked(&up_to(0x0003, 0xFFFC, 0x4141, 65_533)),
+        Relinked::Leaves
+    );
+    // no 00 stands in the 256 bytes from FFF0 on
+    assert_eq!(
+        relinked(&up_to(0x0002, 0xFFF0, 0x4141, 65_538)),
+        Relinked::Endless
+    );
+    // a program that is longer than memory
+    assert_eq!(
+        relinked(&up_to(0x0001, 0xFFFC, 0x4141, 65_539)),
+        Relinked::Leaves
+    );
+}
+
 #[test]
 fn each_answer_is_among_the_cases() {
     let answers = |op| Cases::new(10_000, 7, &[op]).map(|request| judge::answer(&request));

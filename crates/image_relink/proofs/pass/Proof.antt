@@ -20,7 +20,7 @@ add-store : tie.Need-add-store
 add-store c = search count-fits
 
 store-requires : tie.Need-store-requires
-store-requires c κs = (search known-within, search needs, search needs, omega arith)
+store-requires c κs = (search needs, search needs, search needs, search needs, search known-within, omega arith)
 
 returns-3 : tie.Need-returns-3
 returns-3 c = search (pass-stored, the tie.Else2 (search) .if2 .left)
@@ -37,8 +37,8 @@ pass-spec =
     (tie.spec
     (λ c. search needs)
     (λ c κs. search needs)
+    (λ c κs. search needs)
     returns
-    (λ c. search needs)
     shared-slice-read-if2
     returns-2
     (λ c κs. search needs)

@@ -1,9 +1,7 @@
 -- `image_relink::relink` meets its contract.
 -- Assumes nothing.
-use Prim.Native.Nat.{_-_}
-use Rattle.image_relink.proofs.Following.{relinking-long, relinking-short, Followed, followed-start, followed-turn, followed-nearer, ends-same, ends-changed, ends-leaving, ends-endless}
+use Rattle.image_relink.proofs.Following.{relinking-long, relinking-short, fromTop, Followed, followed-start, followed-turn, followed-nearer, ends-same, ends-changed, ends-leaving, ends-endless}
 use borrow.Author.Needs.{needs}
-use lib.ListN.{length as lengthOf}
 use Rattle.image_relink.proofs.relink.Statement.{statement}
 use Rattle.image_relink.proofs.relink.Tie as tie
 
@@ -11,7 +9,7 @@ abbrev Inv-loop : tie.InvT-loop
 Inv-loop image length offset₀ offset = Followed image offset
 
 abbrev μ-loop : tie.MeasureT-loop
-μ-loop image length offset₀ offset = lengthOf image - offset
+μ-loop image length offset₀ offset = fromTop image offset
 
 returns : tie.Need-returns Inv-loop μ-loop
 returns c = search relinking-long

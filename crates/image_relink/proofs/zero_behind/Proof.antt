@@ -39,8 +39,8 @@ zero-behind-spec =
     loop-holds
     (λ c. search needs)
     (λ c κs. search needs)
+    (λ c κs. search needs)
     returns
-    (λ c. search needs)
     shared-slice-read-if2
     returns-2
     (λ c. search needs)
