@@ -97,7 +97,10 @@ module _ (b : List ℕ) (l : length b ≡ 174848) (z : (j : ℕ) → getD b j 0 
 
   dir-is : directory d ≡ record { sectors = 358 ∷ []; ends = true }
   unfolding directory chain again
-  dir-is = ap (λ (k : ℕ). chainWithin true k d 358) long ∙ ap (chainOnward true 358 (chainWithin true 174847 d)) ended
+  dir-is = go (length d) (omega (arith, long)) where
+    go : (k : ℕ) → 1 ≤ k → chainWithin true k d 358 ≡ record { sectors = 358 ∷ []; ends = true }
+    go zero h = absurd (omega arith)
+    go (suc k) h = ap (chainOnward true 358 (chainWithin true k d)) ended
 
   none-listed : listed d ≡ []
   unfolding entriesThat

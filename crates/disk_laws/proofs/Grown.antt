@@ -255,9 +255,10 @@ module _ (d name image : List ℕ) (n : ℕ) (x : Parts d) (fit : isFileName nam
 
   dir-made : directory made ≡ record { sectors = directory d .sectors ++ n ∷ []; ends = true }
   unfolding directory chain
-  dir-made =
-      ap (λ (k : ℕ). chainWithin true k made 358) (length-sets (grown (written d image) last n) (256 * n + 2) entry ∙ long-grown)
-      ∙ chain-on d made n last held-n link-new link-last (length d) 174847 358 (x .ends) (x .once) (omega (arith, room-left)) refl link-dir
+  dir-made = go (length made) (omega (arith, length-sets (grown (written d image) last n) (256 * n + 2) entry, long-grown)) where
+    go : (k : ℕ) → 18 ≤ k → chainWithin true k made 358 ≡ record { sectors = directory d .sectors ++ n ∷ []; ends = true }
+    go zero h = absurd (omega arith)
+    go (suc j) h = chain-on d made n last held-n link-new link-last (length d) j 358 (x .ends) (x .once) (omega (arith, room-left)) refl link-dir
 
   once-made : noneTwice (directory d .sectors ++ n ∷ []) ≡ true
   unfolding noneTwice some
