@@ -70,6 +70,9 @@ enum {
 /* The bytes of a disk image. */
 enum { MOLDTHATCH_DISK_LENGTH = 174848 };
 
+/* The bytes of a SHA-256. */
+enum { MOLDTHATCH_SHA256_LENGTH = 32 };
+
 enum { MOLDTHATCH_AUTO = 0, MOLDTHATCH_BASIC_V2 = 1, MOLDTHATCH_TSB = 2, MOLDTHATCH_BASIC35 = 3 };
 
 /* What a text is crunched with. profile asks the machine profile of each line (15 to
@@ -293,6 +296,10 @@ moldthatch_code moldthatch_disk_directory(const uint8_t *disk, size_t disk_lengt
 /* The name that a text stands for, with {xx} for any byte, to the start of out, as much
  * of it as fits: how many bytes that are. */
 size_t moldthatch_disk_name(const uint8_t *text, size_t text_length, uint8_t *out, size_t out_length);
+
+/* The SHA-256 of any bytes, to the start of out: its length, MOLDTHATCH_SHA256_LENGTH; out
+ * as above. */
+moldthatch_code moldthatch_sha256(const uint8_t *bytes, size_t bytes_length, uint8_t *out, size_t out_length);
 
 /* The sentence of a refusal, for a person: stores as much of it as fits at the start
  * of out, and answers how many bytes that are, 0 for a number that is no refusal's.

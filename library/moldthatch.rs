@@ -805,6 +805,16 @@ impl Iterator for Faults<'_> {
     }
 }
 
+/// The SHA-256 of any bytes.
+pub fn sha256(bytes: &[u8]) -> [u8; 32] {
+    let mut out = [0; 32];
+    // SAFETY: as above. A buffer of this length is always long enough.
+    unsafe {
+        ffi::moldthatch_sha256(bytes.as_ptr(), bytes.len(), out.as_mut_ptr(), out.len());
+    }
+    out
+}
+
 /// A disk image (D64). Each call but [`Disk::format`] checks it first, and a refusal changes no byte of it. A name has 1 to 16
 /// bytes, none of them A0.
 pub struct Disk<B> {
@@ -1252,6 +1262,12 @@ mod ffi {
             out: *mut u8,
             out_length: usize,
         ) -> usize;
+        pub fn moldthatch_sha256(
+            bytes: *const u8,
+            bytes_length: usize,
+            out: *mut u8,
+            out_length: usize,
+        ) -> Code;
         pub fn moldthatch_sentence(
             number: u8,
             first: usize,

@@ -157,14 +157,25 @@ static void disks(void)
     pair("disk_check", moldthatch_disk_check(disk, sizeof disk));
 }
 
-/* What no caller in Rust can ask for: a number that names no dialect. */
+static void digests(void)
+{
+    uint8_t digest[MOLDTHATCH_SHA256_LENGTH];
+    size_t length = moldthatch_sha256(BYTES("abc"), digest, sizeof digest).first;
+    printf("sha256: ");
+    for (size_t i = 0; i < length; i++)
+        printf("%02x", digest[i]);
+    printf("\n");
+}
+
+/* What no caller in Rust can ask for: a number that names no dialect, and a digest in too short a buffer. */
 static int unknown(void)
 {
     moldthatch_crunch_options crunch = {0x0801, 4, 0, 0};
     moldthatch_list_options list = {4, 0, 0};
     moldthatch_place place = {MOLDTHATCH_BODY, 1, 2, 3};
     moldthatch_stretch stretch = moldthatch_list_stretch(BYTES(text), list, place, out, sizeof out);
-    return moldthatch_crunch_with(BYTES(text), crunch, out, sizeof out).number == 14
+    return moldthatch_sha256(BYTES(text), out, MOLDTHATCH_SHA256_LENGTH - 1).number == 6
+           && moldthatch_crunch_with(BYTES(text), crunch, out, sizeof out).number == 14
            && moldthatch_crunch_with_room(BYTES(text), crunch).number == 14
            && moldthatch_measured_line(BYTES(text), crunch, 1).code.number == 14
            && moldthatch_list_with(BYTES(text), list, out, sizeof out).number == 14
@@ -178,5 +189,6 @@ int main(void)
     texts();
     images();
     disks();
+    digests();
     return unknown() ? 0 : 1;
 }

@@ -211,8 +211,15 @@ fn disks() -> Result<(), Refusal> {
     Ok(())
 }
 
+fn digests() {
+    let digits: Vec<String> = sha256(b"abc").iter().map(|b| format!("{b:02x}")).collect();
+    println!("sha256: {}", digits.concat());
+}
+
 fn main() -> Result<(), Refusal> {
     texts();
     images()?;
-    disks()
+    disks()?;
+    digests();
+    Ok(())
 }

@@ -8,8 +8,8 @@ use native.Mathlib.Nat.{add-zero, add-suc, mul-add, mul-comm}
 use native.Mathlib.Numerals.{add-one}
 use lib.ListN.{length, take, drop, length-append, length-drop}
 use lib.Seq.{paste, take-append-le, drop-append-le, take-append-add, drop-append-add, take-paste, take-all, take-take, drop-drop, length-take-le}
-use Rattle.digest_sha256.specs.Sha256.{bigEndian, padding, padded, block, compressed, initial, hashed, wordsOf, digestOf}
-use Rattle.digest_sha256.specs.Pieces.{Holds, joined}
+use Rattle.digest_sha256.specs.Sha256.{bigEndian, padding, padded, block, compressed, initialHash, hashed, eightWords, digestOf}
+use Rattle.digest_sha256.specs.Pieces.{HoldsMessage, joinedPieces}
 use Rattle.digest_sha256.specs.StepHelpers.{Pads}
 use Rattle.digest_sha256.proofs.Bytes.{padding-same}
 use Rattle.digest_sha256.specs.declared.compress.Words.{Words}
@@ -28,7 +28,7 @@ unfolding hashed block
 hashed-split v l a zero = rw add-zero
 hashed-split v l a (suc b) = rw (add-suc, hashed-split v l a b, drop-drop (64 * b) (64 * a) l, mul-add 64 a b)
 
-module _ {s : State} {m : List ℕ} (g : Holds s m) (long : length (s .buffer) ≡ 64) (p : List ℕ) where
+module _ {s : State} {m : List ℕ} (g : HoldsMessage s m) (long : length (s .buffer) ≡ 64) (p : List ℕ) where
   held-same : length m % 64 ≡ s .length % 64
   held-same = omega (arith, g .count)
 
@@ -58,13 +58,13 @@ module _ {s : State} {m : List ℕ} (g : Holds s m) (long : length (s .buffer) �
 
   module _ {r : State} where
     pub kept-holds : r .words ≡ s .words → r .buffer ≡ paste (s .buffer) (s .length % 64) p (length p) → r .length ≡ (s .length + length p) % 2 ^ 64
-        → s .length % 64 + length p < 64 → Holds r (m ++ p)
+        → s .length % 64 + length p < 64 → HoldsMessage r (m ++ p)
     unfolding held
     kept-holds ws b c h =
         let n : length (m ++ p) / 64 ≡ length m / 64 = omega (arith, length-append m p, held-same) in
         let f : length (m ++ p) % 64 ≡ s .length % 64 + length p = omega (arith, length-append m p, held-same) in
         record {
-          hash = ws ∙ g .hash ∙ sym (ap (hashed initial (m ++ p)) n ∙ hashed-append initial m p (length m / 64) (omega arith));
+          hash = ws ∙ g .hash ∙ sym (ap (hashed initialHash (m ++ p)) n ∙ hashed-append initialHash m p (length m / 64) (omega arith));
           rest =
               rw (f, b, n, behind)
               (take-paste (s .buffer) (s .length % 64) p (length p) (omega arith) (omega arith) ∙ ap (λ (l : List ℕ). take (s .length % 64) (s .buffer) ++ l) (take-all (length p) p (omega arith)));
@@ -74,7 +74,7 @@ module _ {s : State} {m : List ℕ} (g : Holds s m) (long : length (s .buffer) �
     -- the block that was begun is filled from the piece, then come the whole blocks of its rest, and what is left is kept
     pub passed-holds : {full : List ℕ} {first : Words} → full ≡ paste (s .buffer) (s .length % 64) (take room p) (length (take room p))
         → first ≡ compressed (s .words) (take 64 full) → r .words ≡ hashed first rest (length rest / 64) → r .buffer ≡ paste full 0 tail (length tail)
-        → r .length ≡ (s .length + length p) % 2 ^ 64 → 64 ≤ s .length % 64 + length p → Holds r (m ++ p)
+        → r .length ≡ (s .length + length p) % 2 ^ 64 → 64 ≤ s .length % 64 + length p → HoldsMessage r (m ++ p)
     unfolding held hashed block
     passed-holds {full} {first} fe ce we be le h =
         let n : ℕ = length m / 64 in
@@ -91,8 +91,8 @@ module _ {s : State} {m : List ℕ} (g : Holds s m) (long : length (s .buffer) �
         ∙ ap (λ (l : List ℕ). held ++ l) (take-take room room p (omega arith)) in
         let block-is : take 64 (drop (64 * n) (m ++ p)) ≡ held ++ take room p =
         ap (take 64) behind ∙ ap (λ (j : ℕ). take j (held ++ p)) e64 ∙ take-append-add held p room in
-        let first-is : first ≡ hashed initial (m ++ p) (n + 1) =
-        ce ∙ ap₂ compressed (g .hash ∙ sym (hashed-append initial m p n (omega arith))) (full-is ∙ sym block-is) ∙ sym (ap (hashed initial (m ++ p)) (add-one n)) in
+        let first-is : first ≡ hashed initialHash (m ++ p) (n + 1) =
+        ce ∙ ap₂ compressed (g .hash ∙ sym (hashed-append initialHash m p n (omega arith))) (full-is ∙ sym block-is) ∙ sym (ap (hashed initialHash (m ++ p)) (add-one n)) in
         let rest-is : drop (64 * (n + 1)) (m ++ p) ≡ rest =
         ap (λ (j : ℕ). drop j (m ++ p)) (mul-add 64 n 1) ∙ sym (drop-drop 64 (64 * n) (m ++ p)) ∙ ap (drop 64) behind
         ∙ ap (λ (j : ℕ). drop j (held ++ p)) e64 ∙ drop-append-add held p room ∙ sym re in
@@ -101,8 +101,8 @@ module _ {s : State} {m : List ℕ} (g : Holds s m) (long : length (s .buffer) �
         let tl : length (m ++ p) % 64 ≡ 0 + length tail = omega (arith, length-append m p, held-same, rl, ap length te ∙ length-drop (64 * k) rest) in
         record {
           hash =
-              we ∙ ap₂ (λ (v : Words) (l : List ℕ). hashed v l k) first-is (sym rest-is) ∙ sym (hashed-split initial (m ++ p) (n + 1) k)
-              ∙ sym (ap (hashed initial (m ++ p)) blocks);
+              we ∙ ap₂ (λ (v : Words) (l : List ℕ). hashed v l k) first-is (sym rest-is) ∙ sym (hashed-split initialHash (m ++ p) (n + 1) k)
+              ∙ sym (ap (hashed initialHash (m ++ p)) blocks);
           rest =
               ap₂ take tl be ∙ take-paste full 0 tail (length tail) (omega arith) (omega arith) ∙ take-all (length tail) tail (omega arith)
               ∙ te ∙ ap (drop (64 * k)) (sym rest-is) ∙ drop-drop (64 * k) (64 * (n + 1)) (m ++ p) ∙ ap (λ (j : ℕ). drop j (m ++ p)) whole;
@@ -110,21 +110,21 @@ module _ {s : State} {m : List ℕ} (g : Holds s m) (long : length (s .buffer) �
         }
 
 -- the padding is the last piece
-pub finished : {s done : State} {m bytes r : List ℕ} {count : ℕ} → Holds s m → Pads bytes count (s .length)
-    → ((k : List ℕ) → Holds s k → Holds done (k ++ take count bytes)) → r ≡ flatMap (bigEndian 4) (wordsOf (done .words)) → r ≡ digestOf m
+pub finished : {s done : State} {m bytes r : List ℕ} {count : ℕ} → HoldsMessage s m → Pads bytes count (s .length)
+    → ((k : List ℕ) → HoldsMessage s k → HoldsMessage done (k ++ take count bytes)) → r ≡ flatMap (bigEndian 4) (eightWords (done .words)) → r ≡ digestOf m
 unfolding digestOf padded
 finished {s} {done} {m} {bytes} {r} {count} g p add e =
     let last : take count bytes ≡ padding (length m) = p .pads ∙ ap padding (g .count) ∙ padding-same (length m) in
-    e ∙ ap (λ (v : Words). flatMap (bigEndian 4) (wordsOf v)) ((rw last at (add m g)) .hash)
+    e ∙ ap (λ (v : Words). flatMap (bigEndian 4) (eightWords v)) ((rw last at (add m g)) .hash)
 
 -- what `add` promises of each piece in turn, and `finish` of the end: the result is the digest of the pieces joined
 abbrev pub AddsAll : State → List (List ℕ) → State → Type 0
 AddsAll s [] t = s ≡ t
-AddsAll s (p ∷ ps) t = (u : State) × (((m : List ℕ) → Holds s m → Holds u (m ++ p)) × AddsAll u ps t)
+AddsAll s (p ∷ ps) t = (u : State) × (((m : List ℕ) → HoldsMessage s m → HoldsMessage u (m ++ p)) × AddsAll u ps t)
 
-pieces-held : (s t : State) (ps : List (List ℕ)) (m : List ℕ) → AddsAll s ps t → Holds s m → Holds t (m ++ joined ps)
+pieces-held : (s t : State) (ps : List (List ℕ)) (m : List ℕ) → AddsAll s ps t → HoldsMessage s m → HoldsMessage t (m ++ joinedPieces ps)
 pieces-held s t [] m e g = rw append-nil (rw e at g)
 pieces-held s t (p ∷ ps) m (u, (step, on)) g = rw append-assoc at (pieces-held u t ps (m ++ p) on (step m g))
 
-pub pieces-joined : (s t : State) (ps : List (List ℕ)) {r : List ℕ} → Holds s [] → AddsAll s ps t → ((m : List ℕ) → Holds t m → r ≡ digestOf m) → r ≡ digestOf (joined ps)
-pieces-joined s t ps g all finish = finish (joined ps) (pieces-held s t ps [] all g)
+pub pieces-joined : (s t : State) (ps : List (List ℕ)) {r : List ℕ} → HoldsMessage s [] → AddsAll s ps t → ((m : List ℕ) → HoldsMessage t m → r ≡ digestOf m) → r ≡ digestOf (joinedPieces ps)
+pieces-joined s t ps g all finish = finish (joinedPieces ps) (pieces-held s t ps [] all g)

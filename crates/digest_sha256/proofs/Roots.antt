@@ -4,7 +4,7 @@ use Prim.Native.Nat.{ℕ}
 use mathlib.Core.Path.{_≡_, refl}
 use mathlib.Core.List.{List, [], _∷_}
 use Rattle.digest_sha256.specs.Constants.{divided, primesBelow, root, fraction, constants, initials}
-use Rattle.digest_sha256.specs.Sha256.{initial}
+use Rattle.digest_sha256.specs.Sha256.{initialHash}
 use Rattle.digest_sha256.specs.declared.compress.Words.{Words}
 
 -- the 64 words of 4.2.2
@@ -25,6 +25,6 @@ unfolding constants primesBelow divided fraction root
 table-right = refl
 
 -- the eight words of 5.3.3
-pub initial-right : _≡_ {A = Words} (record { a = 0x6a09_e667; b = 0xbb67_ae85; c = 0x3c6e_f372; d = 0xa54f_f53a; e = 0x510e_527f; f = 0x9b05_688c; g = 0x1f83_d9ab; h = 0x5be0_cd19 }) initial
-unfolding initial initials primesBelow divided fraction root
+pub initial-right : _≡_ {A = Words} (record { a = 0x6a09_e667; b = 0xbb67_ae85; c = 0x3c6e_f372; d = 0xa54f_f53a; e = 0x510e_527f; f = 0x9b05_688c; g = 0x1f83_d9ab; h = 0x5be0_cd19 }) initialHash
+unfolding initialHash initials primesBelow divided fraction root
 initial-right = refl

@@ -10,12 +10,12 @@ use borrow.Author.Tests.{lt-ltb, le-ltb}
 use lib.Dec.{ltb}
 use lib.ListN.{length, take, set, replicate, length-set, length-append}
 use lib.Seq.{take-suc-set, take-all, getD-take}
-use Rattle.digest_sha256.specs.Sha256.{wordAt, nextWord, scheduled}
+use Rattle.digest_sha256.specs.Sha256.{blockWord, nextWord, scheduled}
 use Rattle.digest_sha256.specs.StepHelpers.{Filled}
 
 -- both read only what stands before the place
-word-within : (l : List ℕ) (t : ℕ) → t < 16 → wordAt (take 64 l) t ≡ wordAt l t
-unfolding wordAt
+word-within : (l : List ℕ) (t : ℕ) → t < 16 → blockWord (take 64 l) t ≡ blockWord l t
+unfolding blockWord
 word-within l t h = rw (getD-take 64 l (4 * t) 0 (omega arith), getD-take 64 l (4 * t + 1) 0 (omega arith), getD-take 64 l (4 * t + 2) 0 (omega arith), getD-take 64 l (4 * t + 3) 0 (omega arith))
 
 next-within : (w : List ℕ) (t : ℕ) → 16 ≤ t → nextWord (take t w) t ≡ nextWord w t
@@ -23,7 +23,7 @@ unfolding nextWord
 next-within w t h = rw (getD-take t w (t - 2) 0 (omega arith), getD-take t w (t - 7) 0 (omega arith), getD-take t w (t - 15) 0 (omega arith), getD-take t w (t - 16) 0 (omega arith))
 
 module _ {b w : List ℕ} {t x : ℕ} (f : Filled b t w) where
-  one-more : t < 64 → x ≡ cond (ltb t 16) (wordAt b t) (nextWord (scheduled b t) t) → Filled b (t + 1) (set w t x)
+  one-more : t < 64 → x ≡ cond (ltb t 16) (blockWord b t) (nextWord (scheduled b t) t) → Filled b (t + 1) (set w t x)
   unfolding scheduled
   one-more h e =
       record {
@@ -34,7 +34,7 @@ module _ {b w : List ℕ} {t x : ℕ} (f : Filled b t w) where
   pub next-filled : x ≡ nextWord w t → 16 ≤ t → t < 64 → Filled b (t + 1) (set w t x)
   next-filled e low high = one-more high (rw (le-ltb _ _ low, ← f .filled, next-within w t low) e)
 
-pub word-filled : (l : List ℕ) {w : List ℕ} {t x : ℕ} → Filled (take 64 l) t w → x ≡ wordAt l t → t < 16 → Filled (take 64 l) (t + 1) (set w t x)
+pub word-filled : (l : List ℕ) {w : List ℕ} {t x : ℕ} → Filled (take 64 l) t w → x ≡ blockWord l t → t < 16 → Filled (take 64 l) (t + 1) (set w t x)
 word-filled l {w} {t} f e h = one-more f (omega arith) (rw (lt-ltb _ _ h, word-within l t h) e)
 
 pub none-filled : (b : List ℕ) → Filled b 0 (replicate 64 0)

@@ -11,5 +11,5 @@ hexDigit n = cond (ltb n 10) (48 + n) (87 + n)
 abbrev pub hexPair : ℕ → List ℕ
 hexPair b = hexDigit (b / 16) ∷ hexDigit (b % 16) ∷ []
 
-abbrev pub hexOf : List ℕ → List ℕ
-hexOf = flatMap hexPair
+abbrev pub hexText : List ℕ → List ℕ
+hexText = flatMap hexPair

@@ -58,8 +58,8 @@ padded m = m ++ padding (length m)
 unfoldable pub block : List ℕ → ℕ → List ℕ
 block m i = take 64 (drop (64 * i) m)
 
-unfoldable pub wordAt : List ℕ → ℕ → ℕ
-wordAt b t = ((getD b (4 * t) 0 * 256 + getD b (4 * t + 1) 0) * 256 + getD b (4 * t + 2) 0) * 256 + getD b (4 * t + 3) 0
+unfoldable pub blockWord : List ℕ → ℕ → ℕ
+blockWord b t = ((getD b (4 * t) 0 * 256 + getD b (4 * t + 1) 0) * 256 + getD b (4 * t + 2) 0) * 256 + getD b (4 * t + 3) 0
 
 -- 6.2.2, 1: the message schedule's word t, from the sixteenth on, by those before it; its first t words
 unfoldable pub nextWord : List ℕ → ℕ → ℕ
@@ -67,7 +67,7 @@ nextWord w t = σ₁ (getD w (t - 2) 0) ⊞ getD w (t - 7) 0 ⊞ σ₀ (getD w (
 
 unfoldable pub scheduled : List ℕ → ℕ → List ℕ
 scheduled b zero = []
-scheduled b (suc t) = let w = scheduled b t in w ++ (cond (ltb t 16) (wordAt b t) (nextWord w t) ∷ [])
+scheduled b (suc t) = let w = scheduled b t in w ++ (cond (ltb t 16) (blockWord b t) (nextWord w t) ∷ [])
 
 -- 6.2.2, 3: one turn with the constant k and the schedule's word w
 unfoldable pub turned : Words → ℕ → ℕ → Words
@@ -82,8 +82,8 @@ afterTurns w v zero = v
 afterTurns w v (suc t) = turned (afterTurns w v t) (getD constants t 0) (getD w t 0)
 
 -- 6.2.2, 4
-unfoldable pub added : Words → Words → Words
-added v u =
+unfoldable pub addedWords : Words → Words → Words
+addedWords v u =
     record {
       a = u .a ⊞ v .a;
       b = u .b ⊞ v .b;
@@ -96,11 +96,11 @@ added v u =
     }
 
 unfoldable pub compressed : Words → List ℕ → Words
-compressed v b = added v (afterTurns (scheduled b 64) v 64)
+compressed v b = addedWords v (afterTurns (scheduled b 64) v 64)
 
 -- 5.3.3
-unfoldable pub initial : Words
-initial =
+unfoldable pub initialHash : Words
+initialHash =
     record {
       a = getD initials 0 0;
       b = getD initials 1 0;
@@ -118,8 +118,8 @@ hashed v m zero = v
 hashed v m (suc n) = compressed (hashed v m n) (block m n)
 
 -- the eight words, one behind the other, and their 32 bytes
-abbrev pub wordsOf : Words → List ℕ
-wordsOf v = v .a ∷ v .b ∷ v .c ∷ v .d ∷ v .e ∷ v .f ∷ v .g ∷ v .h ∷ []
+abbrev pub eightWords : Words → List ℕ
+eightWords v = v .a ∷ v .b ∷ v .c ∷ v .d ∷ v .e ∷ v .f ∷ v .g ∷ v .h ∷ []
 
 unfoldable pub digestOf : List ℕ → List ℕ
-digestOf m = flatMap (bigEndian 4) (wordsOf (hashed initial (padded m) (length (padded m) / 64)))
+digestOf m = flatMap (bigEndian 4) (eightWords (hashed initialHash (padded m) (length (padded m) / 64)))

@@ -3,7 +3,7 @@ use std::num::wrapping_add_u32;
 ghost use mathlib.Core.Path.{_≡_};
 ghost use Prim.Native.Nat.{_/_, _≤_, _<_};
 ghost use lib.ListN.{length, getD, take};
-ghost use Rattle.digest_sha256.specs.Sha256.{Ch, Maj, Σ₀, Σ₁, σ₀, σ₁, wordAt, nextWord, scheduled, turned, afterTurns, added, compressed, initial, hashed};
+ghost use Rattle.digest_sha256.specs.Sha256.{Ch, Maj, Σ₀, Σ₁, σ₀, σ₁, blockWord, nextWord, scheduled, turned, afterTurns, addedWords, compressed, initialHash, hashed};
 ghost use Rattle.digest_sha256.specs.StepHelpers.{Filled, turnsFrom};
 
 // Eight words: a hash value, and the working variables.
@@ -88,7 +88,7 @@ const CONSTANTS: [u32; 64] = [
 
 // The hash value before the first block (5.3.3).
 pub fn initial() -> Words
-    ensures { λ r. ⌜ r ≡ initial ⌝ }
+    ensures { λ r. ⌜ r ≡ initialHash ⌝ }
 {
     Words {
         a: 0x6a09_e667,
@@ -149,7 +149,7 @@ fn wide(x: u8) -> u32
 // Word t of a block.
 fn word_at(block: &[u8], t: usize) -> u32
     requires { ⌜ (t < 16) × (64 ≤ length (now block)) ⌝ }
-    ensures { λ r. ⌜ r ≡ wordAt (now (block .entry)) t ⌝ }
+    ensures { λ r. ⌜ r ≡ blockWord (now (block .entry)) t ⌝ }
 {
     let at = 4 * t;
     ((wide(block[at]) * 256 + wide(block[at + 1])) * 256 + wide(block[at + 2])) * 256
@@ -245,7 +245,7 @@ fn turns(v: Words, w: &[u32; 64]) -> Words
 
 // Word by word.
 fn plus(v: Words, u: Words) -> Words
-    ensures { λ r. ⌜ r ≡ added v u ⌝ }
+    ensures { λ r. ⌜ r ≡ addedWords v u ⌝ }
 {
     Words {
         a: wrapping_add_u32(u.a, v.a),

@@ -21,6 +21,7 @@ ghost use Rattle.moldthatch.specs.Told.{toldCode};
 
 pub mod counts;
 pub mod dialects;
+pub mod digests;
 pub mod disks;
 pub mod fault_calls;
 pub mod indexes;
