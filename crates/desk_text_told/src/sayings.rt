@@ -1,7 +1,6 @@
 // What is told of a text: a line for each sentence, with a % where a part of the text goes.
 use base_ascii::search;
 use base_ascii::search::Kind;
-use say_sentences::put;
 
 pub const TOO_HIGH: usize = 0;
 
@@ -148,5 +147,5 @@ pub fn add(line: &mut [u8], at: usize, text: &[u8]) -> usize {
     if at > line.len() {
         return at;
     }
-    put::put_text(line, at, text)
+    say_put::put_text(line, at, text)
 }

@@ -6,12 +6,12 @@ use disk_check::look;
 use disk_entries::name_at;
 use disk_entries::trace_entry;
 use disk_names::put_name;
-use say_sentences::put::put_decimal;
-use say_sentences::put::put_text;
+use say_put::put_decimal;
+use say_put::put_text;
 ghost use mathlib.Core.Path.{_≡_};
 ghost use Prim.Native.Nat.{_+_, _≤_};
 ghost use lib.ListN.{length};
-ghost use Rattle.say_sentences.specs.Clipped.{Clipped};
+ghost use Rattle.say_put.specs.Clipped.{Clipped};
 ghost use Rattle.disk_entries.specs.EntryHelpers.{Entries};
 ghost use Rattle.disk_directory.specs.Listing.{fileLine, fileLines, freeLine, Shows};
 
