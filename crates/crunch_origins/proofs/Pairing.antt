@@ -15,8 +15,8 @@ use Rattle.text_lines.specs.SplitHelpers.{lineFrom}
 use Rattle.text_lines.specs.TextLines.{textLines}
 use Rattle.text_lines.proofs.Blanks.{blank-trimmed}
 use Rattle.text_lines.proofs.Splitting.{line-step, line-behind, lines-end}
-use Rattle.say_sentences.specs.Clipped.{Clipped}
-use Rattle.say_sentences.proofs.Clipping.{Owes, owes-all, owes-less, owes-none, clip-as, clip-none}
+use Rattle.say_put.specs.Clipped.{Clipped}
+use Rattle.say_put.proofs.Clipping.{Owes, owes-all, owes-less, owes-none, clip-as, clip-none}
 use Rattle.crunch_rules.specs.Measured.{unlessBlank, nonblankFrom, nonblankLines}
 
 -- ---- one line

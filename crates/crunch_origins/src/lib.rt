@@ -3,7 +3,7 @@ use text_lines::LineRule;
 ghost use Prim.Native.Nat.{_≤_};
 ghost use lib.ListN.{length};
 ghost use Rattle.base_ascii.specs.Trim.{trim as trimOf};
-ghost use Rattle.say_sentences.specs.Clipped.{Clipped};
+ghost use Rattle.say_put.specs.Clipped.{Clipped};
 ghost use Rattle.crunch_rules.specs.Measured.{unlessBlank, nonblankLines};
 
 // Stores a text line's number from a place on, unless the line is blank or there is no room, and answers the place behind it.

@@ -8,7 +8,7 @@ use base_refusals::Refusal;
 use disk_check::look;
 use disk_entries::name_at;
 use disk_names::put_name;
-use say_sentences::put::put_text;
+use say_put::put_text;
 ghost use mathlib.Core.Path.{_≡_};
 ghost use Prim.Native.Nat.{_+_, _≤_};
 ghost use lib.ListN.{length};

@@ -7,7 +7,7 @@ use lib.ListN.{length, take}
 use Rattle.io.proofs.Counting.{counts}
 use Rattle.base_lent.specs.declared.Outcome.{Outcome}
 use Rattle.base_lent.specs.declared.Outcome.the-variants.{Done, Refused}
-use Rattle.say_sentences.proofs.Clipping.{clip-within}
+use Rattle.say_put.proofs.Clipping.{clip-within}
 use Rattle.disk_directory.specs.Listing.{Shows}
 use Rattle.desk.specs.ResultHelpers.{Holds}
 

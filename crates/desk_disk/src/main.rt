@@ -10,8 +10,8 @@ use desk::output;
 use desk_inputs::Input;
 use disk_rules::Changed;
 use disk_rules::DiskCheck;
-use say_sentences::put::put_decimal;
-use say_sentences::put::put_text;
+use say_put::put_decimal;
+use say_put::put_text;
 ghost use Prim.Native.Nat.{_≤_};
 ghost use lib.ListN.{length};
 

@@ -1,5 +1,5 @@
 // A line by its number: where it stands, how far it was looked for, and its listing.
-use crate::rows::put_told;
+use base_lent::Outcome;
 use desk::names;
 use desk::output;
 use image_find::Sought;
@@ -8,7 +8,6 @@ use image_readers::Line;
 use libc::STDERR_FILENO;
 use libc::STDOUT_FILENO;
 use list_options::ListOptions;
-use say_sentences::put::put_text;
 use word_dialects::Dialect;
 ghost use Prim.Native.Nat.{_≤_};
 ghost use lib.ListN.{length};
@@ -18,8 +17,8 @@ const STATUS_FILENO: i32 = 3;
 
 const NOT_THERE: u8 = b'1';
 
-// What the original lists.
-fn original() -> ListOptions {
+// As `list --links` lists.
+fn as_linked() -> ListOptions {
     ListOptions {
         dialect: Dialect::Auto,
         remarks: false,
@@ -27,37 +26,9 @@ fn original() -> ListOptions {
     }
 }
 
-fn write_first(fd: i32, buf: &[u8], count: usize) -> bool
-    requires { ⌜ count ≤ length (now buf) ⌝ }
-{
-    io::write_all(fd, &buf[0..count])
-}
-
-// The end of a row: how many line headers were visited.
-fn put_visited(out: &mut [u8], at: usize, visited: usize) -> usize
-    requires { ⌜ at ≤ length (now out) ⌝ }
-    ensures { λ r. ⌜ r ≤ length (now (out .exit)) ⌝ }
-{
-    let to = put_told(out, at, b", headers visited ", visited);
-    put_text(out, to, b"\n")
-}
-
-fn put_head(out: &mut [u8], line: Line, visited: usize) -> usize
-    ensures { λ r. ⌜ r ≤ length (now (out .exit)) ⌝ }
-{
-    let address = put_told(out, 0, b"address ", line.address);
-    let link = put_told(out, address, b", link ", line.link as usize);
-    put_visited(out, link, visited)
-}
-
-fn write_head(line: Line, visited: usize) -> bool {
-    let mut out = [0u8; 128];
-    let end = put_head(&mut out, line, visited);
-    write_first(STDOUT_FILENO, &out, end)
-}
-
-fn write_found(image: &[u8], line: Line, visited: usize) -> bool {
-    if !write_head(line, visited) {
+// Writes the row of a line, and its listing.
+fn write_found(row: &[u8], image: &[u8], line: Line) -> bool {
+    if !io::write_all(STDOUT_FILENO, row) {
         os::fail(b"standard output");
         return false;
     }
@@ -67,24 +38,28 @@ fn write_found(image: &[u8], line: Line, visited: usize) -> bool {
         b"",
         line.number,
         image_find::body(image, line),
-        original(),
+        as_linked(),
         &mut out,
     )
 }
 
-fn put_missing(out: &mut [u8], name: &[u8], number: u16, visited: usize) -> usize
-    ensures { λ r. ⌜ r ≤ length (now (out .exit)) ⌝ }
-{
-    let colon = put_text(out, 0, name);
-    let comma = put_told(out, colon, b": no line ", number as usize);
-    put_visited(out, comma, visited)
+fn show_found(image: &[u8], line: Line, visited: usize) {
+    let mut row = [0u8; 128];
+    match image_rows::lend_found(line, visited, &mut row) {
+        Outcome::Done(n) => output::done(write_found(&row[0..n], image, line)),
+        Outcome::Refused(refusal) => output::refuse(refusal, b""),
+    }
 }
 
 // Says on standard error that no line has the number.
-fn tell_missing(name: &[u8], number: u16, visited: usize) -> bool {
-    let mut out = [0u8; 4352];
-    let end = put_missing(&mut out, name, number, visited);
-    write_first(STDERR_FILENO, &out, end)
+fn tell_missing(name: &[u8], number: u16, visited: usize) -> bool
+    requires { ⌜ length (now name) ≤ 4352 ⌝ }
+{
+    let mut row = [0u8; 4608];
+    match image_rows::lend_missing(name, number, visited, &mut row) {
+        Outcome::Done(n) => io::write_all(STDERR_FILENO, &row[0..n]),
+        Outcome::Refused(refusal) => output::tell(name, refusal),
+    }
 }
 
 // The same of what was read.
@@ -109,7 +84,7 @@ fn miss(number: u16, visited: usize) {
 pub fn find(image: &[u8], number: u16) {
     // No image has as many lines as bytes: the limit is not reached.
     match image_find::find_line(image, number, image.len()) {
-        Sought::Found { visited, line } => output::done(write_found(image, line, visited)),
+        Sought::Found { visited, line } => show_found(image, line, visited),
         Sought::Nowhere { visited } => miss(number, visited),
         Sought::LimitReached => output::fail(),
         Sought::Refused(refusal) => output::refuse(refusal, b""),

@@ -3,7 +3,6 @@
 mod finding;
 mod places;
 mod references;
-mod rows;
 
 use base_refusals::Refusal;
 use desk::input;

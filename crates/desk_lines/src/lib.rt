@@ -1,11 +1,35 @@
-// Listed lines, written one after the other, a long one in stretches. No contract can say what is written: the bytes are those that
+// How an image is listed, and its listed lines, written one after the other, a long one in stretches. No contract can say what is written: the bytes are those that
 // `list_stretches` promises.
+use desk::names;
 use desk::result;
+use image_readers::By;
 use image_readers::Step;
 use list_options::ListOptions;
 use list_stretches::Place;
+use word_dialects::Dialect;
 ghost use Prim.Native.Nat.{_≤_};
 ghost use lib.ListN.{length};
+
+// Where the words stand that say how an image is listed: the dialect's word, and two flags behind it.
+pub const DIALECT: usize = names::WORDS;
+
+const REMARKS: usize = names::WORDS + 1;
+
+const LINKS: usize = names::WORDS + 2;
+
+// What the flags ask for; without any, what the original lists.
+pub fn asked(dialect: Dialect) -> ListOptions {
+    let by = if desk_options::is_set(LINKS) {
+        By::Links
+    } else {
+        By::Terminators
+    };
+    ListOptions {
+        dialect,
+        remarks: desk_options::is_set(REMARKS),
+        by,
+    }
+}
 
 // Writes the first bytes of a buffer.
 fn write_first(fd: i32, name: &[u8], buf: &[u8], count: usize) -> bool

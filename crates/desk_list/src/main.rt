@@ -10,16 +10,8 @@ use desk::output;
 use desk::result;
 use desk_inputs::Input;
 use desk_options::AskedDialect;
-use image_readers::By;
 use image_readers::Checked;
 use list_options::ListOptions;
-use word_dialects::Dialect;
-
-const DIALECT: usize = names::WORDS;
-
-const REMARKS: usize = names::WORDS + 1;
-
-const LINKS: usize = names::WORDS + 2;
 
 // The first of the files.
 const FILES: usize = names::WORDS + 3;
@@ -104,23 +96,9 @@ fn list_all(options: ListOptions) {
     io::write_all(STATUS_FILENO, &[status]);
 }
 
-// What the flags ask for; without any, what the original lists.
-fn list_options(dialect: Dialect) -> ListOptions {
-    let by = if desk_options::is_set(LINKS) {
-        By::Links
-    } else {
-        By::Terminators
-    };
-    ListOptions {
-        dialect,
-        remarks: desk_options::is_set(REMARKS),
-        by,
-    }
-}
-
 fn main() {
-    match desk_options::dialect(DIALECT) {
-        AskedDialect::Known(dialect) => list_all(list_options(dialect)),
+    match desk_options::dialect(desk_lines::DIALECT) {
+        AskedDialect::Known(dialect) => list_all(desk_lines::asked(dialect)),
         AskedDialect::Ended => {}
     }
 }

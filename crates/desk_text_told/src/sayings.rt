@@ -1,7 +1,9 @@
 // What is told of a text: a line for each sentence, with a % where a part of the text goes.
 use base_ascii::search;
 use base_ascii::search::Kind;
-use say_sentences::put;
+ghost use mathlib.Core.Path.{_≡_};
+ghost use Prim.Native.Nat.{_+_, _-_, min};
+ghost use lib.ListN.{take, drop};
 
 pub const TOO_HIGH: usize = 0;
 
@@ -89,25 +91,30 @@ const SENTENCES: [u8; 1142] = *b"\
     , column %\n\
     : dialect basicv2: no line decides for tsb\n";
 
-// A sum of places in a text, which are never as large as this.
-pub fn sum(a: usize, b: usize) -> usize {
-    if b > 2097152 {
-        return a;
-    }
-    if a > 2097152 {
-        return a;
+// A sum, or the largest number where it is larger.
+pub fn sum(a: usize, b: usize) -> usize
+    ensures { λ r. ⌜ r ≡ min (a + b) 18446744073709551615 ⌝ }
+{
+    if a > usize::MAX - b {
+        return usize::MAX;
     }
     a + b
 }
 
-// The part of some bytes from a place up to another; none where they are not there.
-pub fn cut(s: &[u8], from: usize, to: usize) -> &[u8] {
-    if from <= to {
-        if to <= s.len() {
-            return &s[from..to];
-        }
+// The part of some bytes from a place up to another, as much of it as there is.
+pub fn cut(s: &[u8], from: usize, to: usize) -> &[u8]
+    ensures { λ r. ⌜ now r ≡ take (to - from) (drop from (now (s .entry))) ⌝ }
+{
+    if s.len() <= from {
+        return &s[..0];
     }
-    &s[..0]
+    if to <= from {
+        return &s[..0];
+    }
+    if s.len() <= to {
+        return &s[from..];
+    }
+    &s[from..to]
 }
 
 // Where the line with this number begins, counted from 0.
@@ -148,5 +155,5 @@ pub fn add(line: &mut [u8], at: usize, text: &[u8]) -> usize {
     if at > line.len() {
         return at;
     }
-    put::put_text(line, at, text)
+    say_put::put_text(line, at, text)
 }

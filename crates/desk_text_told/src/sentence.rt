@@ -5,7 +5,6 @@ use base_refusals::Refusal;
 use desk::result;
 use libc::STDERR_FILENO;
 use libc::STDOUT_FILENO;
-use say_sentences::put;
 use text_places::Place;
 
 // What was found so far: whether a release would refuse the text, whether a line could not be written, and whether lines are to be
@@ -20,7 +19,7 @@ fn add_number(line: &mut [u8], at: usize, n: usize) -> usize {
     if at > line.len() {
         return at;
     }
-    put::put_decimal(line, at, n)
+    say_put::put_decimal(line, at, n)
 }
 
 // The name of a file and the place in it.

@@ -12,8 +12,8 @@ use Rattle.base_refusals.specs.declared.Refusal.the-variants.{BadDisk}
 use Rattle.word_search.specs.Spelling.{bytesOf}
 use Rattle.base_ascii.proofs.Searching.{here}
 use Rattle.base_steps.specs.Decimal.{decimal}
-use Rattle.say_sentences.specs.Clipped.{Clipped}
-use Rattle.say_sentences.proofs.Clipping.{Owes, owes-all, owes-less, owes-none, clip-as, clip-both}
+use Rattle.say_put.specs.Clipped.{Clipped}
+use Rattle.say_put.proofs.Clipping.{Owes, owes-all, owes-less, owes-none, clip-as, clip-both}
 use Rattle.disk_rules.specs.Lists.{isIn}
 use Rattle.disk_rules.specs.Chains.{Chain}
 use Rattle.disk_rules.specs.Entries.{listed, nameAt, chainOf}

@@ -12,7 +12,7 @@ use Rattle.base_lent.specs.declared.Outcome.{Outcome}
 use Rattle.base_lent.specs.declared.Outcome.the-variants.{Done, Refused}
 use Rattle.word_search.specs.Spelling.{bytesOf}
 use Rattle.base_steps.specs.Decimal.{decimal}
-use Rattle.say_sentences.specs.Clipped.{Clipped}
+use Rattle.say_put.specs.Clipped.{Clipped}
 use Rattle.disk_rules.specs.Entries.{listed, nameAt, chainOf}
 use Rattle.disk_rules.specs.Free.{freeSectors}
 use Rattle.disk_rules.specs.Check.{sound}

@@ -14,8 +14,8 @@ use Rattle.base_ascii.specs.Bytes.{between}
 use Rattle.base_ascii.proofs.Searching.{here}
 use Rattle.list_bytes.specs.ByteTexts.{hexDigits, hexByte}
 use Rattle.list_bytes.proofs.ByteTexts.{hex-digits}
-use Rattle.say_sentences.specs.Clipped.{Clipped}
-use Rattle.say_sentences.proofs.Clipping.{Owes, owes-all, owes-less, owes-none, clip-as}
+use Rattle.say_put.specs.Clipped.{Clipped}
+use Rattle.say_put.proofs.Clipping.{Owes, owes-all, owes-less, owes-none, clip-as}
 use Rattle.disk_names.specs.Names.{isShown, byteShown, nameShown}
 
 -- ---- a byte

@@ -3,13 +3,13 @@ use base_ascii::search;
 use base_ascii::search::Found;
 use base_ascii::search::Kind;
 use list_bytes::hex_digit;
-use say_sentences::put::put_text;
+use say_put::put_text;
 ghost use mathlib.Core.Path.{_≡_};
-ghost use Prim.Native.Nat.{_+_, _≤_, _<_};
-ghost use lib.ListN.{length, drop};
-ghost use Rattle.say_sentences.specs.Clipped.{Clipped};
+ghost use Prim.Native.Nat.{_≤_};
+ghost use lib.ListN.{length};
+ghost use Rattle.say_put.specs.Clipped.{Clipped};
 ghost use Rattle.disk_names.specs.Names.{digitValue, byteForm, characterByte, nameGiven, isShown, byteShown, nameShown};
-ghost use Rattle.disk_names.specs.Words.{behindLast, beforeLast, givenFile, givenText};
+ghost use Rattle.disk_names.specs.Words.{givenFile, givenText};
 
 // What a text begins with: two hex digits between braces, or something else.
 pub enum Form {
@@ -121,40 +121,11 @@ pub fn put_name(out: &mut [u8], at: usize, name: &[u8]) -> usize
     to
 }
 
-// What stands behind a place.
-fn behind(word: &[u8], n: usize) -> &[u8]
-    requires { ⌜ n < length (now word) ⌝ }
-    ensures { λ r. ⌜ now r ≡ drop (n + 1) (now (word .entry)) ⌝ }
-{
-    let from = n + 1;
-    &word[from..]
-}
-
-// What stands behind a word's last mark, or the word where it has none.
-fn behind_last(word: &[u8], mark: u8) -> &[u8]
-    ensures { λ r. ⌜ now r ≡ behindLast mark (now (word .entry)) ⌝ }
-{
-    match search::last(word, Kind::Is(mark)) {
-        Found::At(n) => behind(word, n),
-        Found::Nowhere => word,
-    }
-}
-
-// The same of what stands before it.
-fn before_last(word: &[u8], mark: u8) -> &[u8]
-    ensures { λ r. ⌜ now r ≡ beforeLast mark (now (word .entry)) ⌝ }
-{
-    match search::last(word, Kind::Is(mark)) {
-        Found::At(n) => &word[..n],
-        Found::Nowhere => word,
-    }
-}
-
 // The file that a word FILE=NAME or FILE names.
 pub fn file_of(word: &[u8]) -> &[u8]
     ensures { λ r. ⌜ now r ≡ givenFile (now (word .entry)) ⌝ }
 {
-    before_last(word, b'=')
+    say_names::before_last(word, b'=')
 }
 
 // The text of the name that it is to have on the disk.
@@ -162,7 +133,7 @@ pub fn text_of(word: &[u8]) -> &[u8]
     ensures { λ r. ⌜ now r ≡ givenText (now (word .entry)) ⌝ }
 {
     match search::last(word, Kind::Is(b'=')) {
-        Found::At(n) => behind(word, n),
-        Found::Nowhere => before_last(behind_last(word, b'/'), b'.'),
+        Found::At(n) => say_names::behind(word, n),
+        Found::Nowhere => say_names::plain_name(word),
     }
 }

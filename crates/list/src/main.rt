@@ -2,21 +2,12 @@
 // stretches. Behind the names ./moldthatch puts the dialect's word and two flags: remarks as text, and the reader by links.
 use base_refusals::Refusal;
 use desk::input;
-use desk::names;
 use desk::output;
 use desk::result;
 use desk_inputs::Input;
 use desk_options::AskedDialect;
-use image_readers::By;
 use image_readers::Checked;
 use list_options::ListOptions;
-use word_dialects::Dialect;
-
-const DIALECT: usize = names::WORDS;
-
-const REMARKS: usize = names::WORDS + 1;
-
-const LINKS: usize = names::WORDS + 2;
 
 fn write_listing(image: &[u8], options: ListOptions) -> bool {
     let mut name = io::buffer();
@@ -48,23 +39,9 @@ fn list_given(options: ListOptions) {
     }
 }
 
-// What the flags ask for; without any, what the original lists.
-fn list_options(dialect: Dialect) -> ListOptions {
-    let by = if desk_options::is_set(LINKS) {
-        By::Links
-    } else {
-        By::Terminators
-    };
-    ListOptions {
-        dialect,
-        remarks: desk_options::is_set(REMARKS),
-        by,
-    }
-}
-
 fn main() {
-    match desk_options::dialect(DIALECT) {
-        AskedDialect::Known(dialect) => list_given(list_options(dialect)),
+    match desk_options::dialect(desk_lines::DIALECT) {
+        AskedDialect::Known(dialect) => list_given(desk_lines::asked(dialect)),
         AskedDialect::Ended => {}
     }
 }

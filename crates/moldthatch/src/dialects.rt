@@ -12,7 +12,7 @@ ghost use Rattle.word_dialects.specs.Dialects.{byNumber, named as dialectNamed,
 ghost use Rattle.guess.specs.Guess.{resolvedAnswer};
 ghost use Rattle.word_tables.specs.Tsb.{isTsbWord};
 ghost use Rattle.escape_bytes.specs.Escape.{escapeOf};
-ghost use Rattle.say_sentences.specs.Clipped.{Clipped};
+ghost use Rattle.say_put.specs.Clipped.{Clipped};
 ghost use Rattle.crunch_rules.specs.Measured.{nonblankLines};
 ghost use Rattle.moldthatch.specs.Given.{resolvedBy};
 ghost use Rattle.moldthatch.specs.ToldDialects.{dialectCode, loadCode, escapeCode};

@@ -5,7 +5,7 @@ use disk_rules::DiskCheck;
 ghost use mathlib.Core.Path.{_≡_};
 ghost use Rattle.base_lent.specs.Lent.{intoBuffer};
 ghost use Rattle.disk_rules.specs.Calls.{formatted, saved, scratched, fileBytes, diskHolding, ontoDisk, changedAnswer, diskAnswer};
-ghost use Rattle.say_sentences.specs.Clipped.{Clipped};
+ghost use Rattle.say_put.specs.Clipped.{Clipped};
 ghost use Rattle.disk_names.specs.Names.{nameGiven};
 ghost use Rattle.moldthatch.specs.Told.{toldCode, bareCode, toldDisk, holdingCode, shownDirectory};
 

@@ -13,7 +13,7 @@ ghost use Rattle.image_readers.specs.Lines.{overview};
 ghost use Rattle.image_readers.specs.Links.{linkStep};
 ghost use Rattle.image_readers.specs.Terminators.{terminatorStep};
 ghost use Rattle.list_image.specs.Listing.{listing};
-ghost use Rattle.say_sentences.specs.Clipped.{Clipped};
+ghost use Rattle.say_put.specs.Clipped.{Clipped};
 ghost use Rattle.say_sentences.specs.Sentence.{sentence};
 ghost use Rattle.library_numbers.specs.Overview.{overviewCode};
 ghost use Rattle.moldthatch.specs.Given.{crunchedWith, crunchedBy, listedWith, listedBy};

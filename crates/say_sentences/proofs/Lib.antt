@@ -1,4 +1,2 @@
-pub mod Clipping
-pub mod Filling
-pub mod Spelling
+pub mod Skipping
 pub mod Telling

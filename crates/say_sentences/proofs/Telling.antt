@@ -8,31 +8,32 @@ use lib.ListN.{length}
 use borrow.Author.Tests.{eq-eqb, ne-eqb}
 use Rattle.base_refusals.specs.declared.Code.{Code}
 use Rattle.word_search.specs.Spelling.{bytesOf}
-use Rattle.say_sentences.specs.Clipped.{Clipped}
+use Rattle.say_put.specs.Clipped.{Clipped}
+use Rattle.say_put.specs.Rows.{filled}
 use Rattle.base_steps.specs.Decimal.{decimal}
 use Rattle.text_places.specs.Place.{textPlace}
 use Rattle.text_places.specs.declared.Place.{Place}
 use Rattle.say_sentences.specs.Rows.{rows, placedRow}
-use Rattle.say_sentences.specs.Sentence.{filled, behindRows, sentenceOf, sentence, placedSentence, nameFirst, numberLast, message}
-use Rattle.say_sentences.proofs.Clipping.{clip-as, clip-none, clip-both}
+use Rattle.say_sentences.specs.Sentence.{behindRows, sentenceOf, sentence, placedSentence, nameFirst, numberLast, message}
+use Rattle.say_put.proofs.Clipping.{clip-as, clip-none, clip-both}
 
-some : (k a b : ℕ) → 0 < k → filled (behindRows (k - 1) rows) a b ≡ sentenceOf k a b
+some : (k a b : ℕ) → 0 < k → filled (behindRows (k - 1) rows) a b 0 ≡ sentenceOf k a b
 unfolding sentenceOf
 some zero a b h = absurd (omega arith)
-some (suc n) a b h = let e : suc n - 1 ≡ n = omega arith in ap (λ (m : ℕ). filled (behindRows m rows) a b) e
+some (suc n) a b h = let e : suc n - 1 ≡ n = omega arith in ap (λ (m : ℕ). filled (behindRows m rows) a b 0) e
 
 pub tells-nothing : {buffer : List ℕ} {at : ℕ} (c : Code) {k : ℕ} → k ≡ c .number → k ≤ 0 → at ≤ length buffer → Clipped buffer at (sentence c) at buffer
 unfolding sentence sentenceOf
 tells-nothing c {k} e h room = let none : c .number ≡ 0 = omega arith in clip-as (sym (ap (λ (n : ℕ). sentenceOf n (c .first) (c .second)) none)) (clip-none room)
 
 module _ {buffer : List ℕ} {at behind : ℕ} {after : List ℕ} (c : Code) where
-  pub tells-sentence : {k : ℕ} {row : List ℕ} → k ≡ c .number → 0 < k → row ≡ behindRows (k - 1) rows → Clipped buffer at (filled row (c .first) (c .second)) behind after
+  pub tells-sentence : {k : ℕ} {row : List ℕ} → k ≡ c .number → 0 < k → row ≡ behindRows (k - 1) rows → Clipped buffer at (filled row (c .first) (c .second) 0) behind after
       → Clipped buffer at (sentence c) behind after
   unfolding sentence
   tells-sentence {k} {row} e h r p =
-      clip-as (ap (λ (s : List ℕ). filled s (c .first) (c .second)) r ∙ some k (c .first) (c .second) h ∙ ap (λ (n : ℕ). sentenceOf n (c .first) (c .second)) e) p
+      clip-as (ap (λ (s : List ℕ). filled s (c .first) (c .second) 0) r ∙ some k (c .first) (c .second) h ∙ ap (λ (n : ℕ). sentenceOf n (c .first) (c .second)) e) p
 
-  pub tells-place : (text : List ℕ) {p : Place} → c .number ≡ 2 → p ≡ textPlace text (c .first) → Clipped buffer at (filled placedRow (p .line) (p .column)) behind after
+  pub tells-place : (text : List ℕ) {p : Place} → c .number ≡ 2 → p ≡ textPlace text (c .first) → Clipped buffer at (filled placedRow (p .line) (p .column) 0) behind after
       → Clipped buffer at (placedSentence text c) behind after
   unfolding placedSentence
   tells-place text e f p = clip-as (rw (eq-eqb _ _ e, f)) p

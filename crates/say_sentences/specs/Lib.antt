@@ -1,4 +1,2 @@
-pub mod Clipped
 pub mod Rows
 pub mod Sentence
-pub mod SpeltHelpers

@@ -8,13 +8,8 @@ use Rattle.base_refusals.specs.declared.Code.{Code}
 use Rattle.word_search.specs.Spelling.{bytesOf}
 use Rattle.base_steps.specs.Decimal.{decimal}
 use Rattle.text_places.specs.Place.{textPlace}
+use Rattle.say_put.specs.Rows.{filled}
 use Rattle.say_sentences.specs.Rows.{rows, placedRow}
-
--- a line up to its end, its marks filled with two values, one after the other
-unfoldable pub filled : List ℕ → ℕ → ℕ → List ℕ
-unfolding decimal
-filled [] a b = []
-filled (c ∷ s) a b = elim (eqb c 0x0A) [ true ↦ [] | false ↦ elim (eqb c 0x23) [ true ↦ decimal a ++ filled s b 0 | false ↦ c ∷ filled s a b ] ]
 
 -- what stands behind so many lines
 unfoldable pub behindRows : ℕ → List ℕ → List ℕ
@@ -25,14 +20,14 @@ behindRows (suc n) (b ∷ s) = elim (eqb b 0x0A) [ true ↦ behindRows n s | fal
 -- the sentence of a number, with two values; 0, a result, has none
 unfoldable pub sentenceOf : ℕ → ℕ → ℕ → List ℕ
 sentenceOf zero a b = []
-sentenceOf (suc n) a b = filled (behindRows n rows) a b
+sentenceOf (suc n) a b = filled (behindRows n rows) a b 0
 
 unfoldable pub sentence : Code → List ℕ
 sentence c = sentenceOf (c .number) (c .first) (c .second)
 
 -- the sentence where the text is at hand: an offset in it is told as a line and a column
 unfoldable pub placedSentence : List ℕ → Code → List ℕ
-placedSentence text c = cond (eqb (c .number) 2) (filled placedRow (textPlace text (c .first) .line) (textPlace text (c .first) .column)) (sentence c)
+placedSentence text c = cond (eqb (c .number) 2) (filled placedRow (textPlace text (c .first) .line) (textPlace text (c .first) .column) 0) (sentence c)
 
 -- what was read stands in front, the refusal's number behind
 unfoldable pub nameFirst : List ℕ → List ℕ

@@ -1,14 +1,13 @@
 // Why there is no result, in a sentence for a person. The sentences are those of facts/refusals.tsv.
 use base_refusals::Code;
-use put::put_decimal;
-use put::put_text;
+use say_put::fill;
+use say_put::put_decimal;
+use say_put::put_text;
 ghost use mathlib.Core.Path.{_≡_};
 ghost use Prim.Native.Nat.{_≤_};
 ghost use lib.ListN.{length};
-ghost use Rattle.say_sentences.specs.Clipped.{Clipped};
-ghost use Rattle.say_sentences.specs.Sentence.{filled, behindRows, sentence as sentenceOf, placedSentence, nameFirst, numberLast, message as messageOf};
-
-pub mod put;
+ghost use Rattle.say_put.specs.Clipped.{Clipped};
+ghost use Rattle.say_sentences.specs.Sentence.{behindRows, sentence as sentenceOf, placedSentence, nameFirst, numberLast, message as messageOf};
 
 // A line for each refusal, in the order of the numbers. # stands for the next value that the refusal carries.
 const ROWS: [u8; 1177] = *b"text too long: # bytes or more\n\
@@ -63,33 +62,6 @@ fn behind_rows(rows: &[u8], count: usize) -> &[u8]
     &rows[i..]
 }
 
-// Stores a line from a place on, up to its end, with two values for its marks, and answers the place behind it.
-fn fill(out: &mut [u8], at: usize, row: &[u8], first: usize, second: usize) -> usize
-    requires { ⌜ at ≤ length (now out) ⌝ }
-    ensures { λ r. ⌜ Clipped (now (out .entry)) at (filled (now (row .entry)) first second) r (now (out .exit)) ⌝ }
-{
-    let mut i: usize = 0;
-    let mut to = at;
-    let mut value = first;
-    let mut later = second;
-    while i < row.len() {
-        let b = row[i];
-        if b == 0x0A {
-            return to;
-        }
-        if b == 0x23 {
-            to = put_decimal(out, to, value);
-            value = later;
-            later = 0;
-            i += 1;
-        } else {
-            to = put_text(out, to, &[b]);
-            i += 1;
-        }
-    }
-    to
-}
-
 fn wide(x: u8) -> usize
     ensures { λ r. ⌜ r ≡ x ⌝ }
 {
@@ -103,7 +75,7 @@ fn put_sentence(out: &mut [u8], at: usize, code: Code) -> usize
     let number = wide(code.number);
     if number > 0 {
         let row = behind_rows(&ROWS, number - 1);
-        return fill(out, at, row, code.first, code.second);
+        return fill(out, at, row, code.first, code.second, 0);
     }
     at
 }
@@ -115,7 +87,7 @@ fn put_placed(out: &mut [u8], at: usize, text: &[u8], code: Code) -> usize
 {
     if code.number == 2 {
         let found = text_places::place_of(text, code.first);
-        return fill(out, at, &PLACED, found.line, found.column);
+        return fill(out, at, &PLACED, found.line, found.column, 0);
     }
     put_sentence(out, at, code)
 }

@@ -3,7 +3,7 @@
 use Prim.Native.Nat.{_-_}
 use lib.ListN.{length}
 use Rattle.guess.proofs.Texts.{line-high, line-less, line-up}
-use Rattle.say_sentences.proofs.Clipping.{clip-long}
+use Rattle.say_put.proofs.Clipping.{clip-long}
 use Rattle.crunch_origins.proofs.Pairing.{Pairing, pairing-start, pairing-turn, pairing-end}
 use borrow.Author.Needs.{needs}
 use Rattle.crunch_origins.proofs.origins.Statement.{statement}

@@ -2,7 +2,7 @@
 -- Assumes nothing.
 use Prim.Native.Nat.{_-_}
 use lib.ListN.{length}
-use Rattle.say_sentences.proofs.Clipping.{clip-long}
+use Rattle.say_put.proofs.Clipping.{clip-long}
 use Rattle.disk_directory.proofs.Lining.{Lining, lining-start, lining-turn, lining-end, entry-listed}
 use borrow.Author.Needs.{needs}
 use Rattle.disk_directory.proofs.put_files.Statement.{statement}

@@ -3,7 +3,7 @@
 use Prim.Native.Nat.{_-_}
 use lib.ListN.{length}
 use native.Mathlib.Omega.{arith}
-use Rattle.say_sentences.proofs.Clipping.{clip-long}
+use Rattle.say_put.proofs.Clipping.{clip-long}
 use Rattle.disk_names.proofs.Naming.{Giving, giving-start, form-room, giving-form, giving-character, giving-end}
 use borrow.Author.Needs.{needs}
 use Rattle.disk_names.proofs.given.Statement.{statement}

@@ -2,7 +2,7 @@
 -- Assumes nothing.
 use Prim.Native.Nat.{_-_}
 use lib.ListN.{length}
-use Rattle.say_sentences.proofs.Clipping.{clip-long}
+use Rattle.say_put.proofs.Clipping.{clip-long}
 use Rattle.disk_names.proofs.Showing.{Showing, showing-start, showing-turn, showing-end}
 use borrow.Author.Needs.{needs}
 use Rattle.disk_names.proofs.put_name.Statement.{statement}

@@ -1,6 +1,7 @@
 -- `disk_names::text_of` meets its contract.
 -- Assumes nothing.
-use Rattle.disk_names.proofs.Splitting.{mark-within, text-named, text-unnamed}
+use Rattle.say_names.proofs.Splitting.{mark-within}
+use Rattle.disk_names.proofs.Splitting.{text-named, text-unnamed}
 use borrow.Author.Needs.{needs}
 use Rattle.disk_names.proofs.text_of.Statement.{statement}
 use Rattle.disk_names.proofs.text_of.Tie as tie
@@ -22,7 +23,6 @@ text-of-spec =
     (λ c. search needs)
     behind-requires
     (λ c. search needs)
-    (λ c κs. search needs)
     (λ c κs. search needs)
     returns
     returns-2)

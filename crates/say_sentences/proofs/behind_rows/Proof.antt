@@ -2,7 +2,7 @@
 -- Assumes nothing.
 use Prim.Native.Nat.{_-_}
 use lib.ListN.{length}
-use Rattle.say_sentences.proofs.Filling.{Skipping, skipping-start, skipping-lf, skipping-on, skipping-there, skipping-end}
+use Rattle.say_sentences.proofs.Skipping.{Skipping, skipping-start, skipping-lf, skipping-on, skipping-there, skipping-end}
 use borrow.Author.Needs.{needs}
 use Rattle.say_sentences.proofs.behind_rows.Statement.{statement}
 use Rattle.say_sentences.proofs.behind_rows.Tie as tie

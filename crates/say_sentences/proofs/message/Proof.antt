@@ -1,6 +1,6 @@
 -- `say_sentences::message` meets its contract.
 -- Assumes nothing.
-use Rattle.say_sentences.proofs.Clipping.{clip-long, clip-within}
+use Rattle.say_put.proofs.Clipping.{clip-long, clip-within}
 use Rattle.say_sentences.proofs.Telling.{tells-message}
 use borrow.Author.Needs.{needs}
 use Rattle.say_sentences.proofs.message.Statement.{statement}

@@ -1,6 +1,6 @@
 -- `say_sentences::put_name` meets its contract.
 -- Assumes nothing.
-use Rattle.say_sentences.proofs.Clipping.{clip-long, clip-within}
+use Rattle.say_put.proofs.Clipping.{clip-long, clip-within}
 use Rattle.say_sentences.proofs.Telling.{tells-name}
 use borrow.Author.Needs.{needs}
 use Rattle.say_sentences.proofs.put_name.Statement.{statement}

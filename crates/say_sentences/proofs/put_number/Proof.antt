@@ -1,7 +1,7 @@
 -- `say_sentences::put_number` meets its contract.
 -- Assumes nothing.
-use Rattle.say_sentences.proofs.Clipping.{clip-long, clip-within}
-use Rattle.say_sentences.proofs.Filling.{the}
+use Rattle.say_put.proofs.Clipping.{clip-long, clip-within}
+use Rattle.base_steps.proofs.The.{the}
 use Rattle.say_sentences.proofs.Telling.{tells-number}
 use borrow.Author.Needs.{needs}
 use Rattle.say_sentences.proofs.put_number.Statement.{statement}

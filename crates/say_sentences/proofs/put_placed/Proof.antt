@@ -1,8 +1,8 @@
 -- `say_sentences::put_placed` meets its contract.
 -- Assumes nothing.
 use Rattle.say_sentences.specs.Rows.{placedRow}
-use Rattle.say_sentences.proofs.Clipping.{clip-long}
-use Rattle.say_sentences.proofs.Filling.{the}
+use Rattle.say_put.proofs.Clipping.{clip-long}
+use Rattle.base_steps.proofs.The.{the}
 use Rattle.say_sentences.proofs.Telling.{tells-place, tells-otherwise}
 use borrow.Author.Needs.{needs}
 use Rattle.say_sentences.proofs.put_placed.Statement.{statement}

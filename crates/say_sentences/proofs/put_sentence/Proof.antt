@@ -1,7 +1,7 @@
 -- `say_sentences::put_sentence` meets its contract.
 -- Assumes nothing.
 use Rattle.say_sentences.specs.Rows.{rows}
-use Rattle.say_sentences.proofs.Clipping.{clip-long}
+use Rattle.say_put.proofs.Clipping.{clip-long}
 use Rattle.say_sentences.proofs.Telling.{tells-sentence, tells-nothing}
 use borrow.Author.Needs.{needs}
 use Rattle.say_sentences.proofs.put_sentence.Statement.{statement}

@@ -19,7 +19,6 @@ write-refusal-spec =
     (λ c. search needs)
     slice-aggregate-write-line
     (λ c κs. search needs)
-    (λ c. search needs)
     (λ c κs. search needs)
     (λ c. search needs)
     (λ c. search needs))

@@ -1,6 +1,6 @@
 -- `desk_list::naming::listing_name` meets its contract.
 -- Assumes nothing.
-use Rattle.desk_list.proofs.Marks.{stored-counts}
+use Rattle.desk_list.proofs.Stored.{stored-counts}
 use borrow.Author.Needs.{needs}
 use Rattle.desk_list.proofs.naming.listing_name.Statement.{statement}
 use Rattle.desk_list.proofs.naming.listing_name.Tie as tie
@@ -16,13 +16,6 @@ listing-name-spec =
     (λ c. search needs)
     (λ c κs. search needs)
     (λ c. search needs)
-    (λ c. search needs)
-    (λ c κs. search needs)
-    (λ c. search needs)
-    (λ c κs. search needs)
-    (λ c κs. search needs)
-    (λ c κs. search needs)
-    (λ c κs. search needs)
     (λ c. search needs)
     (λ c κs. search needs)
     (λ c. search needs)

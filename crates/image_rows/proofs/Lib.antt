@@ -1,0 +1,4 @@
+pub mod Adding
+pub mod Examples
+pub mod Placing
+pub mod Threading

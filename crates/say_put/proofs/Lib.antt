@@ -1,0 +1,4 @@
+pub mod Clipping
+pub mod Filling
+pub mod Lending
+pub mod Spelling
