@@ -1,8 +1,8 @@
 // What was found, in sentences for a person: a line for each, behind the name of the file. A line is one write, so that lines of several
 // processes do not mix.
-use crate::Run;
 use base_refusals::Refusal;
 use desk::result;
+use desk_status::Status;
 use image_faults::Fault;
 use libc::STDOUT_FILENO;
 use say_sentences::put::put_decimal;
@@ -159,16 +159,11 @@ fn write_fault(name: &[u8], fault: Fault) -> bool {
     }
 }
 
-// What a run comes to that was to write a line.
-fn after(written: bool, run: Run) -> Run {
-    if written { run } else { Run::Closed }
-}
-
-pub fn tell_fault(name: &[u8], fault: Fault, is_quiet: bool) -> Run {
+pub fn tell_fault(name: &[u8], fault: Fault, is_quiet: bool) -> Status {
     if is_quiet {
-        return Run::Unfit;
+        return Status::Refused;
     }
-    after(write_fault(name, fault), Run::Unfit)
+    desk_status::written(write_fault(name, fault), Status::Refused)
 }
 
 fn write_refusal(name: &[u8], refusal: Refusal) -> bool {
@@ -178,11 +173,11 @@ fn write_refusal(name: &[u8], refusal: Refusal) -> bool {
 }
 
 // What no reader, or no disk, could be made of.
-pub fn tell_refusal(name: &[u8], refusal: Refusal, is_quiet: bool) -> Run {
+pub fn tell_refusal(name: &[u8], refusal: Refusal, is_quiet: bool) -> Status {
     if is_quiet {
-        return Run::Unfit;
+        return Status::Refused;
     }
-    after(write_refusal(name, refusal), Run::Unfit)
+    desk_status::written(write_refusal(name, refusal), Status::Refused)
 }
 
 // What is said of every program: its load address, and how many lines it has.
@@ -224,15 +219,15 @@ fn write_unfit(name: &[u8], load: usize, lines: usize) -> bool {
 }
 
 // The last line of a program.
-pub fn tell_program(name: &[u8], load: u16, lines: usize, run: Run, is_quiet: bool) -> Run {
+pub fn tell_program(name: &[u8], load: u16, lines: usize, run: Status, is_quiet: bool) -> Status {
     if is_quiet {
         return run;
     }
     match run {
-        Run::Fit => after(write_fit(name, load as usize, lines), run),
-        Run::Unfit => after(write_unfit(name, load as usize, lines), run),
-        Run::Unread => run,
-        Run::Closed => run,
+        Status::Done => desk_status::written(write_fit(name, load as usize, lines), run),
+        Status::Refused => desk_status::written(write_unfit(name, load as usize, lines), run),
+        Status::Misused => run,
+        Status::Failed => run,
     }
 }
 
@@ -246,14 +241,20 @@ fn write_disk(name: &[u8], first: &[u8], files: usize) -> bool {
 }
 
 // The last line of a disk.
-pub fn tell_disk(name: &[u8], files: usize, run: Run, is_quiet: bool) -> Run {
+pub fn tell_disk(name: &[u8], files: usize, run: Status, is_quiet: bool) -> Status {
     if is_quiet {
         return run;
     }
     match run {
-        Run::Fit => after(write_disk(name, b": fit for the master: ", files), run),
-        Run::Unfit => after(write_disk(name, b": not fit for the master; ", files), run),
-        Run::Unread => run,
-        Run::Closed => run,
+        Status::Done => desk_status::written(
+            write_disk(name, b": fit for the master: ", files),
+            run,
+        ),
+        Status::Refused => desk_status::written(
+            write_disk(name, b": not fit for the master; ", files),
+            run,
+        ),
+        Status::Misused => run,
+        Status::Failed => run,
     }
 }

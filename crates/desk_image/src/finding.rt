@@ -2,6 +2,7 @@
 use crate::rows::put_told;
 use desk::names;
 use desk::output;
+use desk_status::Status;
 use image_find::Sought;
 use image_readers::By;
 use image_readers::Line;
@@ -12,11 +13,6 @@ use say_sentences::put::put_text;
 use word_dialects::Dialect;
 ghost use Prim.Native.Nat.{_≤_};
 ghost use lib.ListN.{length};
-
-// Where the status goes that a program cannot end with.
-const STATUS_FILENO: i32 = 3;
-
-const NOT_THERE: u8 = b'1';
 
 // What the original lists.
 fn original() -> ListOptions {
@@ -100,7 +96,7 @@ fn tell_given(number: u16, visited: usize) -> bool {
 // Ends the program where no line has the number.
 fn miss(number: u16, visited: usize) {
     if tell_given(number, visited) {
-        io::write_all(STATUS_FILENO, &[NOT_THERE]);
+        desk_status::tell(Status::Refused);
     } else {
         output::fail();
     }
