@@ -1,1 +1,2 @@
 pub mod ResultHelpers
+pub mod WayHelpers

@@ -29,12 +29,19 @@ pub fn read_file(name: &[u8], buf: &mut [u8]) -> Input
     input
 }
 
+// Reads all of standard input.
+pub fn read_standard(buf: &mut [u8]) -> Input
+    ensures { λ r. ⌜ InputWithin r (now (buf .exit)) ⌝ }
+{
+    read_from(STDIN_FILENO, b"standard input", buf)
+}
+
 // Reads the program's input: the file that it was given, or standard input.
 pub fn read_given(buf: &mut [u8]) -> Input
     ensures { λ r. ⌜ InputWithin r (now (buf .exit)) ⌝ }
 {
     if !names::is_file(names::IN) {
-        return read_from(STDIN_FILENO, b"standard input", buf);
+        return read_standard(buf);
     }
     let mut name = io::buffer();
     let n = names::name(names::IN, &mut name);

@@ -1,6 +1,7 @@
 // A result, written to the file that the program was given or to standard output, at once or in parts. Either way a file appears whole or
 // not at all: what was there before stays as it was where anything fails.
 use crate::names;
+use crate::names::Way;
 use libc::STDOUT_FILENO;
 ghost use Rattle.io.specs.Counts.{Counts};
 
@@ -14,18 +15,18 @@ pub fn name(buf: &mut [u8]) -> usize
     0
 }
 
-// Opens what the result goes to: the name beside the file, or the file itself where that has no whole, as a device. A number below 0
-// where it cannot be opened, which standard error tells.
+// Opens what the result goes to: the name beside the file, or the file itself where that has no whole, as a device; what it holds by then stays in
+// front. A number below 0 where it cannot be opened, which standard error tells.
 pub fn begin(name: &[u8]) -> i32 {
     if !names::is_file(names::OUT) {
         return STDOUT_FILENO;
     }
     let mut part = io::buffer();
     let m = names::name(names::PART, &mut part);
-    let fd = if m == 0 {
-        os::open_overwrite(name)
-    } else {
-        os::create(&part[..m])
+    let fd = match names::way_of(&part[..m]) {
+        Way::Beside => os::create(&part[..m]),
+        Way::InPlace => os::open_append(name),
+        Way::Nowhere => -1,
     };
     if fd < 0 {
         os::fail(name);
@@ -43,23 +44,35 @@ pub fn write(fd: i32, name: &[u8], bytes: &[u8]) -> bool {
 
 // Ends the result, with every part written or not; whether the file is there now, whole.
 pub fn finish(fd: i32, name: &[u8], written: bool) -> bool {
+    end_with(fd, name, written, true)
+}
+
+// Ends a result that is one part; whether it is there now, whole. What is new stays under the name beside the file: ./moldthatch gives it its
+// own, which must not be taken by then.
+fn end_with(fd: i32, name: &[u8], written: bool, is_placed: bool) -> bool {
     if !names::is_file(names::OUT) {
         return written;
     }
     let mut part = io::buffer();
     let m = names::name(names::PART, &mut part);
-    if m == 0 {
-        return written && is_closed(fd, name);
+    match names::way_of(&part[..m]) {
+        Way::Beside => end_part(fd, &part[..m], name, written, is_placed),
+        Way::InPlace => written && is_closed(fd, name),
+        Way::Nowhere => false,
     }
-    let done = written && is_kept(fd, name) && is_closed(fd, name) && is_renamed(&part[..m], name);
+}
+
+fn end_part(fd: i32, part: &[u8], name: &[u8], written: bool, is_placed: bool) -> bool {
+    let kept = written && is_kept(fd, name) && is_closed(fd, name);
+    let done = kept && (!is_placed || is_renamed(part, name));
     if !done {
-        remove(&part[..m]);
+        remove(part);
     }
     done
 }
 
 // Writes a result that is one part.
-pub fn write_whole(bytes: &[u8]) -> bool {
+fn write_as(bytes: &[u8], is_placed: bool) -> bool {
     let mut buf = io::buffer();
     let n = name(&mut buf);
     let fd = begin(&buf[..n]);
@@ -67,7 +80,16 @@ pub fn write_whole(bytes: &[u8]) -> bool {
         return false;
     }
     let written = write(fd, &buf[..n], bytes);
-    finish(fd, &buf[..n], written)
+    end_with(fd, &buf[..n], written, is_placed)
+}
+
+pub fn write_whole(bytes: &[u8]) -> bool {
+    write_as(bytes, true)
+}
+
+// The same of a file that never takes the place of another.
+pub fn write_new(bytes: &[u8]) -> bool {
+    write_as(bytes, false)
 }
 
 pub fn write_to(fd: i32, name: &[u8], bytes: &[u8]) -> bool {

@@ -1,10 +1,9 @@
 // A disk: every program on it is checked, each under the disk's name and its own.
-use crate::Run;
 use crate::check_program;
 use crate::telling;
-use crate::worse;
 use base_lent::Outcome;
 use base_refusals::Refusal;
+use desk_status::Status;
 use disk_check::look;
 use disk_entries::name_at;
 use disk_names::put_name;
@@ -15,7 +14,7 @@ ghost use lib.ListN.{length};
 ghost use Rattle.disk_entries.specs.EntryHelpers.{Entries};
 
 // Checks the file of an entry, under a name.
-fn check_named(name: &[u8], disk: &[u8], p: usize, is_quiet: bool) -> Run
+fn check_named(name: &[u8], disk: &[u8], p: usize, is_quiet: bool) -> Status
     requires { ⌜ (length (now disk) ≡ 174848) × (p + 30 ≤ 174848) ⌝ }
 {
     // No file is longer: 664 sectors of 254 bytes.
@@ -26,7 +25,7 @@ fn check_named(name: &[u8], disk: &[u8], p: usize, is_quiet: bool) -> Run
     }
 }
 
-fn check_entry(name: &[u8], disk: &[u8], p: usize, is_quiet: bool) -> Run
+fn check_entry(name: &[u8], disk: &[u8], p: usize, is_quiet: bool) -> Status
     requires { ⌜ (length (now disk) ≡ 174848) × (p + 30 ≤ 174848) ⌝ }
 {
     let mut full = [0u8; 4352];
@@ -36,14 +35,14 @@ fn check_entry(name: &[u8], disk: &[u8], p: usize, is_quiet: bool) -> Run
     check_named(&full[..n], disk, p, is_quiet)
 }
 
-fn check_entries(name: &[u8], disk: &[u8], files: &[usize], is_quiet: bool) -> Run
+fn check_entries(name: &[u8], disk: &[u8], files: &[usize], is_quiet: bool) -> Status
     requires { ⌜ (length (now disk) ≡ 174848) × Entries (now files) ⌝ }
 {
-    let mut run = Run::Fit;
+    let mut run = Status::Done;
     let mut i: usize = 0;
     while i < files.len() {
-        run = worse(run, check_entry(name, disk, files[i], is_quiet));
-        if let Run::Closed = run {
+        run = desk_status::worse(run, check_entry(name, disk, files[i], is_quiet));
+        if let Status::Failed = run {
             return run;
         }
         i += 1;
@@ -51,7 +50,7 @@ fn check_entries(name: &[u8], disk: &[u8], files: &[usize], is_quiet: bool) -> R
     run
 }
 
-pub fn check_disk(name: &[u8], disk: &[u8], is_quiet: bool) -> Run
+pub fn check_disk(name: &[u8], disk: &[u8], is_quiet: bool) -> Status
     requires { ⌜ length (now disk) ≡ 174848 ⌝ }
 {
     let mut sectors = [0usize; 18];

@@ -5,58 +5,35 @@ mod telling;
 
 use desk::input;
 use desk_inputs::Input;
+use desk_status::Status;
 use image_fitness::Found;
 use image_readers::Checked;
 use image_readers::links;
 
-// Where the status goes that a program cannot end with.
-const STATUS_FILENO: i32 = 3;
-
 // How many bytes a disk image has.
 const DISK: usize = 174_848;
 
-// What a file, or a run so far, came to, each worse than the one before.
-pub enum Run {
-    Fit,
-    Unfit,
-    // Something could not be read.
-    Unread,
-    // Standard output is closed or full: nothing more can be said.
-    Closed,
-}
-
-fn rank(run: Run) -> u8 {
-    match run {
-        Run::Fit => 0,
-        Run::Unfit => 1,
-        Run::Unread => 2,
-        Run::Closed => 3,
-    }
-}
-
-// The worse of two.
-pub fn worse(first: Run, second: Run) -> Run {
-    if rank(first) < rank(second) {
-        second
-    } else {
-        first
-    }
+// What a file came to, and whether the run is over with it: where standard output is closed or full, nothing more can be said. What cannot be read
+// leaves the others to be checked.
+struct File {
+    status: Status,
+    is_last: bool,
 }
 
 // Walks over the faults of an image that was read, and says each.
-fn walk(name: &[u8], image: &[u8], is_quiet: bool) -> Run {
+fn walk(name: &[u8], image: &[u8], is_quiet: bool) -> Status {
     let mut marked = [0u8; 65536];
     image_marks::mark_numbers(image, &mut marked);
     let mut place = image_fitness::first();
-    let mut run = Run::Fit;
+    let mut run = Status::Done;
     loop {
         match image_fitness::next_fault(image, &marked, place) {
             Found::Fault {
                 fault,
                 place: behind,
             } => {
-                run = worse(run, telling::tell_fault(name, fault, is_quiet));
-                if let Run::Closed = run {
+                run = desk_status::worse(run, telling::tell_fault(name, fault, is_quiet));
+                if let Status::Failed = run {
                     return run;
                 }
                 place = behind;
@@ -69,7 +46,7 @@ fn walk(name: &[u8], image: &[u8], is_quiet: bool) -> Run {
 }
 
 // Checks a program.
-pub fn check_program(name: &[u8], image: &[u8], is_quiet: bool) -> Run {
+pub fn check_program(name: &[u8], image: &[u8], is_quiet: bool) -> Status {
     match links::check(image) {
         Checked::Image { load, lines } => {
             let run = walk(name, image, is_quiet);
@@ -79,38 +56,57 @@ pub fn check_program(name: &[u8], image: &[u8], is_quiet: bool) -> Run {
     }
 }
 
-fn check_bytes(name: &[u8], bytes: &[u8], is_quiet: bool) -> Run {
+fn check_bytes(name: &[u8], bytes: &[u8], is_quiet: bool) -> Status {
     if bytes.len() == DISK {
         return disks::check_disk(name, bytes, is_quiet);
     }
     check_program(name, bytes, is_quiet)
 }
 
+// What a file came to that was read: only where it could not be told it has failed.
+fn told(status: Status) -> File {
+    if let Status::Failed = status {
+        return File {
+            status,
+            is_last: true,
+        };
+    }
+    File {
+        status,
+        is_last: false,
+    }
+}
+
 // Checks the file that an argument names.
-fn check_file(argument: usize, buf: &mut [u8], is_quiet: bool) -> Run {
+fn check_file(argument: usize, buf: &mut [u8], is_quiet: bool) -> File {
     let mut name = io::buffer();
     let n = os::arg(argument, &mut name);
     match input::read_file(&name[..n], buf) {
-        Input::All(count) => check_bytes(&name[..n], &buf[0..count], is_quiet),
+        Input::All(count) => told(check_bytes(&name[..n], &buf[0..count], is_quiet)),
         // The buffer is longer than an image may be: what is in it is refused as too long.
-        Input::Longer => check_program(&name[..n], buf, is_quiet),
-        Input::Failed => Run::Unread,
+        Input::Longer => told(check_program(&name[..n], buf, is_quiet)),
+        Input::Failed => File {
+            status: Status::Failed,
+            is_last: false,
+        },
     }
 }
 
 // Checks the files that the arguments from the second on name. What cannot be read is told, and the others are checked all the same.
-fn check_files(buf: &mut [u8], is_quiet: bool) -> Run {
+fn check_files(buf: &mut [u8], is_quiet: bool) -> Status {
     let count = os::arg_count();
-    let mut run = Run::Fit;
+    let mut status = Status::Done;
     let mut i: usize = 2;
     while i < count {
-        run = worse(run, check_file(i, buf, is_quiet));
-        if let Run::Closed = run {
-            return run;
+        let file = check_file(i, buf, is_quiet);
+        let came = file.status;
+        status = desk_status::worse(status, came);
+        if file.is_last {
+            return status;
         }
         i += 1;
     }
-    run
+    status
 }
 
 // Whether the first argument is the letter q.
@@ -120,17 +116,7 @@ fn is_quiet() -> bool {
     n == 1 && word[0] == b'q'
 }
 
-fn end(run: Run) {
-    let status = match run {
-        Run::Fit => b'0',
-        Run::Unfit => b'1',
-        Run::Unread => b'3',
-        Run::Closed => b'3',
-    };
-    io::write_all(STATUS_FILENO, &[status]);
-}
-
 fn main() {
     let mut buf = [0u8; 1_048_577];
-    end(check_files(&mut buf, is_quiet()));
+    desk_status::tell(check_files(&mut buf, is_quiet()));
 }

@@ -1,10 +1,10 @@
 // What was found, in sentences for a person: a line for each, behind the name of the file. A line is one write, so that lines of several
 // processes do not mix.
-use crate::Run;
 use base_lent::Outcome;
 use base_refusals::Refusal;
 use desk::output;
 use desk::result;
+use desk_status::Status;
 use image_faults::Fault;
 use libc::STDOUT_FILENO;
 ghost use Prim.Native.Nat.{_≤_};
@@ -44,16 +44,11 @@ fn write_fault(name: &[u8], fault: Fault) -> bool {
     write_told(name, outcome, &line)
 }
 
-// What a run comes to that was to write a line.
-fn after(written: bool, run: Run) -> Run {
-    if written { run } else { Run::Closed }
-}
-
-pub fn tell_fault(name: &[u8], fault: Fault, is_quiet: bool) -> Run {
+pub fn tell_fault(name: &[u8], fault: Fault, is_quiet: bool) -> Status {
     if is_quiet {
-        return Run::Unfit;
+        return Status::Refused;
     }
-    after(write_fault(name, fault), Run::Unfit)
+    desk_status::written(write_fault(name, fault), Status::Refused)
 }
 
 fn write_unread(name: &[u8]) -> bool {
@@ -69,11 +64,11 @@ fn write_refusal(name: &[u8], refusal: Refusal) -> bool {
 }
 
 // What no reader, or no disk, could be made of.
-pub fn tell_refusal(name: &[u8], refusal: Refusal, is_quiet: bool) -> Run {
+pub fn tell_refusal(name: &[u8], refusal: Refusal, is_quiet: bool) -> Status {
     if is_quiet {
-        return Run::Unfit;
+        return Status::Refused;
     }
-    after(write_refusal(name, refusal), Run::Unfit)
+    desk_status::written(write_refusal(name, refusal), Status::Refused)
 }
 
 fn write_program(name: &[u8], load: usize, lines: usize, fit: bool) -> bool {
@@ -83,15 +78,18 @@ fn write_program(name: &[u8], load: usize, lines: usize, fit: bool) -> bool {
 }
 
 // The last line of a program.
-pub fn tell_program(name: &[u8], load: u16, lines: usize, run: Run, is_quiet: bool) -> Run {
+pub fn tell_program(name: &[u8], load: u16, lines: usize, run: Status, is_quiet: bool) -> Status {
     if is_quiet {
         return run;
     }
     match run {
-        Run::Fit => after(write_program(name, load as usize, lines, true), run),
-        Run::Unfit => after(write_program(name, load as usize, lines, false), run),
-        Run::Unread => run,
-        Run::Closed => run,
+        Status::Done => desk_status::written(write_program(name, load as usize, lines, true), run),
+        Status::Refused => desk_status::written(
+            write_program(name, load as usize, lines, false),
+            run,
+        ),
+        Status::Misused => run,
+        Status::Failed => run,
     }
 }
 
@@ -102,14 +100,14 @@ fn write_disk(name: &[u8], files: usize, fit: bool) -> bool {
 }
 
 // The last line of a disk.
-pub fn tell_disk(name: &[u8], files: usize, run: Run, is_quiet: bool) -> Run {
+pub fn tell_disk(name: &[u8], files: usize, run: Status, is_quiet: bool) -> Status {
     if is_quiet {
         return run;
     }
     match run {
-        Run::Fit => after(write_disk(name, files, true), run),
-        Run::Unfit => after(write_disk(name, files, false), run),
-        Run::Unread => run,
-        Run::Closed => run,
+        Status::Done => desk_status::written(write_disk(name, files, true), run),
+        Status::Refused => desk_status::written(write_disk(name, files, false), run),
+        Status::Misused => run,
+        Status::Failed => run,
     }
 }

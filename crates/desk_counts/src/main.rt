@@ -7,19 +7,7 @@ use count_images::Carried;
 use desk::input;
 use desk::output;
 use desk_inputs::Input;
-
-// Where the status goes that a program cannot end with.
-const STATUS_FILENO: i32 = 3;
-
-// How a run stands.
-pub enum Run {
-    // All was taken so far.
-    Fine,
-    // One image was too many: refusal 26.
-    TooMany,
-    // Something could not be read, or is no totals.
-    Failed,
-}
+use desk_status::Status;
 
 // The byte at a place of the first argument; 0 where there is none.
 fn letter(place: usize) -> u8 {
@@ -32,76 +20,72 @@ fn letter(place: usize) -> u8 {
 }
 
 // Takes one image into the totals, and names it on standard error where it is refused.
-fn take_image(name: &[u8], image: &[u8], totals: &mut [u64]) -> Run {
+fn take_image(name: &[u8], image: &[u8], totals: &mut [u64]) -> Status {
     match count_images::add_image(totals, image) {
-        Carried::Taken => Run::Fine,
-        Carried::Apart(refusal) => {
-            output::tell(name, refusal);
-            Run::Fine
-        }
-        Carried::Refused(refusal) => {
-            output::tell(name, refusal);
-            Run::TooMany
-        }
-        Carried::NoTotals => Run::Failed,
+        Carried::Taken => Status::Done,
+        Carried::Apart(refusal) => desk_status::written(output::tell(name, refusal), Status::Done),
+        Carried::Refused(refusal) => desk_status::written(
+            output::tell(name, refusal),
+            Status::Refused,
+        ),
+        Carried::NoTotals => Status::Failed,
     }
 }
 
 // Takes the image in the file that an argument names.
-fn take_file(argument: usize, image: &mut [u8], totals: &mut [u64]) -> Run {
+fn take_file(argument: usize, image: &mut [u8], totals: &mut [u64]) -> Status {
     let mut name = io::buffer();
     let n = os::arg(argument, &mut name);
     match input::read_file(&name[..n], image) {
         Input::All(count) => take_image(&name[..n], &image[0..count], totals),
         // The buffer is longer than an image may be: what is in it is refused as too long.
         Input::Longer => take_image(&name[..n], image, totals),
-        Input::Failed => Run::Failed,
+        Input::Failed => Status::Failed,
     }
 }
 
-// Takes the files that the arguments from the second on name. What cannot be read is told, and the others are read all the same.
-fn take_files(count: usize, image: &mut [u8], totals: &mut [u64]) -> Run {
+// Takes the files that the arguments from the second on name. What cannot be read is told, and the others are read all the same; behind 1,000
+// images no other is taken.
+fn take_files(count: usize, image: &mut [u8], totals: &mut [u64]) -> Status {
     let mut i: usize = 2;
-    let mut failed = false;
+    let mut status = Status::Done;
     while i < count {
-        match take_file(i, image, totals) {
-            Run::Fine => {}
-            Run::TooMany => {
-                return Run::TooMany;
-            }
-            Run::Failed => {
-                failed = true;
-            }
+        let taken = take_file(i, image, totals);
+        status = desk_status::worse(status, taken);
+        if let Status::Refused = taken {
+            return status;
         }
         i += 1;
     }
-    if failed { Run::Failed } else { Run::Fine }
+    status
 }
 
-fn end(status: u8) {
-    io::write_all(STATUS_FILENO, &[status]);
+// Writes the totals as they are asked for; whether they could be written.
+fn write(totals: &[u64; 206]) -> bool {
+    if letter(1) == b's' {
+        return totals::write(totals);
+    }
+    table::write(totals)
 }
 
-// Writes the totals as they are asked for, and tells the status.
-fn write(totals: &[u64; 206]) {
-    let done = if letter(1) == b's' {
-        totals::write(totals)
-    } else {
-        table::write(totals)
-    };
-    end(if done { b'0' } else { b'3' });
+// Writes the number of the refusal in the place of a result: one image was too many.
+fn refuse() -> bool {
+    let done = table::write_number(26);
+    if !done {
+        os::fail(b"standard output");
+    }
+    done
 }
 
 // Ends a run: the result, or the number of the refusal in its place, and the status.
-fn finish(run: Run, totals: &[u64; 206]) {
-    match run {
-        Run::Fine => write(totals),
-        Run::TooMany => {
-            table::write_number(26);
-            end(b'1');
-        }
-        Run::Failed => end(b'3'),
-    }
+fn finish(status: Status, totals: &[u64; 206]) {
+    let is_written = match status {
+        Status::Done => write(totals),
+        Status::Refused => refuse(),
+        Status::Misused => true,
+        Status::Failed => true,
+    };
+    desk_status::tell(desk_status::written(is_written, status));
 }
 
 // Counts with a buffer for one image.

@@ -1,8 +1,8 @@
 // Totals in files: 206 numbers of eight bytes, the low byte first. Several may stand one behind the other, as a pipe brings them.
-use crate::Run;
 use count_images::Carried;
 use desk::output;
 use desk_inputs::Part;
+use desk_status::Status;
 use libc::STDERR_FILENO;
 use libc::STDIN_FILENO;
 use libc::STDOUT_FILENO;
@@ -29,7 +29,7 @@ pub fn write(totals: &[u64; 206]) -> bool {
 }
 
 // Joins the totals in the files that the arguments from the second on name; without names those of standard input.
-pub fn join_files(count: usize, totals: &mut [u64]) -> Run {
+pub fn join_files(count: usize, totals: &mut [u64]) -> Status {
     if count < 3 {
         return join_all(STDIN_FILENO, b"standard input", totals);
     }
@@ -37,56 +37,48 @@ pub fn join_files(count: usize, totals: &mut [u64]) -> Run {
     while i < count {
         let mut name = io::buffer();
         let n = os::arg(i, &mut name);
-        match join_file(&name[..n], totals) {
-            Run::Fine => {}
-            Run::TooMany => {
-                return Run::TooMany;
-            }
-            Run::Failed => {
-                return Run::Failed;
-            }
+        let joined = join_file(&name[..n], totals);
+        if !desk_status::is_done(joined) {
+            return joined;
         }
         i += 1;
     }
-    Run::Fine
+    Status::Done
 }
 
-fn join_file(name: &[u8], totals: &mut [u64]) -> Run {
+fn join_file(name: &[u8], totals: &mut [u64]) -> Status {
     let fd = os::open_read(name);
     if fd < 0 {
         os::fail(name);
-        return Run::Failed;
+        return Status::Failed;
     }
-    let run = join_all(fd, name, totals);
+    let joined = join_all(fd, name, totals);
     libc::close(fd);
-    run
+    joined
 }
 
 // Joins the totals up to the end of an input, which has some: where a part could not be counted, its file is empty. A proved loop has to end,
 // and nothing says that the input does: there are at most 1,000 images, and of totals without one no archive has so many.
-fn join_all(fd: i32, name: &[u8], totals: &mut [u64]) -> Run {
+fn join_all(fd: i32, name: &[u8], totals: &mut [u64]) -> Status {
     let mut left: u64 = MOST_TOTALS;
     while left > 0 {
         let mut bytes = [0u8; 1648];
         match desk_inputs::read_part(fd, &mut bytes) {
-            Part::Whole => match join(name, &bytes, totals) {
-                Run::Fine => {}
-                Run::TooMany => {
-                    return Run::TooMany;
+            Part::Whole => {
+                let joined = join(name, &bytes, totals);
+                if !desk_status::is_done(joined) {
+                    return joined;
                 }
-                Run::Failed => {
-                    return Run::Failed;
-                }
-            },
+            }
             Part::Cut(n) => {
                 if n == 0 && left < MOST_TOTALS {
-                    return Run::Fine;
+                    return Status::Done;
                 }
                 return no_totals(name);
             }
             Part::Failed => {
                 os::fail(name);
-                return Run::Failed;
+                return Status::Failed;
             }
         }
         left -= 1;
@@ -95,7 +87,7 @@ fn join_all(fd: i32, name: &[u8], totals: &mut [u64]) -> Run {
 }
 
 // Joins totals as they stand in a file.
-fn join(name: &[u8], bytes: &[u8], totals: &mut [u64]) -> Run
+fn join(name: &[u8], bytes: &[u8], totals: &mut [u64]) -> Status
     requires { ⌜ length (now bytes) ≡ 1648 ⌝ }
 {
     let mut other = [0u64; 206];
@@ -105,20 +97,20 @@ fn join(name: &[u8], bytes: &[u8], totals: &mut [u64]) -> Run
         k += 1;
     }
     match count_images::join(totals, &other) {
-        Carried::Taken => Run::Fine,
-        Carried::Apart(_) => Run::Fine,
-        Carried::Refused(refusal) => {
-            output::tell(name, refusal);
-            Run::TooMany
-        }
+        Carried::Taken => Status::Done,
+        Carried::Apart(_) => Status::Done,
+        Carried::Refused(refusal) => desk_status::written(
+            output::tell(name, refusal),
+            Status::Refused,
+        ),
         Carried::NoTotals => no_totals(name),
     }
 }
 
-fn no_totals(name: &[u8]) -> Run {
+fn no_totals(name: &[u8]) -> Status {
     io::write_all(STDERR_FILENO, name);
     io::write_all(STDERR_FILENO, b": no totals, or totals cut short\n");
-    Run::Failed
+    Status::Failed
 }
 
 // Stores a number of eight bytes at its place among such numbers.

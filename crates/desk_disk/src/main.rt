@@ -27,21 +27,18 @@ fn answer_changed(changed: Changed, disk: &[u8]) {
     }
 }
 
-// Makes a fresh disk, where there is none of its name, with files on it.
+// Makes a fresh disk with files on it, which ./moldthatch gives its name where that is not taken.
 fn format() {
-    if !output::is_new() {
-        return output::fail();
-    }
     let mut disk = [0u8; 174_848];
     match disk::format(&mut disk) {
-        Changed::Done => saving::save_files(&mut disk),
+        Changed::Done => saving::save_files(&mut disk, true),
         Changed::Refused(refusal) => output::refuse(refusal, b""),
     }
 }
 
 fn save(disk: &mut [u8]) {
     match disk::check(disk) {
-        DiskCheck::Holds { files: _, free: _ } => saving::save_files(disk),
+        DiskCheck::Holds { files: _, free: _ } => saving::save_files(disk, false),
         DiskCheck::Refused(refusal) => output::refuse(refusal, b""),
     }
 }

@@ -1,9 +1,9 @@
 // Files onto a disk. Each word behind the command is FILE=NAME or FILE. Where one of them is refused, or cannot be read, nothing is written.
-use base_lent::Outcome;
 use base_refusals::Refusal;
 use desk::input;
 use desk::names;
 use desk::output;
+use desk::result;
 use desk_inputs::Input;
 use disk_rules::Changed;
 
@@ -62,9 +62,13 @@ fn save_words(disk: &mut [u8]) -> bool {
     true
 }
 
-// Saves all files on the disk, and writes it.
-pub fn save_files(disk: &mut [u8]) {
+// Saves all files on the disk, and writes it, as a new one or in its own place.
+pub fn save_files(disk: &mut [u8], is_new: bool) {
     if save_words(disk) {
-        output::answer(Outcome::Done(disk.len()), disk, b"");
+        output::done(if is_new {
+            result::write_new(disk)
+        } else {
+            result::write_whole(disk)
+        });
     }
 }

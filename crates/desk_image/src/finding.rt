@@ -2,6 +2,7 @@
 use base_lent::Outcome;
 use desk::names;
 use desk::output;
+use desk_status::Status;
 use image_find::Sought;
 use image_readers::By;
 use image_readers::Line;
@@ -11,11 +12,6 @@ use list_options::ListOptions;
 use word_dialects::Dialect;
 ghost use Prim.Native.Nat.{_≤_};
 ghost use lib.ListN.{length};
-
-// Where the status goes that a program cannot end with.
-const STATUS_FILENO: i32 = 3;
-
-const NOT_THERE: u8 = b'1';
 
 // As `list --links` lists.
 fn as_linked() -> ListOptions {
@@ -75,7 +71,7 @@ fn tell_given(number: u16, visited: usize) -> bool {
 // Ends the program where no line has the number.
 fn miss(number: u16, visited: usize) {
     if tell_given(number, visited) {
-        io::write_all(STATUS_FILENO, &[NOT_THERE]);
+        desk_status::tell(Status::Refused);
     } else {
         output::fail();
     }

@@ -10,57 +10,40 @@ use desk::output;
 use desk::result;
 use desk_inputs::Input;
 use desk_options::AskedDialect;
+use desk_status::Status;
 use image_readers::Checked;
 use list_options::ListOptions;
 
 // The first of the files.
 const FILES: usize = names::WORDS + 3;
 
-// Where the status goes that a program cannot end with.
-const STATUS_FILENO: i32 = 3;
-
-// What a file came to, and in the end all of them: the worst has the greatest number.
-const LISTED: u8 = b'0';
-
-const REFUSED: u8 = b'1';
-
-const FAILED: u8 = b'3';
-
-fn worse(first: u8, second: u8) -> u8 {
-    if first < second { second } else { first }
-}
-
 // Where the listing cannot be written, its file may still be open, and others follow.
-fn end_listing(fd: i32, name: &[u8], written: bool) -> u8 {
+fn end_listing(fd: i32, name: &[u8], written: bool) -> Status {
     if result::finish(fd, name, written) {
-        return LISTED;
+        return Status::Done;
     }
     libc::close(fd);
-    FAILED
+    Status::Failed
 }
 
-fn write_listing(file: &[u8], image: &[u8], options: ListOptions) -> u8 {
+fn write_listing(file: &[u8], image: &[u8], options: ListOptions) -> Status {
     let mut name = io::buffer();
     let n = naming::listing_name(file, &mut name);
     let fd = result::begin(&name[..n]);
     if fd < 0 {
-        return FAILED;
+        return Status::Failed;
     }
     let mut out = [0u8; 8192];
     let written = desk_lines::write_lines(fd, &name[..n], image, options, &mut out);
     end_listing(fd, &name[..n], written)
 }
 
-fn refuse(file: &[u8], refusal: Refusal) -> u8 {
-    if output::tell(file, refusal) {
-        REFUSED
-    } else {
-        FAILED
-    }
+fn refuse(file: &[u8], refusal: Refusal) -> Status {
+    desk_status::written(output::tell(file, refusal), Status::Refused)
 }
 
 // Nothing is written before the whole image is known to have a listing.
-fn list_image(file: &[u8], image: &[u8], options: ListOptions) -> u8 {
+fn list_image(file: &[u8], image: &[u8], options: ListOptions) -> Status {
     let by = options.by;
     match image_readers::check_by(image, by) {
         Checked::Image { load: _, lines: _ } => write_listing(file, image, options),
@@ -68,23 +51,23 @@ fn list_image(file: &[u8], image: &[u8], options: ListOptions) -> u8 {
     }
 }
 
-fn list_file(argument: usize, image: &mut [u8], options: ListOptions) -> u8 {
+fn list_file(argument: usize, image: &mut [u8], options: ListOptions) -> Status {
     let mut file = io::buffer();
     let n = names::name(argument, &mut file);
     match input::read_file(&file[..n], image) {
         Input::All(count) => list_image(&file[..n], &image[0..count], options),
         Input::Longer => refuse(&file[..n], Refusal::ImageTooLong { length: 65_537 }),
-        Input::Failed => FAILED,
+        Input::Failed => Status::Failed,
     }
 }
 
 // Whatever a file comes to, the others are listed all the same.
-fn list_files(image: &mut [u8], options: ListOptions) -> u8 {
+fn list_files(image: &mut [u8], options: ListOptions) -> Status {
     let count = os::arg_count();
-    let mut status = LISTED;
+    let mut status = Status::Done;
     let mut i = FILES;
     while i < count {
-        status = worse(status, list_file(i, image, options));
+        status = desk_status::worse(status, list_file(i, image, options));
         i += 1;
     }
     status
@@ -92,8 +75,7 @@ fn list_files(image: &mut [u8], options: ListOptions) -> u8 {
 
 fn list_all(options: ListOptions) {
     let mut image = [0u8; 65_536];
-    let status = list_files(&mut image, options);
-    io::write_all(STATUS_FILENO, &[status]);
+    desk_status::tell(list_files(&mut image, options));
 }
 
 fn main() {

@@ -2,15 +2,11 @@
 // nothing, standard error says so, the status is told, and the program has ended.
 use desk::names;
 use desk::output;
+use desk_status::Status;
 use libc::STDERR_FILENO;
 use text_numbers::Numbering;
 use word_dialects::Dialect;
 use word_dialects::Named;
-
-// Where the status goes that a program cannot end with.
-const STATUS_FILENO: i32 = 3;
-
-const WRONG_USAGE: u8 = b'2';
 
 // The dialect that was asked for.
 pub enum AskedDialect {
@@ -56,7 +52,7 @@ fn misuse(word: &[u8]) -> AskedNumber {
     io::write_all(STDERR_FILENO, b"moldthatch: ");
     io::write_all(STDERR_FILENO, word);
     io::write_all(STDERR_FILENO, b": no number from 0 to 65535\n");
-    io::write_all(STATUS_FILENO, &[WRONG_USAGE]);
+    desk_status::tell(Status::Misused);
     AskedNumber::Ended
 }
 

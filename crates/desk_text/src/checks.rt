@@ -1,9 +1,10 @@
 // The checks of a text: its bytes, then each line by its number, its length and its steps, then the whole.
-use crate::Run;
 use base_lent::Outcome;
 use base_refusals::Refusal;
 use crunch_rules::Options;
+use desk::output;
 use desk::result;
+use desk_status::Status;
 use desk_text_told::sayings;
 use desk_text_told::sentence;
 use desk_text_told::sentence::Tally;
@@ -220,22 +221,26 @@ fn close_line(name: &[u8], k: usize, text: &[u8]) -> bool {
     close_by(name, k, sayings::cut(text, at, line.end))
 }
 
+// What a text comes to.
+fn status_of(tally: Tally) -> Status {
+    let found = if tally.faulty {
+        Status::Refused
+    } else {
+        Status::Done
+    };
+    desk_status::written(!tally.failed, found)
+}
+
 // The dialect, and what decides it.
-fn summary(tally: Tally, name: &[u8], text: &[u8]) -> Run {
+fn summary(tally: Tally, name: &[u8], text: &[u8]) -> Status {
     if tally.quiet {
-        return Run {
-            faulty: tally.faulty,
-            failed: tally.failed,
-        };
+        return status_of(tally);
     }
     let told = match deciding::deciding_line(text, LineRule::AsGiven) {
         Decided::ByLine(k) => close_line(name, k, text),
         Decided::ByNone => sentence::close(name, sayings::BY_NONE, b""),
     };
-    Run {
-        faulty: tally.faulty,
-        failed: tally.failed || !told,
-    }
+    desk_status::written(told, status_of(tally))
 }
 
 // A text that crunching refuses for its length or its bytes: each of these is told, and of a text in UTF-16 only that it is one.
@@ -250,7 +255,7 @@ fn tell_refused(tally: Tally, name: &[u8], text: &[u8]) -> Tally {
 }
 
 // Checks a text, and tells what it finds unless it is to be quiet.
-pub fn check_text(name: &[u8], text: &[u8], quiet: bool) -> Run {
+pub fn check_text(name: &[u8], text: &[u8], quiet: bool) -> Status {
     let start = Tally {
         faulty: false,
         failed: false,
@@ -263,25 +268,19 @@ pub fn check_text(name: &[u8], text: &[u8], quiet: bool) -> Run {
         }
         TextCheck::Refused(_) => {
             let told = tell_refused(start, name, text);
-            Run {
-                faulty: told.faulty,
-                failed: told.failed,
-            }
+            status_of(told)
         }
     }
 }
 
 // Writes the name of a dialect.
-fn named(word: &[u8]) -> Run {
+fn named(word: &[u8]) -> Status {
     let told = result::write_to(STDOUT_FILENO, b"standard output", word);
-    Run {
-        faulty: false,
-        failed: !told,
-    }
+    desk_status::written(told, Status::Done)
 }
 
 // Writes the dialect that Auto is for a text.
-pub fn tell_dialect(name: &[u8], text: &[u8]) -> Run {
+pub fn tell_dialect(name: &[u8], text: &[u8]) -> Status {
     match resolve::resolved_dialect(text, Dialect::Auto) {
         Resolved::Is(dialect) => match dialect {
             Dialect::Auto => named(b"auto\n"),
@@ -291,10 +290,8 @@ pub fn tell_dialect(name: &[u8], text: &[u8]) -> Run {
         },
         Resolved::Refused(refusal) => {
             let told = sentence::refuse(name, refusal);
-            Run {
-                faulty: true,
-                failed: !told,
-            }
+            let is_numbered = output::put_number(refusal);
+            desk_status::written(told && is_numbered, Status::Refused)
         }
     }
 }

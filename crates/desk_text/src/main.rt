@@ -4,17 +4,8 @@ mod checks;
 
 use desk::input;
 use desk_inputs::Input;
+use desk_status::Status;
 use desk_text_told::sayings;
-use libc::STDIN_FILENO;
-
-// Where the status goes that a program cannot end with.
-const STATUS_FILENO: i32 = 3;
-
-// What a run has come to so far.
-pub struct Run {
-    pub faulty: bool,
-    pub failed: bool,
-}
 
 // The letter that says what is to be done.
 fn letter() -> u8 {
@@ -27,7 +18,7 @@ fn letter() -> u8 {
 }
 
 // What is to be done with a text.
-fn done_with(letter: u8, name: &[u8], text: &[u8]) -> Run {
+fn done_with(letter: u8, name: &[u8], text: &[u8]) -> Status {
     if letter == b'd' {
         return checks::tell_dialect(name, text);
     }
@@ -35,21 +26,18 @@ fn done_with(letter: u8, name: &[u8], text: &[u8]) -> Run {
 }
 
 // Takes what was read: a text, or as much of it as the buffer holds, which is refused as too long.
-fn take_input(letter: u8, name: &[u8], input: Input, text: &[u8]) -> Run {
+fn take_input(letter: u8, name: &[u8], input: Input, text: &[u8]) -> Status {
     match input {
         Input::All(count) => done_with(letter, name, sayings::cut(text, 0, count)),
         Input::Longer => done_with(letter, name, text),
-        Input::Failed => Run {
-            faulty: false,
-            failed: true,
-        },
+        Input::Failed => Status::Failed,
     }
 }
 
 // Takes the text in a file, or on standard input for -.
-fn take_named(letter: u8, name: &[u8], text: &mut [u8]) -> Run {
+fn take_named(letter: u8, name: &[u8], text: &mut [u8]) -> Status {
     if name.len() == 1 && name[0] == b'-' {
-        let input = desk_inputs::read_input(STDIN_FILENO, text);
+        let input = input::read_standard(text);
         return take_input(letter, b"standard input", input, text);
     }
     let input = input::read_file(name, text);
@@ -57,42 +45,25 @@ fn take_named(letter: u8, name: &[u8], text: &mut [u8]) -> Run {
 }
 
 // Takes the text in the file that an argument names.
-fn take_file(letter: u8, argument: usize, text: &mut [u8]) -> Run {
+fn take_file(letter: u8, argument: usize, text: &mut [u8]) -> Status {
     let mut name = io::buffer();
     let n = os::arg(argument, &mut name);
     take_named(letter, &name[..n], text)
 }
 
 // Takes the files that the arguments from the second on name. What cannot be read is told, and the others are taken all the same.
-fn take_files(letter: u8, count: usize, text: &mut [u8]) -> Run {
+fn take_files(letter: u8, count: usize, text: &mut [u8]) -> Status {
     let mut i: usize = 2;
-    let mut faulty = false;
-    let mut failed = false;
+    let mut status = Status::Done;
     while i < count {
-        let run = take_file(letter, i, text);
-        if run.faulty {
-            faulty = true;
-        }
-        if run.failed {
-            failed = true;
-        }
+        status = desk_status::worse(status, take_file(letter, i, text));
         i += 1;
     }
-    Run { faulty, failed }
-}
-
-// Tells the status: failed, faulty, or fine.
-fn end(run: Run) {
-    let status = if run.failed {
-        b'3'
-    } else {
-        if run.faulty { b'1' } else { b'0' }
-    };
-    io::write_all(STATUS_FILENO, &[status]);
+    status
 }
 
 fn run_with(text: &mut [u8]) {
-    end(take_files(letter(), os::arg_count(), text));
+    desk_status::tell(take_files(letter(), os::arg_count(), text));
 }
 
 fn main() {

@@ -8,10 +8,10 @@ use Rattle.desk_check.proofs.check_files.Statement.{statement}
 use Rattle.desk_check.proofs.check_files.Tie as tie
 
 abbrev Inv-loop : tie.InvT-loop
-Inv-loop buf₀ is-quiet count run₀ i₀ buf run i = length buf ≡ length buf₀
+Inv-loop buf₀ is-quiet count status₀ i₀ buf status i = length buf ≡ length buf₀
 
 abbrev μ-loop : tie.MeasureT-loop
-μ-loop buf₀ is-quiet count run₀ i₀ buf run i = count - i
+μ-loop buf₀ is-quiet count status₀ i₀ buf status i = count - i
 
 pub check-files-spec : {M : Type 1} → statement M
 check-files-spec =
@@ -23,7 +23,6 @@ check-files-spec =
     (λ c. search needs)
     (λ c κs. search needs)
     (λ c κs. search needs)
-    (λ c. search needs)
     (λ c. search needs)
     (λ c. search needs)
     (λ c. search needs)

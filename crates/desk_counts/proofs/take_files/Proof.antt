@@ -8,10 +8,10 @@ use Rattle.desk_counts.proofs.take_files.Statement.{statement}
 use Rattle.desk_counts.proofs.take_files.Tie as tie
 
 abbrev Inv-loop : tie.InvT-loop
-Inv-loop count image₀ totals₀ i₀ failed₀ image totals i failed = (length image ≡ length image₀) × (length totals ≡ length totals₀)
+Inv-loop count image₀ totals₀ i₀ status₀ image totals i status = (length image ≡ length image₀) × (length totals ≡ length totals₀)
 
 abbrev μ-loop : tie.MeasureT-loop
-μ-loop count image₀ totals₀ i₀ failed₀ image totals i failed = count - i
+μ-loop count image₀ totals₀ i₀ status₀ image totals i status = count - i
 
 pub take-files-spec : {M : Type 1} → statement M
 take-files-spec =
@@ -21,11 +21,7 @@ take-files-spec =
     μ-loop
     (λ c. search needs)
     (λ c κs. search needs)
-    (λ c. search needs)
-    (λ c. search needs)
-    (λ c. search needs)
-    (λ c. search needs)
-    (λ c. search needs)
+    (λ c κs. search needs)
     (λ c. search needs)
     (λ c. search needs)
     (λ c. search needs)

@@ -8,10 +8,10 @@ use Rattle.desk_text.proofs.take_files.Statement.{statement}
 use Rattle.desk_text.proofs.take_files.Tie as tie
 
 abbrev Inv-loop : tie.InvT-loop
-Inv-loop letter count text₀ i₀ faulty₀ failed₀ text i faulty failed = length text ≡ length text₀
+Inv-loop letter count text₀ i₀ status₀ text i status = length text ≡ length text₀
 
 abbrev μ-loop : tie.MeasureT-loop
-μ-loop letter count text₀ i₀ faulty₀ failed₀ text i faulty failed = count - i
+μ-loop letter count text₀ i₀ status₀ text i status = count - i
 
 pub take-files-spec : {M : Type 1} → statement M
 take-files-spec =
@@ -20,6 +20,7 @@ take-files-spec =
     Inv-loop
     μ-loop
     (λ c. search needs)
+    (λ c κs. search needs)
     (λ c κs. search needs)
     (λ c. search needs)
     (λ c. search needs)
