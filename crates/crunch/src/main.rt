@@ -4,10 +4,11 @@ use base_refusals::Refusal;
 use crunch_rules::Options;
 use desk::input;
 use desk::names;
+use desk::options;
+use desk::options::AskedDialect;
+use desk::options::AskedNumber;
 use desk::output;
 use desk_inputs::Input;
-use desk_options::AskedDialect;
-use desk_options::AskedNumber;
 use word_dialects::Dialect;
 ghost use Prim.Native.Nat.{_≤_};
 ghost use lib.ListN.{length};
@@ -39,9 +40,9 @@ fn crunch_given(options: Options) {
 }
 
 fn crunch_under(dialect: Dialect) {
-    let profile = desk_options::is_set(PROFILE);
-    let forms = desk_options::is_set(FORMS);
-    match desk_options::load(LOAD, dialect) {
+    let profile = options::is_set(PROFILE);
+    let forms = options::is_set(FORMS);
+    match options::load(LOAD, dialect) {
         AskedNumber::Known(load) => crunch_given(Options {
             load,
             dialect,
@@ -53,7 +54,7 @@ fn crunch_under(dialect: Dialect) {
 }
 
 fn main() {
-    match desk_options::dialect(DIALECT) {
+    match options::dialect(DIALECT) {
         AskedDialect::Known(dialect) => crunch_under(dialect),
         AskedDialect::Ended => {}
     }

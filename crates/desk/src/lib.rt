@@ -4,5 +4,6 @@
 // read or written.
 pub mod input;
 pub mod names;
+pub mod options;
 pub mod output;
 pub mod result;

@@ -7,9 +7,10 @@ mod references;
 use base_refusals::Refusal;
 use desk::input;
 use desk::names;
+use desk::options;
+use desk::options::AskedNumber;
 use desk::output;
 use desk_inputs::Input;
-use desk_options::AskedNumber;
 use image_readers::By;
 
 const COMMAND: usize = names::WORDS;
@@ -60,16 +61,16 @@ fn look_at_given(look: Look) {
 }
 
 fn find_given() {
-    match desk_options::number(NUMBER) {
+    match options::number(NUMBER) {
         AskedNumber::Known(number) => look_at_given(Look::Line(number)),
         AskedNumber::Ended => {}
     }
 }
 
 fn show_places() {
-    if desk_options::is_set(TEXT) {
+    if options::is_set(TEXT) {
         places::show_given_text();
-    } else if desk_options::is_set(LINKS) {
+    } else if options::is_set(LINKS) {
         look_at_given(Look::Places(By::Links));
     } else {
         look_at_given(Look::Places(By::Terminators));

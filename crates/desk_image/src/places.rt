@@ -4,10 +4,11 @@ use base_refusals::Refusal;
 use crunch_rules::Options;
 use desk::input;
 use desk::names;
+use desk::options;
+use desk::options::AskedDialect;
+use desk::options::AskedNumber;
 use desk::output;
 use desk_inputs::Input;
-use desk_options::AskedDialect;
-use desk_options::AskedNumber;
 use image_readers::By;
 use image_rows::places;
 use word_dialects::Dialect;
@@ -60,7 +61,7 @@ fn show_under(options: Options) {
 }
 
 fn show_in(dialect: Dialect) {
-    match desk_options::load(LOAD, dialect) {
+    match options::load(LOAD, dialect) {
         AskedNumber::Known(load) => show_under(Options {
             load,
             dialect,
@@ -72,7 +73,7 @@ fn show_in(dialect: Dialect) {
 }
 
 pub fn show_given_text() {
-    match desk_options::dialect(DIALECT) {
+    match options::dialect(DIALECT) {
         AskedDialect::Known(dialect) => show_in(dialect),
         AskedDialect::Ended => {}
     }

@@ -1,6 +1,7 @@
 // How an image is listed, and its listed lines, written one after the other, a long one in stretches. No contract can say what is written: the bytes are those that
 // `list_stretches` promises.
 use desk::names;
+use desk::options;
 use desk::result;
 use image_readers::By;
 use image_readers::Step;
@@ -19,14 +20,14 @@ const LINKS: usize = names::WORDS + 2;
 
 // What the flags ask for; without any, what the original lists.
 pub fn asked(dialect: Dialect) -> ListOptions {
-    let by = if desk_options::is_set(LINKS) {
+    let by = if options::is_set(LINKS) {
         By::Links
     } else {
         By::Terminators
     };
     ListOptions {
         dialect,
-        remarks: desk_options::is_set(REMARKS),
+        remarks: options::is_set(REMARKS),
         by,
     }
 }

@@ -6,10 +6,11 @@ mod naming;
 use base_refusals::Refusal;
 use desk::input;
 use desk::names;
+use desk::options;
+use desk::options::AskedDialect;
 use desk::output;
 use desk::result;
 use desk_inputs::Input;
-use desk_options::AskedDialect;
 use desk_status::Status;
 use image_readers::Checked;
 use list_options::ListOptions;
@@ -79,7 +80,7 @@ fn list_all(options: ListOptions) {
 }
 
 fn main() {
-    match desk_options::dialect(desk_lines::DIALECT) {
+    match options::dialect(desk_lines::DIALECT) {
         AskedDialect::Known(dialect) => list_all(desk_lines::asked(dialect)),
         AskedDialect::Ended => {}
     }

@@ -1,15 +1,15 @@
 // The checks of a text: its bytes, then each line by its number, its length and its steps, then the whole.
+use crate::sayings;
+use crate::sentence;
+use crate::sentence::Tally;
+use crate::steps;
+use crate::strange;
 use base_lent::Outcome;
 use base_refusals::Refusal;
 use crunch_rules::Options;
 use desk::output;
 use desk::result;
 use desk_status::Status;
-use desk_text_told::sayings;
-use desk_text_told::sentence;
-use desk_text_told::sentence::Tally;
-use desk_text_told::steps;
-use desk_text_told::strange;
 use editor_findings::deciding;
 use editor_findings::deciding::Decided;
 use guess::resolve;

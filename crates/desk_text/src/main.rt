@@ -1,11 +1,15 @@
 // What an editor asks of texts before they are crunched. ./moldthatch gives it a letter, c to check, q to check and say nothing, d to name the
 // dialect, and then the names of files. What is found goes to standard output. No contract can say what is read or written.
 mod checks;
+mod sayings;
+mod sentence;
+mod steps;
+mod strange;
 
+use crate::sayings;
 use desk::input;
 use desk_inputs::Input;
 use desk_status::Status;
-use desk_text_told::sayings;
 
 // The letter that says what is to be done.
 fn letter() -> u8 {

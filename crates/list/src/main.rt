@@ -2,10 +2,11 @@
 // stretches. Behind the names ./moldthatch puts the dialect's word and two flags: remarks as text, and the reader by links.
 use base_refusals::Refusal;
 use desk::input;
+use desk::options;
+use desk::options::AskedDialect;
 use desk::output;
 use desk::result;
 use desk_inputs::Input;
-use desk_options::AskedDialect;
 use image_readers::Checked;
 use list_options::ListOptions;
 
@@ -40,7 +41,7 @@ fn list_given(options: ListOptions) {
 }
 
 fn main() {
-    match desk_options::dialect(desk_lines::DIALECT) {
+    match options::dialect(desk_lines::DIALECT) {
         AskedDialect::Known(dialect) => list_given(desk_lines::asked(dialect)),
         AskedDialect::Ended => {}
     }

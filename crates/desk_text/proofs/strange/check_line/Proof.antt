@@ -1,8 +1,8 @@
--- `desk_text_told::strange::check_line` is safe and ends.
+-- `desk_text::strange::check_line` is safe and ends.
 -- Assumes nothing.
 use borrow.Author.Needs.{needs}
-use Rattle.desk_text_told.proofs.strange.check_line.Statement.{statement}
-use Rattle.desk_text_told.proofs.strange.check_line.Tie as tie
+use Rattle.desk_text.proofs.strange.check_line.Statement.{statement}
+use Rattle.desk_text.proofs.strange.check_line.Tie as tie
 
 abbrev Inv-loop : tie.InvT-loop
 Inv-loop name k line t₀ at₀ column₀ left₀ t at column left = Unit {0}

@@ -1,10 +1,10 @@
--- `desk_text_told::strange::characters` is safe and ends.
+-- `desk_text::strange::characters` is safe and ends.
 -- Assumes nothing.
 use Prim.Native.Nat.{_-_}
 use lib.ListN.{length}
 use borrow.Author.Needs.{needs}
-use Rattle.desk_text_told.proofs.strange.characters.Statement.{statement}
-use Rattle.desk_text_told.proofs.strange.characters.Tie as tie
+use Rattle.desk_text.proofs.strange.characters.Statement.{statement}
+use Rattle.desk_text.proofs.strange.characters.Tie as tie
 
 abbrev Inv-loop : tie.InvT-loop
 Inv-loop s i₀ n₀ i n = Unit {0}

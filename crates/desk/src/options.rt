@@ -1,7 +1,7 @@
 // What the words ask for that a program was given behind its three names. Each is decided by a call that is proved elsewhere. Where a word asks for
 // nothing, standard error says so, the status is told, and the program has ended.
-use desk::names;
-use desk::output;
+use crate::names;
+use crate::output;
 use desk_status::Status;
 use libc::STDERR_FILENO;
 use text_numbers::Numbering;

@@ -1,8 +1,8 @@
--- `desk_text_told::sayings::line_start` is safe and ends.
+-- `desk_text::sayings::line_start` is safe and ends.
 -- Assumes nothing.
 use borrow.Author.Needs.{needs}
-use Rattle.desk_text_told.proofs.sayings.line_start.Statement.{statement}
-use Rattle.desk_text_told.proofs.sayings.line_start.Tie as tie
+use Rattle.desk_text.proofs.sayings.line_start.Statement.{statement}
+use Rattle.desk_text.proofs.sayings.line_start.Tie as tie
 
 abbrev Inv-loop : tie.InvT-loop
 Inv-loop lines number k₀ from₀ k from = Unit {0}

@@ -1,4 +1,4 @@
--- `desk_text_told::steps::check_steps` is safe and ends. A span is known wherever the walk stands.
+-- `desk_text::steps::check_steps` is safe and ends. A span is known wherever the walk stands.
 -- Assumes nothing.
 use Prim.Native.Nat.{ℕ}
 use mathlib.Core.Path.{_≡_, sym, subst}
@@ -6,8 +6,8 @@ use mathlib.Core.List.{List}
 use Rattle.body_steps.specs.BraceHelpers.{Spans}
 use Rattle.body_steps.specs.declared.string.Span.{Span}
 use borrow.Author.Needs.{needs}
-use Rattle.desk_text_told.proofs.steps.check_steps.Statement.{statement}
-use Rattle.desk_text_told.proofs.steps.check_steps.Tie as tie
+use Rattle.desk_text.proofs.steps.check_steps.Statement.{statement}
+use Rattle.desk_text.proofs.steps.check_steps.Tie as tie
 
 known-there : {t : List ℕ} {w : Span} {a b : ℕ} → a ≡ b → Spans t b w → Spans t a w
 known-there {t} {w} e f = subst (λ (n : ℕ). Spans t n w) (sym e) f

@@ -1,9 +1,9 @@
--- `desk_text_told::sayings::cut` meets its contract.
+-- `desk_text::sayings::cut` meets its contract.
 -- Assumes nothing.
-use Rattle.desk_text_told.proofs.Parts.{cut-behind, cut-none, cut-rest}
+use Rattle.desk_text.proofs.Parts.{cut-behind, cut-none, cut-rest}
 use borrow.Author.Needs.{needs}
-use Rattle.desk_text_told.proofs.sayings.cut.Statement.{statement}
-use Rattle.desk_text_told.proofs.sayings.cut.Tie as tie
+use Rattle.desk_text.proofs.sayings.cut.Statement.{statement}
+use Rattle.desk_text.proofs.sayings.cut.Tie as tie
 
 returns : tie.Need-returns
 returns c = search cut-behind
