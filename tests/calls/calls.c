@@ -3,7 +3,6 @@
 #include "moldthatch.h"
 
 #include <stdio.h>
-#include <string.h>
 
 #define BYTES(text) (const uint8_t *)(text), sizeof(text) - 1
 
@@ -180,7 +179,9 @@ static int unknown(void)
            && moldthatch_measured_line(BYTES(text), crunch, 1).code.number == 14
            && moldthatch_list_with(BYTES(text), list, out, sizeof out).number == 14
            && moldthatch_list_with_room(BYTES(text), list).number == 14 && stretch.code.number == 14
-           && memcmp(&stretch.place, &place, sizeof place) == 0 && moldthatch_default_load(4).number == 14
+           && stretch.place.kind == place.kind && stretch.place.mode == place.mode
+           && stretch.place.number == place.number && stretch.place.at == place.at
+           && moldthatch_default_load(4).number == 14
            && moldthatch_resolved_dialect(BYTES(text), 4).number == 14;
 }
 
