@@ -182,12 +182,12 @@ entry-chained over tr may d met p e = rw (link-same over tr d (p + 1)) (go (link
   go (To n) f = way-chained false over tr may d 683 met n f
   go NoSector f = never f
 
-pub entry-walked : (over : Over) → tracksOver over ≡ 35 → ((n : ℕ) → mayHold false n ≡ true → mayGo over n ≡ true) → (d : List ℕ) (met : ℕ → Bool) (p : ℕ)
+pub entry-walked : (over : Over) → tracksOver over ≡ 35 → ((n : ℕ) → mayHold false n ≡ true → mayGo over n ≡ true) → (d : List ℕ) (j : ℕ) → 683 ≤ j → (met : ℕ → Bool) (p : ℕ)
     → chainOf 683 d p .ends ≡ true → noneTwice (chainOf 683 d p .sectors) ≡ true → ((m : ℕ) → isIn (chainOf 683 d p .sectors) m ≡ true → met m ≡ false)
-    → Walked false (chainOf 683 d p) (wayOf over 683 d met p)
-entry-walked over tr may d met p e o a = rw (link-same over tr d (p + 1)) (go (linkAt d (p + 1)) e o a) where
+    → Walked false (chainOf 683 d p) (wayOf over j d met p)
+entry-walked over tr may d j h met p e o a = rw (link-same over tr d (p + 1)) (go (linkAt d (p + 1)) e o a) where
   go : (l : Link) → chainBy d 683 l .ends ≡ true → noneTwice (chainBy d 683 l .sectors) ≡ true → ((m : ℕ) → isIn (chainBy d 683 l .sectors) m ≡ true → met m ≡ false)
-      → Walked false (chainBy d 683 l) (wayBy d (p + 1) (way over 683 d met) l)
+      → Walked false (chainBy d 683 l) (wayBy d (p + 1) (way over j d met) l)
   go (Last b) f g h = never f
-  go (To n) f g h = chain-walked false over tr may d 683 683 met n (omega arith) f g h
+  go (To n) f g i = chain-walked false over tr may d 683 j met n h f g i
   go NoSector f g h = never f

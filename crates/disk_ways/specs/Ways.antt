@@ -77,6 +77,10 @@ wayBy disk at f NoSector = stopped (strayAt disk at)
 abbrev pub wayOf : Over → ℕ → List ℕ → (ℕ → Bool) → ℕ → Way
 wayOf over k disk met p = wayBy disk (p + 1) (way over k disk met) (linkThere over disk (p + 1))
 
+-- no sector was met
+abbrev pub noneMet : ℕ → Bool
+noneMet m = false
+
 -- whether a way ends as a chain, the directory's or a file's, should
 abbrev pub endsAs : Bool → Stop → Bool
 endsAs dir (Ended n b) = mayEnd dir b

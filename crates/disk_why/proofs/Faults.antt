@@ -17,10 +17,10 @@ use Rattle.disk_rules.specs.Free.{bitAgrees}
 use Rattle.disk_rules.specs.Entries.{nameAt, isNamed}
 use Rattle.disk_chains.proofs.Mapping.{agrees-18, agrees-beyond, agrees-met, agrees-free}
 use Rattle.disk_entries.specs.EntryHelpers.{Entries, firstEntry}
-use Rattle.disk_ways.specs.Ways.{sectorsOver, Way, wayOf, endsAs}
+use Rattle.disk_ways.specs.Ways.{noneMet, sectorsOver, Way, wayOf, endsAs}
 use Rattle.disk_ways.specs.declared.Over.the-variants.{Files}
 use Rattle.disk_ways.specs.declared.Stop.{Stop}
-use Rattle.disk_why.specs.Why.{isNothing, orElse, firstFault, noneMet, sameFault, entryFault, fileFault, aloneFault, metBehind, crossedFault, metBy, bitFault, mapFault}
+use Rattle.disk_why.specs.Why.{isNothing, orElse, firstFault, sameFault, entryFault, fileFault, aloneFault, metBehind, crossedFault, metBy, bitFault, mapFault}
 use Rattle.disk_why.specs.BrokenHelpers.{Crosses, Crossed}
 use Rattle.disk_why.specs.declared.Broken.{Broken}
 use Rattle.disk_why.specs.declared.Broken.the-variants.{Nothing, NotClosed, SameName, File, Free, Used, Beyond}

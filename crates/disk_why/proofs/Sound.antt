@@ -15,7 +15,7 @@ use Rattle.disk_rules.specs.Free.{bitAgrees, mapAgrees}
 use Rattle.disk_rules.specs.Chains.{Chain}
 use Rattle.disk_rules.specs.Entries.{directory, entriesThat, listed, nameAt, isNamed, entriesGood, chainOf}
 use Rattle.disk_rules.specs.Check.{sound}
-use Rattle.disk_ways.specs.Ways.{Way, wayOf, endsAs}
+use Rattle.disk_ways.specs.Ways.{noneMet, Way, wayOf, endsAs}
 use Rattle.disk_ways.specs.declared.Over.the-variants.{Directory as DirectoryWay, Files}
 use Rattle.disk_ways.proofs.Chained.{Chained, way-chained, entry-chained, Walked, chain-walked, entry-walked}
 use Rattle.disk_laws.proofs.Kept.{never}
@@ -23,7 +23,7 @@ use Rattle.disk_laws.proofs.Counting.{and-left, and-right, in-append}
 use Rattle.disk_laws.proofs.Without.{Apart, apart-lists, lists-apart}
 use Rattle.disk_laws.proofs.Fuel.{allSectors, AllEnd}
 use Rattle.disk_laws.proofs.Parts.{Parts, parts, parts-sound}
-use Rattle.disk_why.specs.Why.{isNothing, orElse, firstFault, startFault, noneMet, directoryWay, directoryFault, sameFault, entryFault, fileFault, aloneFault, metBehind, crossedFault, metBy, bitFault, mapFault, listedFault, why}
+use Rattle.disk_why.specs.Why.{isNothing, orElse, firstFault, startFault, directoryWay, directoryFault, sameFault, entryFault, fileFault, aloneFault, metBehind, crossedFault, metBy, bitFault, mapFault, listedFault, why}
 use Rattle.disk_why.specs.declared.Broken.{Broken}
 use Rattle.disk_why.specs.declared.Broken.the-variants.{Nothing, Length, Start, Directory, NotClosed, SameName, File, Free, Used, Beyond}
 
@@ -185,7 +185,7 @@ module _ (d : List ℕ) (met : ℕ → Bool) (p : ℕ) (l : List ℕ) where
     in-own m i = h m (in-append own all m ∙ ap (λ (q : Bool). q || isIn all m) i)
 
     walked : Walked false (chainOf 683 d p) (wayOf Files 683 d met p)
-    walked = entry-walked Files refl (λ n g. g) d met p e (a .left) in-own
+    walked = entry-walked Files refl (λ n g. g) d 683 (omega arith) met p e (a .left) in-own
 
     behind : (m : ℕ) → isIn all m ≡ true → metBehind d met p m ≡ false
     behind m i =

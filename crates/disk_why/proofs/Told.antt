@@ -14,12 +14,12 @@ use Rattle.disk_rules.specs.Entries.{entriesThat}
 use Rattle.disk_chains.specs.ChainHelpers.{Sectors, Lists}
 use Rattle.disk_entries.specs.EntryHelpers.{Entries}
 use Rattle.disk_check.proofs.Looking.{that-entries, that-few, listed-start}
-use Rattle.disk_ways.specs.Ways.{way, endsAs, sectorsOver}
+use Rattle.disk_ways.specs.Ways.{noneMet, way, endsAs, sectorsOver}
 use Rattle.disk_ways.specs.WayHelpers.{Follows}
 use Rattle.disk_ways.specs.declared.Over.the-variants.{Directory as DirectoryWay}
 use Rattle.disk_ways.specs.declared.Followed.{Followed}
 use Rattle.disk_ways.proofs.Logged.{Of, way-each, followed-start}
-use Rattle.disk_why.specs.Why.{isNothing, orElse, noneMet, directoryWay, entryFault, aloneFault, crossedFault, metBy, mapFault, listedFault, why}
+use Rattle.disk_why.specs.Why.{isNothing, orElse, directoryWay, entryFault, aloneFault, crossedFault, metBy, mapFault, listedFault, why}
 use Rattle.disk_why.specs.BrokenHelpers.{Crossed}
 use Rattle.disk_why.specs.declared.Broken.{Broken}
 use Rattle.disk_why.specs.declared.Broken.the-variants.{Nothing, Length, Start, Directory}

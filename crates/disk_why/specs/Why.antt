@@ -11,7 +11,7 @@ use Rattle.disk_rules.specs.Lists.{numbersFrom, those, isIn}
 use Rattle.disk_rules.specs.Map.{bitAt}
 use Rattle.disk_rules.specs.Free.{bitAgrees}
 use Rattle.disk_rules.specs.Entries.{nameAt, isNamed, entriesThat}
-use Rattle.disk_ways.specs.Ways.{Way, way, wayOf, endsAs}
+use Rattle.disk_ways.specs.Ways.{noneMet, Way, way, wayOf, endsAs}
 use Rattle.disk_ways.specs.declared.Over.the-variants.{Directory as DirectoryWay, Files}
 use Rattle.disk_ways.specs.declared.Stop.{Stop}
 use Rattle.disk_why.specs.declared.Broken.{Broken}
@@ -43,10 +43,6 @@ firstFault f (n ∷ ns) = orElse (f n) (firstFault f ns)
 -- "18/0 links to 18/1"
 abbrev pub startFault : List ℕ → Broken
 startFault disk = cond (eqb (getD disk 91392 0) 18 && eqb (getD disk 91393 0) 1) Nothing (Start (getD disk 91392 0) (getD disk 91393 0))
-
--- no sector was met
-abbrev pub noneMet : ℕ → Bool
-noneMet m = false
 
 -- the directory's way, from 18/1 on, over its 18 sectors
 unfoldable pub directoryWay : List ℕ → Way
