@@ -6,7 +6,8 @@ use mathlib.Core.List.{List, []}
 use lib.ListN.{length, getD, take}
 use native.Mathlib.Omega.{arith}
 use Rattle.disk_rules.specs.Entries.{nameAt}
-use Rattle.disk_any.specs.Any.{diskKind, anyListed, spotFrom, anySpot, entryTold, nameOf, fileOn, ReadInto, readBy, readAt, anyFile}
+use Rattle.disk_any.specs.Any.{diskKind, directoryOn, stopBy, anyListed, spotFrom, anySpot, entryTold, nameOf, fileOn, ReadInto, readBy, readAt, anyFile}
+use Rattle.disk_ways.specs.declared.Stop.{Stop}
 use Rattle.disk_any.specs.AnyHelpers.{Placed}
 use Rattle.disk_any.specs.declared.DiskKind.{DiskKind}
 use Rattle.disk_any.specs.declared.DiskKind.the-variants.{D64, D71, D81, Other}
@@ -15,7 +16,7 @@ use Rattle.disk_any.specs.declared.EntrySpot.the-variants.{On, Off}
 use Rattle.disk_any.specs.declared.Entry.{Entry}
 use Rattle.disk_any.specs.declared.Entry.the-variants.{Is, None}
 use Rattle.disk_any.specs.declared.FileRead.{FileRead}
-use Rattle.disk_any.specs.declared.FileRead.the-variants.{NoEntry}
+use Rattle.disk_any.specs.declared.FileRead.the-variants.{NoEntry, Stopped}
 
 pub described-as : (d : List ℕ) (q : ℕ) {n m : ℕ} → n ≡ getD d (q + 28) 0 → m ≡ getD d (q + 29) 0
     → Is (getD d q 0) (getD d (q + 1) 0) (getD d (q + 2) 0) (n + 256 * m) ≡ entryTold d (On q)
@@ -67,3 +68,18 @@ module _ (d : List ℕ) (place : ℕ) (out : List ℕ) {k : DiskKind} (f : k ≡
   pub file-other : k ≡ Other → _≡_ {A = ReadInto} (record { answer = NoEntry; buffer = out }) (anyFile d place out)
   unfolding anyFile
   file-other g = ap (λ (x : DiskKind). readAt d x (anySpot d place) out) (sym g ∙ f)
+
+-- how the directory's chain stops
+
+module _ (d : List ℕ) {k : DiskKind} (f : k ≡ diskKind (length d)) where
+  pub stop-told : {tracks : ℕ} {s : Stop} → k ≡ D64 tracks → s ≡ directoryOn tracks d .stop → Stopped s ≡ stopBy d (diskKind (length d))
+  stop-told g e = ap Stopped e ∙ ap (stopBy d) (sym g ∙ f)
+
+  pub stop-71 : k ≡ D71 → NoEntry ≡ stopBy d (diskKind (length d))
+  stop-71 g = ap (stopBy d) (sym g ∙ f)
+
+  pub stop-81 : k ≡ D81 → NoEntry ≡ stopBy d (diskKind (length d))
+  stop-81 g = ap (stopBy d) (sym g ∙ f)
+
+  pub stop-other : k ≡ Other → NoEntry ≡ stopBy d (diskKind (length d))
+  stop-other g = ap (stopBy d) (sym g ∙ f)

@@ -151,6 +151,9 @@ module _ {d : List ℕ} {tracks : ℕ} (h : Holds d tracks) where
       found : take (r .to) after ≡ directoryOn tracks d .sectors
       found = subst (λ (met : ℕ → Bool). take (r .to) after ≡ way (Tracks tracks) 768 d met 358 .sectors) blank (followed-start f)
 
+      pub directory-stops : r .stop ≡ directoryOn tracks d .stop
+      directory-stops = subst (λ (met : ℕ → Bool). r .stop ≡ way (Tracks tracks) 768 d met 358 .stop) blank (f .stop)
+
       pub directory-below : Below d (take (r .to) after)
       directory-below =
           rw (followed-start f)

@@ -37,6 +37,13 @@ diskKind n =
 abbrev pub directoryOn : ℕ → List ℕ → Way
 directoryOn tracks disk = way (Tracks tracks) 768 disk noneMet 358
 
+-- how it stops
+abbrev pub stopBy : List ℕ → DiskKind → FileRead
+stopBy disk (D64 tracks) = Stopped (directoryOn tracks disk .stop)
+stopBy disk D71 = NoEntry
+stopBy disk D81 = NoEntry
+stopBy disk Other = NoEntry
+
 -- "every entry of the directory whose type is not 00, in the chain's order"
 abbrev pub listedBy : List ℕ → DiskKind → List ℕ
 listedBy disk (D64 tracks) = entriesThat true disk (directoryOn tracks disk .sectors)

@@ -13,7 +13,7 @@ ghost use lib.ListN.{length};
 ghost use lib.Seq.{sets};
 ghost use Rattle.disk_rules.specs.Entries.{entriesThat};
 ghost use Rattle.disk_rules.specs.Calls.{payload, chainBytes};
-ghost use Rattle.disk_any.specs.Any.{diskKind, directoryOn, anyListed, anySpot, entryTold, nameOf, fileOn, readBy, anyFile};
+ghost use Rattle.disk_any.specs.Any.{diskKind, directoryOn, stopBy, anyListed, anySpot, entryTold, nameOf, fileOn, readBy, anyFile};
 ghost use Rattle.disk_any.specs.declared.EntrySpot.the-variants.{On};
 ghost use Rattle.disk_any.specs.AnyHelpers.{Holds, Below, Placed};
 
@@ -116,6 +116,29 @@ fn locate(disk: &[u8], place: usize) -> EntrySpot
         DiskKind::D71 => EntrySpot::Off,
         DiskKind::D81 => EntrySpot::Off,
         DiskKind::Other => EntrySpot::Off,
+    }
+}
+
+// How the directory's chain stops on a disk of so many tracks.
+fn stop_on(disk: &[u8], tracks: usize) -> Stop
+    requires { ⌜ Holds (now disk) tracks ⌝ }
+    ensures { λ r. ⌜ r ≡ directoryOn tracks (now (disk .entry)) .stop ⌝ }
+{
+    let mut log = [0usize; 768];
+    let mut marks = [false; 768];
+    let followed = follow(disk, Over::Tracks(tracks), 358, &mut log, &mut marks);
+    followed.stop
+}
+
+// How the directory's chain stops; no entry where the image is no D64.
+pub fn directory_stop(disk: &[u8]) -> FileRead
+    ensures { λ r. ⌜ r ≡ stopBy (now (disk .entry)) (diskKind (length (now (disk .entry)))) ⌝ }
+{
+    match disk_kind(disk.len()) {
+        DiskKind::D64(tracks) => FileRead::Stopped(stop_on(disk, tracks)),
+        DiskKind::D71 => FileRead::NoEntry,
+        DiskKind::D81 => FileRead::NoEntry,
+        DiskKind::Other => FileRead::NoEntry,
     }
 }
 
