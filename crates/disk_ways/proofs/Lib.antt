@@ -1,0 +1,4 @@
+pub mod Chained
+pub mod Following
+pub mod Going
+pub mod Logged

@@ -1,0 +1,2 @@
+pub mod WayHelpers
+pub mod Ways

@@ -1,0 +1,2 @@
+pub mod BrokenHelpers
+pub mod Why
