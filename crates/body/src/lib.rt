@@ -99,7 +99,8 @@ fn behind_prefix(n: usize, prefixed: bool) -> usize
     n
 }
 
-// Writes a body at the start of a buffer that has room for it, and answers its length.
+// Writes a body at the start of a buffer that has room for it, and answers its length. Its loop is that of `measure_body` with a store in the
+// place of a count, by the same law (`Run`): one loop for both would ask at each byte which of the two it serves.
 pub fn write_body(out: &mut [u8], text: &[u8], bytes: &[u8], index: &[u16], sets: Sets) -> usize
     requires { ⌜ SpellsWords (now bytes) (now index) × Room (now out) 0 (crunchedBody (lexicon sets) (now text)) ⌝ }
     ensures { λ r. ⌜ Put (now (out .entry)) 0 (crunchedBody (lexicon sets) (now (text .entry))) r (now (out .exit)) ⌝ }

@@ -12,6 +12,7 @@ ghost use Rattle.body_rules.specs.Lexicon.{lexicon};
 ghost use Rattle.body.specs.Zero.{holdsZero};
 
 // Looks to the body's end, however long it is; a byte that an escape repeats is looked at once. A short byte gives a zero just where it is one.
+// A loop of its own beside the measuring one, which counts and stops at 65,536, and which plain crunching runs without asking for zeros.
 pub fn holds_zero(text: &[u8], bytes: &[u8], index: &[u16], sets: Sets) -> bool
     requires { ⌜ SpellsWords (now bytes) (now index) ⌝ }
     ensures { λ r. ⌜ r ≡ holdsZero (crunchedBody (lexicon sets) (now (text .entry))) ⌝ }

@@ -34,7 +34,8 @@ pub fn measure_body(bytes: &[u8], starts: &[u16], rules: Rules, body: &[u8]) -> 
     n
 }
 
-// Stores the listing of a body from a place on, and answers the place behind it.
+// Stores the listing of a body from a place on, and answers the place behind it. A second loop beside `measure_body`: one for both would ask at each
+// unit which of the two it serves.
 pub fn put_body(
     out: &mut [u8],
     at: usize,

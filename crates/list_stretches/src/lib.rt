@@ -115,7 +115,7 @@ fn put_body_stretch(
     }
 }
 
-// What a buffer holds of the units of a body from a spot on.
+// What a buffer holds of the units of a body from a spot on. A loop of its own beside `put_body`, which has room for the whole body and asks for none.
 fn put_run(
     out: &mut [u8],
     bytes: &[u8],
