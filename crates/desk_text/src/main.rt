@@ -6,7 +6,6 @@ mod sentence;
 mod steps;
 mod strange;
 
-use crate::sayings;
 use desk::input;
 use desk_inputs::Input;
 use desk_status::Status;
