@@ -1,5 +1,6 @@
 // What is read of the input that a program was given, or of a file by its name. Standard error names what could not be read.
 use crate::names;
+use crate::saying;
 use desk_inputs::Input;
 use libc::STDIN_FILENO;
 ghost use Rattle.desk_inputs.specs.CountedHelpers.{InputWithin};
@@ -10,7 +11,7 @@ fn read_from(fd: i32, name: &[u8], buf: &mut [u8]) -> Input
 {
     let input = desk_inputs::read_input(fd, buf);
     if let Input::Failed = input {
-        os::fail(name);
+        saying::fail(name);
     }
     input
 }
@@ -21,7 +22,7 @@ pub fn read_file(name: &[u8], buf: &mut [u8]) -> Input
 {
     let fd = os::open_read(name);
     if fd < 0 {
-        os::fail(name);
+        saying::fail(name);
         return Input::Failed;
     }
     let input = read_from(fd, name, buf);

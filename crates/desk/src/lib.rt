@@ -7,3 +7,4 @@ pub mod names;
 pub mod options;
 pub mod output;
 pub mod result;
+pub mod saying;

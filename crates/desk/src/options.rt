@@ -2,8 +2,9 @@
 // nothing, standard error says so, the status is told, and the program has ended.
 use crate::names;
 use crate::output;
+use crate::saying;
 use desk_status::Status;
-use libc::STDERR_FILENO;
+use say_put::put_text;
 use text_numbers::Numbering;
 use word_dialects::Dialect;
 use word_dialects::Named;
@@ -49,9 +50,11 @@ pub fn dialect(argument: usize) -> AskedDialect {
 
 // Ends a program that was given a word in the place of a number.
 fn misuse(word: &[u8]) -> AskedNumber {
-    io::write_all(STDERR_FILENO, b"moldthatch: ");
-    io::write_all(STDERR_FILENO, word);
-    io::write_all(STDERR_FILENO, b": no number from 0 to 65535\n");
+    let mut line = [0u8; 4352];
+    let from = put_text(&mut line, 0, b"moldthatch: ");
+    let to = put_text(&mut line, from, word);
+    let end = put_text(&mut line, to, b": no number from 0 to 65535");
+    saying::tell(&line[..end]);
     desk_status::tell(Status::Misused);
     AskedNumber::Ended
 }

@@ -1,11 +1,11 @@
 // What is written. Every write's answer is looked at, and standard error names what failed.
 use crate::names;
 use crate::result;
+use crate::saying;
 use base_lent::Outcome;
 use base_refusals::Code;
 use base_refusals::Refusal;
 use desk_status::Status;
-use libc::STDERR_FILENO;
 use libc::STDOUT_FILENO;
 ghost use Prim.Native.Nat.{_≤_};
 ghost use lib.ListN.{length};
@@ -16,7 +16,7 @@ fn write_line(name: &[u8], text: &[u8], code: Code) -> bool
 {
     let mut line = [0u8; 4352];
     let n = say_sentences::message(name, text, code, &mut line);
-    io::write_all(STDERR_FILENO, &line[..n])
+    saying::tell(&line[..n])
 }
 
 // Writes the sentence of a refusal that speaks of a file to standard error, behind the file's name.

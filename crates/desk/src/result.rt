@@ -2,6 +2,7 @@
 // not at all: what was there before stays as it was where anything fails.
 use crate::names;
 use crate::names::Way;
+use crate::saying;
 use libc::STDOUT_FILENO;
 ghost use Rattle.io.specs.Counts.{Counts};
 
@@ -29,7 +30,7 @@ pub fn begin(name: &[u8]) -> i32 {
         Way::Nowhere => -1,
     };
     if fd < 0 {
-        os::fail(name);
+        saying::fail(name);
     }
     fd
 }
@@ -95,7 +96,7 @@ pub fn write_new(bytes: &[u8]) -> bool {
 pub fn write_to(fd: i32, name: &[u8], bytes: &[u8]) -> bool {
     let done = io::write_all(fd, bytes);
     if !done {
-        os::fail(name);
+        saying::fail(name);
     }
     done
 }
@@ -104,7 +105,7 @@ pub fn write_to(fd: i32, name: &[u8], bytes: &[u8]) -> bool {
 fn is_kept(fd: i32, name: &[u8]) -> bool {
     let done = libc::fsync(fd) >= 0;
     if !done {
-        os::fail(name);
+        saying::fail(name);
     }
     done
 }
@@ -112,7 +113,7 @@ fn is_kept(fd: i32, name: &[u8]) -> bool {
 fn is_closed(fd: i32, name: &[u8]) -> bool {
     let done = libc::close(fd) >= 0;
     if !done {
-        os::fail(name);
+        saying::fail(name);
     }
     done
 }
@@ -120,7 +121,7 @@ fn is_closed(fd: i32, name: &[u8]) -> bool {
 fn is_renamed(part: &[u8], name: &[u8]) -> bool {
     let done = os::rename(part, name) >= 0;
     if !done {
-        os::fail(name);
+        saying::fail(name);
     }
     done
 }
@@ -128,6 +129,6 @@ fn is_renamed(part: &[u8], name: &[u8]) -> bool {
 // Takes away what was written of a file that is not to be.
 fn remove(part: &[u8]) {
     if os::unlink(part) < 0 {
-        os::fail(part);
+        saying::fail(part);
     }
 }

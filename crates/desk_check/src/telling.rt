@@ -3,16 +3,15 @@
 use base_lent::Outcome;
 use base_refusals::Refusal;
 use desk::output;
-use desk::result;
+use desk::saying;
 use desk_status::Status;
 use image_faults::Fault;
-use libc::STDOUT_FILENO;
 ghost use Prim.Native.Nat.{_≤_};
 ghost use lib.ListN.{length};
 ghost use Rattle.desk.specs.ResultHelpers.{Holds};
 
 fn write_line(line: &[u8]) -> bool {
-    result::write_to(STDOUT_FILENO, b"standard output", line)
+    saying::say(line)
 }
 
 // No name is longer: the desk reads 4,096 bytes of one, and puts the name of a disk's file behind it.

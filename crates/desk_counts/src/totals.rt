@@ -1,11 +1,12 @@
 // Totals in files: 206 numbers of eight bytes, the low byte first. Several may stand one behind the other, as a pipe brings them.
 use count_images::Carried;
 use desk::output;
+use desk::saying;
 use desk_inputs::Part;
 use desk_status::Status;
-use libc::STDERR_FILENO;
 use libc::STDIN_FILENO;
 use libc::STDOUT_FILENO;
+use say_put::put_text;
 ghost use mathlib.Core.Path.{_≡_};
 ghost use Prim.Native.Nat.{_+_, _*_, _≤_};
 ghost use lib.ListN.{length};
@@ -49,7 +50,7 @@ pub fn join_files(count: usize, totals: &mut [u64]) -> Status {
 fn join_file(name: &[u8], totals: &mut [u64]) -> Status {
     let fd = os::open_read(name);
     if fd < 0 {
-        os::fail(name);
+        saying::fail(name);
         return Status::Failed;
     }
     let joined = join_all(fd, name, totals);
@@ -77,7 +78,7 @@ fn join_all(fd: i32, name: &[u8], totals: &mut [u64]) -> Status {
                 return no_totals(name);
             }
             Part::Failed => {
-                os::fail(name);
+                saying::fail(name);
                 return Status::Failed;
             }
         }
@@ -108,8 +109,10 @@ fn join(name: &[u8], bytes: &[u8], totals: &mut [u64]) -> Status
 }
 
 fn no_totals(name: &[u8]) -> Status {
-    io::write_all(STDERR_FILENO, name);
-    io::write_all(STDERR_FILENO, b": no totals, or totals cut short\n");
+    let mut line = [0u8; 4352];
+    let from = put_text(&mut line, 0, name);
+    let end = put_text(&mut line, from, b": no totals, or totals cut short");
+    saying::tell(&line[..end]);
     Status::Failed
 }
 

@@ -2,11 +2,11 @@
 use base_lent::Outcome;
 use desk::names;
 use desk::output;
+use desk::saying;
 use desk_status::Status;
 use image_find::Sought;
 use image_readers::By;
 use image_readers::Line;
-use libc::STDERR_FILENO;
 use libc::STDOUT_FILENO;
 use list_options::ListOptions;
 use word_dialects::Dialect;
@@ -53,7 +53,7 @@ fn tell_missing(name: &[u8], number: u16, visited: usize) -> bool
 {
     let mut row = [0u8; 4608];
     match image_rows::lend_missing(name, number, visited, &mut row) {
-        Outcome::Done(n) => io::write_all(STDERR_FILENO, &row[0..n]),
+        Outcome::Done(n) => saying::tell(&row[0..n]),
         Outcome::Refused(refusal) => output::tell(name, refusal),
     }
 }

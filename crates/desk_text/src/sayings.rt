@@ -59,10 +59,12 @@ pub const BY_COLUMN: usize = 25;
 
 pub const BY_NONE: usize = 26;
 
+pub const MORE: usize = 27;
+
 // The sentences from this one on are remarks: no release refuses a text for them.
 pub const REMARKS: usize = TSB_WORD;
 
-const SENTENCES: [u8; 1142] = *b"\
+const SENTENCES: [u8; 1153] = *b"\
     fault: line number % is above 63999\n\
     fault: line number % is not above the one before\n\
     fault: no line number\n\
@@ -89,7 +91,8 @@ const SENTENCES: [u8; 1142] = *b"\
     : dialect tsb: line % decides\n\
     , by %\n\
     , column %\n\
-    : dialect basicv2: no line decides for tsb\n";
+    : dialect basicv2: no line decides for tsb\n\
+    : % more: \n";
 
 // A sum, or the largest number where it is larger.
 pub fn sum(a: usize, b: usize) -> usize
@@ -156,4 +159,12 @@ pub fn add(line: &mut [u8], at: usize, text: &[u8]) -> usize {
         return at;
     }
     say_put::put_text(line, at, text)
+}
+
+// Adds a line with its end, shown, as much of it as fits.
+pub fn add_line(page: &mut [u8], at: usize, words: &[u8]) -> usize {
+    if at > page.len() {
+        return at;
+    }
+    say_shown::put_line(page, at, words)
 }

@@ -46,20 +46,20 @@ fn put_near(near: &mut [u8], inside: &[u8]) -> usize {
 }
 
 // What an author has put behind a {, and the name that is nearest to it.
-fn tell_stray(tally: Tally, name: &[u8], at: Place, saying: usize, inside: &[u8]) -> Tally {
+fn tell_stray(tally: Tally, page: &mut [u8], at: Place, saying: usize, inside: &[u8]) -> Tally {
     let mut near = [0u8; 40];
     let n = put_near(&mut near, inside);
-    sentence::tell(tally, name, at, saying, inside, sayings::cut(&near, 0, n))
+    sentence::tell(tally, page, at, saying, inside, sayings::cut(&near, 0, n))
 }
 
 // A { that begins no escape.
-fn tell_brace(tally: Tally, name: &[u8], at: Place, rest: &[u8]) -> Tally {
+fn tell_brace(tally: Tally, page: &mut [u8], at: Place, rest: &[u8]) -> Tally {
     match braces::behind_brace(rest) {
-        Inside::Closed(n) => tell_stray(tally, name, at, sayings::STRAY, sayings::cut(rest, 0, n)),
-        Inside::Unclosed(n) => tell_stray(tally, name, at, sayings::OPEN, sayings::cut(rest, 0, n)),
+        Inside::Closed(n) => tell_stray(tally, page, at, sayings::STRAY, sayings::cut(rest, 0, n)),
+        Inside::Unclosed(n) => tell_stray(tally, page, at, sayings::OPEN, sayings::cut(rest, 0, n)),
         Inside::Long => sentence::tell(
             tally,
-            name,
+            page,
             at,
             sayings::LONG,
             sayings::cut(rest, 0, 40),
@@ -69,17 +69,17 @@ fn tell_brace(tally: Tally, name: &[u8], at: Place, rest: &[u8]) -> Tally {
 }
 
 // A step that gives a zero: an escape, or the byte itself.
-fn tell_zero(tally: Tally, name: &[u8], at: Place, step: &[u8]) -> Tally {
+fn tell_zero(tally: Tally, page: &mut [u8], at: Place, step: &[u8]) -> Tally {
     if step.len() < 2 {
-        return sentence::tell_bare(tally, name, at, sayings::ZERO_BYTE);
+        return sentence::tell_bare(tally, page, at, sayings::ZERO_BYTE);
     }
-    sentence::tell(tally, name, at, sayings::ZERO, step, b"")
+    sentence::tell(tally, page, at, sayings::ZERO, step, b"")
 }
 
 // A step that was found: its text, and what stands behind it.
 fn tell_sight(
     tally: Tally,
-    name: &[u8],
+    page: &mut [u8],
     at: Place,
     finding: Finding,
     step: &[u8],
@@ -87,15 +87,15 @@ fn tell_sight(
 ) -> Tally {
     match finding {
         Finding::Usual => tally,
-        Finding::TsbWord => sentence::tell(tally, name, at, sayings::TSB_WORD, step, b""),
-        Finding::Zero => tell_zero(tally, name, at, step),
-        Finding::Brace => tell_brace(tally, name, at, rest),
-        Finding::Control => sentence::tell_bare(tally, name, at, sayings::CONTROL),
+        Finding::TsbWord => sentence::tell(tally, page, at, sayings::TSB_WORD, step, b""),
+        Finding::Zero => tell_zero(tally, page, at, step),
+        Finding::Brace => tell_brace(tally, page, at, rest),
+        Finding::Control => sentence::tell_bare(tally, page, at, sayings::CONTROL),
     }
 }
 
 // The steps of a body, which begins at a place of its text: at most one is told for each byte.
-pub fn check_steps(tally: Tally, name: &[u8], from: Place, body: &[u8], sets: Sets) -> Tally {
+pub fn check_steps(tally: Tally, page: &mut [u8], from: Place, body: &[u8], sets: Sets) -> Tally {
     let mut t = tally;
     let mut stand = at::stand_at(body, 0, Mode::Plain);
     let mut told: usize = 0;
@@ -125,7 +125,7 @@ pub fn check_steps(tally: Tally, name: &[u8], from: Place, body: &[u8], sets: Se
                 let step = sayings::cut(body, at, to.at);
                 t = tell_sight(
                     t,
-                    name,
+                    page,
                     place,
                     finding,
                     step,

@@ -6,8 +6,8 @@ use Rattle.desk.proofs.output.write_line.Statement.{statement}
 use Rattle.desk.proofs.output.write_line.Tie as tie
 
 -- what was stored lies within the buffer
-slice-aggregate-write-all : tie.Need-slice-aggregate-write-all
-slice-aggregate-write-all c = search stored-count
+slice-aggregate-tell : tie.Need-slice-aggregate-tell
+slice-aggregate-tell c = search stored-count
 
 pub write-line-spec : {M : Type 1} → statement M
 write-line-spec =
@@ -16,6 +16,6 @@ write-line-spec =
     (λ c. search needs)
     (λ c κs. search needs)
     (λ c. search needs)
-    slice-aggregate-write-all
+    slice-aggregate-tell
     (λ c κs. search needs)
     (λ c. search needs))

@@ -5,8 +5,8 @@ use borrow.Author.Needs.{needs}
 use Rattle.desk_image.proofs.finding.tell_missing.Statement.{statement}
 use Rattle.desk_image.proofs.finding.tell_missing.Tie as tie
 
-part-write-all-end : tie.Need-part-write-all-end
-part-write-all-end c = search stored-within
+part-tell-end : tie.Need-part-tell-end
+part-tell-end c = search stored-within
 
 pub tell-missing-spec : {M : Type 1} → statement M
 tell-missing-spec =
@@ -17,7 +17,7 @@ tell-missing-spec =
     (λ c. search needs)
     (λ c. search needs)
     (λ c. search needs)
-    part-write-all-end
+    part-tell-end
     (λ c κs. search needs)
     (λ c. search needs)
     (λ c κs. search needs)

@@ -1,6 +1,7 @@
 -- `desk_text::checks::check_lines` is safe and ends.
 -- Assumes nothing.
 use Prim.Native.Nat.{_-_}
+use mathlib.Core.Path.{_≡_}
 use lib.ListN.{length}
 use Rattle.guess.proofs.Texts.{line-less}
 use borrow.Author.Needs.{needs}
@@ -8,10 +9,10 @@ use Rattle.desk_text.proofs.checks.check_lines.Statement.{statement}
 use Rattle.desk_text.proofs.checks.check_lines.Tie as tie
 
 abbrev Inv-loop : tie.InvT-loop
-Inv-loop name text sets found₀ at₀ k₀ found at k = Unit {0}
+Inv-loop page₀ text sets found₀ at₀ k₀ page found at k = length page ≡ length page₀
 
 abbrev μ-loop : tie.MeasureT-loop
-μ-loop name text sets found₀ at₀ k₀ found at k = length text - at
+μ-loop page₀ text sets found₀ at₀ k₀ page found at k = length text - at
 
 loop-less : tie.Need-loop-less Inv-loop μ-loop
 loop-less c = search line-less
@@ -28,5 +29,6 @@ check-lines-spec =
     (λ c κs. search needs)
     (λ c κs. search needs)
     loop-less
+    (λ c. search needs)
     (λ c. search needs)
     (λ c. search needs))

@@ -3,6 +3,8 @@
 use Prim.Native.Nat.{ℕ}
 use mathlib.Core.Path.{_≡_, sym, subst}
 use mathlib.Core.List.{List}
+use lib.ListN.{length}
+use Rattle.base_steps.proofs.The.{the}
 use Rattle.body_steps.specs.BraceHelpers.{Spans}
 use Rattle.body_steps.specs.declared.string.Span.{Span}
 use borrow.Author.Needs.{needs}
@@ -13,10 +15,10 @@ known-there : {t : List ℕ} {w : Span} {a b : ℕ} → a ≡ b → Spans t b w 
 known-there {t} {w} e f = subst (λ (n : ℕ). Spans t n w) (sym e) f
 
 abbrev Inv-loop : tie.InvT-loop
-Inv-loop name from body sets t₀ stand₀ told₀ column₀ left₀ t stand told column left = Spans body (stand .at) (stand .span)
+Inv-loop page₀ from body sets t₀ stand₀ told₀ column₀ left₀ page t stand told column left = Spans body (stand .at) (stand .span) × (length page ≡ length page₀)
 
 abbrev μ-loop : tie.MeasureT-loop
-μ-loop name from body sets t₀ stand₀ told₀ column₀ left₀ t stand told column left = left
+μ-loop page₀ from body sets t₀ stand₀ told₀ column₀ left₀ page t stand told column left = left
 
 loop-holds : tie.Need-loop-holds Inv-loop μ-loop
 loop-holds c = search known-there
@@ -42,5 +44,6 @@ check-steps-spec =
     (λ c κs. search needs)
     (λ c κs. search needs)
     (λ c. search needs)
+    (λ c. search (needs, the (tie.At-loop Inv-loop μ-loop) (search) .loop .inv .1))
     (λ c. search needs)
     (λ c. search needs))

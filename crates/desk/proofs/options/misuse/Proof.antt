@@ -1,0 +1,28 @@
+-- `desk::options::misuse` is safe and ends.
+-- Assumes nothing.
+use Rattle.desk.proofs.Within.{stored-count}
+use borrow.Author.Needs.{needs}
+use Rattle.desk.proofs.options.misuse.Statement.{statement}
+use Rattle.desk.proofs.options.misuse.Tie as tie
+
+-- what was stored lies within the buffer
+slice-aggregate-tell : tie.Need-slice-aggregate-tell
+slice-aggregate-tell c = search stored-count
+
+pub misuse-spec : {M : Type 1} → statement M
+misuse-spec =
+    tie.close
+    (tie.spec
+    (λ c. search needs)
+    (λ c. search needs)
+    (λ c κs. search needs)
+    (λ c. search needs)
+    (λ c κs. search needs)
+    (λ c. search needs)
+    (λ c. search needs)
+    (λ c κs. search needs)
+    (λ c. search needs)
+    slice-aggregate-tell
+    (λ c κs. search needs)
+    (λ c κs. search needs)
+    (λ c. search needs))
