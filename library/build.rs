@@ -1,12 +1,10 @@
-//! Finds the library: in this repository, where `rt staticlib moldthatch` builds it, or beside this folder, where it is installed.
+//! Finds the library that `rt staticlib moldthatch` has built in this repository.
 
 use std::{env, path::Path};
 
 fn main() {
     let here = env::var("CARGO_MANIFEST_DIR").expect("cargo names this folder");
-    let here = Path::new(&here);
-    let built = here.join("../target/staticlib");
-    let folder = if built.exists() { built } else { here.join("..") };
+    let folder = Path::new(&here).join("../target/staticlib");
     let library = folder.join("libmoldthatch.a");
     assert!(
         library.exists(),

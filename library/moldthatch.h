@@ -76,14 +76,12 @@ enum { MOLDTHATCH_SHA256_LENGTH = 32 };
 enum { MOLDTHATCH_AUTO = 0, MOLDTHATCH_BASIC_V2 = 1, MOLDTHATCH_TSB = 2, MOLDTHATCH_BASIC35 = 3 };
 
 /* What a text is crunched with. profile asks the machine profile of each line (15 to
- * 18), short_forms takes the short forms of V2 words, codes takes escapes everywhere
- * and not in strings alone: 0 is no, any other number yes. */
+ * 18), short_forms takes the short forms of V2 words: 0 is no, any other number yes. */
 typedef struct moldthatch_crunch_options {
     uint16_t load;
     uint8_t dialect;
     uint8_t profile;
     uint8_t short_forms;
-    uint8_t codes;
 } moldthatch_crunch_options;
 
 /* How an image is listed. remarks lists a remark as text, the second mode; links reads
@@ -288,10 +286,6 @@ moldthatch_code moldthatch_disk_read(const uint8_t *disk, size_t disk_length, co
 /* Scratches the file of a name. */
 moldthatch_code moldthatch_disk_scratch(uint8_t *disk, size_t disk_length, const uint8_t *name, size_t name_length);
 
-/* Sets the name of the disk, 1 to 16 bytes, and its id, 1 or 2, none of them A0. */
-moldthatch_code moldthatch_disk_title(uint8_t *disk, size_t disk_length, const uint8_t *name, size_t name_length,
-                                      const uint8_t *id, size_t id_length);
-
 /* Checks a disk: how many files it has, and how many sectors are free. */
 moldthatch_code moldthatch_disk_check(const uint8_t *disk, size_t disk_length);
 
@@ -302,42 +296,6 @@ moldthatch_code moldthatch_disk_directory(const uint8_t *disk, size_t disk_lengt
 /* The name that a text stands for, with {xx} for any byte, to the start of out, as much
  * of it as fits: how many bytes that are. */
 size_t moldthatch_disk_name(const uint8_t *text, size_t text_length, uint8_t *out, size_t out_length);
-
-/* What comes of a text that is added to a master disk, and of a master disk that is
- * checked. number is 0 where there is a result, a refusal's number, or
- * MOLDTHATCH_FAULTY where there is a fault, which has its kind. first and second are
- * what the refusal or the fault carries. third is the place in the directory, from 1, of
- * the program that it is about; 0 where it is about none. */
-enum {
-    MOLDTHATCH_FAULTY = 254
-};
-typedef struct moldthatch_master {
-    uint8_t number;
-    uint8_t kind;
-    size_t first;
-    size_t second;
-    size_t third;
-} moldthatch_master;
-
-/* Puts a text onto a disk under a name, crunched under the machine profile at the address of its
- * dialect: its address, how many lines it has, and how many sectors it takes. A refusal or a
- * fault leaves every byte of the disk as it was. */
-moldthatch_master moldthatch_master_add(uint8_t *disk, size_t disk_length, const uint8_t *name, size_t name_length,
-                                        const uint8_t *text, size_t text_length, uint8_t dialect,
-                                        uint8_t short_forms);
-
-/* Whether every program of a disk is fit for the master: how many files it lists, or the first that is
- * not fit. */
-moldthatch_master moldthatch_master_check(const uint8_t *disk, size_t disk_length);
-
-/* Whether two images are the same program: whether their bytes are the same. */
-bool moldthatch_same(const uint8_t *first, size_t first_length, const uint8_t *second, size_t second_length);
-
-/* How many lines of an image another has, by number and body, as far as the links of both
- * lead. The numbers of those that it has not are marked in 65,536 bytes; no other byte
- * is changed. */
-size_t moldthatch_compare(const uint8_t *image, size_t image_length, const uint8_t *other, size_t other_length,
-                          uint8_t *marked, size_t marked_length);
 
 /* The SHA-256 of any bytes, to the start of out: its length, MOLDTHATCH_SHA256_LENGTH; out
  * as above. */

@@ -247,8 +247,6 @@ pub struct Options {
     pub profile: bool,
     /// Whether short forms of V2 words are taken.
     pub short_forms: bool,
-    /// Whether escapes are taken everywhere, and not in strings alone.
-    pub codes: bool,
 }
 
 impl Default for Options {
@@ -258,7 +256,6 @@ impl Default for Options {
             dialect: Dialect::Auto,
             profile: false,
             short_forms: false,
-            codes: false,
         }
     }
 }
@@ -776,14 +773,9 @@ impl Iterator for Faults<'_> {
             )
         };
         self.place = told.place;
-        Fault::from_code(told.kind, told.first, told.second)
-    }
-}
-
-impl Fault {
-    fn from_code(kind: u8, first: usize, second: usize) -> Option<Self> {
-        let number = first as u16;
-        Some(match kind {
+        let number = told.first as u16;
+        let second = told.second;
+        Some(match told.kind {
             1 => Fault::OutsideMemory {
                 load: number,
                 length: second,
@@ -813,42 +805,6 @@ impl Fault {
     }
 }
 
-/// Whether two images are the same program: whether their bytes are the same.
-pub fn same(first: &[u8], second: &[u8]) -> bool {
-    // SAFETY: as above.
-    unsafe { ffi::moldthatch_same(first.as_ptr(), first.len(), second.as_ptr(), second.len()) }
-}
-
-/// What an image has beside another, by number and body, as far as the links of both lead.
-#[derive(Debug, Clone, PartialEq, Eq)]
-pub struct Compared {
-    /// How many of its lines the other has.
-    pub shared: usize,
-    /// The numbers of those that the other has not, lowest first, each once.
-    pub others: Vec<u16>,
-}
-
-/// Compares the lines of an image with another's.
-pub fn compare(image: &[u8], other: &[u8]) -> Compared {
-    let mut marked = vec![0; 65_536];
-    // SAFETY: as above.
-    let shared = unsafe {
-        ffi::moldthatch_compare(
-            image.as_ptr(),
-            image.len(),
-            other.as_ptr(),
-            other.len(),
-            marked.as_mut_ptr(),
-            marked.len(),
-        )
-    };
-    let others = (0..=u16::MAX).filter(|&n| marked[usize::from(n)] != 0);
-    Compared {
-        shared,
-        others: others.collect(),
-    }
-}
-
 /// The SHA-256 of any bytes.
 pub fn sha256(bytes: &[u8]) -> [u8; 32] {
     let mut out = [0; 32];
@@ -870,29 +826,6 @@ pub struct Disk<B> {
 pub fn disk_name(text: &[u8], out: &mut [u8]) -> usize {
     // SAFETY: as above.
     unsafe { ffi::moldthatch_disk_name(text.as_ptr(), text.len(), out.as_mut_ptr(), out.len()) }
-}
-
-/// Why a text, or a program of a disk, is not for the master.
-#[derive(Debug, Clone, Copy, PartialEq, Eq)]
-pub enum Unfit {
-    Refused(Refusal),
-    /// Its first fault.
-    Fault(Fault),
-}
-
-/// A program that was added to a master disk.
-#[derive(Debug, Clone, Copy, PartialEq, Eq)]
-pub struct Added {
-    pub load: u16,
-    pub lines: usize,
-    pub sectors: usize,
-}
-
-/// The first program of a disk that is not fit for the master, by its place in the directory from 1; place 0 is the disk itself.
-#[derive(Debug, Clone, Copy, PartialEq, Eq)]
-pub struct UnfitProgram {
-    pub place: usize,
-    pub why: Unfit,
 }
 
 /// What a disk holds.
@@ -940,18 +873,6 @@ impl<B: AsRef<[u8]>> Disk<B> {
             files: code.first,
             free_sectors: code.second,
         })
-    }
-
-    /// How many files the disk lists, where every program of it is fit for the master; or the first that is not.
-    pub fn check_master(&self) -> Result<usize, UnfitProgram> {
-        let disk = self.bytes();
-        // SAFETY: as above.
-        let code = unsafe { ffi::moldthatch_master_check(disk.as_ptr(), disk.len()) };
-        fit(code).map_err(|why| UnfitProgram {
-            place: code.third,
-            why,
-        })?;
-        Ok(code.first)
     }
 
     /// Reads the file of a name into the start of a buffer, and answers its length.
@@ -1003,74 +924,12 @@ impl<B: AsMut<[u8]>> Disk<B> {
         })
     }
 
-    /// Puts a text onto the disk under a name, if it is fit for the master: crunched under the machine profile, at the address of its dialect.
-    pub fn add_text(
-        &mut self,
-        name: &[u8],
-        text: &[u8],
-        dialect: Dialect,
-        short_forms: bool,
-    ) -> Result<Added, Unfit> {
-        let disk = self.bytes.as_mut();
-        // SAFETY: as above.
-        let code = unsafe {
-            ffi::moldthatch_master_add(
-                disk.as_mut_ptr(),
-                disk.len(),
-                name.as_ptr(),
-                name.len(),
-                text.as_ptr(),
-                text.len(),
-                dialect as u8,
-                short_forms.into(),
-            )
-        };
-        fit(code)?;
-        Ok(Added {
-            load: code.first as u16,
-            lines: code.second,
-            sectors: code.third,
-        })
-    }
-
     pub fn scratch(&mut self, name: &[u8]) -> Result<(), Refusal> {
         let disk = self.bytes.as_mut();
         // SAFETY: as above.
         answered(unsafe {
             ffi::moldthatch_disk_scratch(disk.as_mut_ptr(), disk.len(), name.as_ptr(), name.len())
         })
-    }
-
-    /// Sets the name of the disk, 1 to 16 bytes, and its id, 1 or 2, none of them A0.
-    pub fn set_title(&mut self, name: &[u8], id: &[u8]) -> Result<(), Refusal> {
-        let disk = self.bytes.as_mut();
-        // SAFETY: as above.
-        answered(unsafe {
-            ffi::moldthatch_disk_title(
-                disk.as_mut_ptr(),
-                disk.len(),
-                name.as_ptr(),
-                name.len(),
-                id.as_ptr(),
-                id.len(),
-            )
-        })
-    }
-}
-
-fn fit(code: ffi::MasterCode) -> Result<(), Unfit> {
-    match code.number {
-        0 => Ok(()),
-        254 => Err(match Fault::from_code(code.kind, code.first, code.second) {
-            Some(fault) => Unfit::Fault(fault),
-            // No other kind is code.
-            None => Unfit::Fault(Fault::LinksEndless),
-        }),
-        number => Err(Unfit::Refused(Refusal::from_code(
-            number,
-            code.first,
-            code.second,
-        ))),
     }
 }
 
@@ -1116,7 +975,6 @@ impl From<Options> for ffi::CrunchOptions {
             dialect: options.dialect as u8,
             profile: options.profile.into(),
             short_forms: options.short_forms.into(),
-            codes: options.codes.into(),
         }
     }
 }
@@ -1146,16 +1004,6 @@ fn answered(code: ffi::Code) -> Result<(), Refusal> {
 mod ffi {
     #[repr(C)]
     #[derive(Clone, Copy)]
-    pub struct MasterCode {
-        pub number: u8,
-        pub kind: u8,
-        pub first: usize,
-        pub second: usize,
-        pub third: usize,
-    }
-
-    #[repr(C)]
-    #[derive(Clone, Copy)]
     pub struct Code {
         pub number: u8,
         pub count: usize,
@@ -1169,7 +1017,6 @@ mod ffi {
         pub dialect: u8,
         pub profile: u8,
         pub short_forms: u8,
-        pub codes: u8,
     }
 
     #[repr(C)]
@@ -1402,26 +1249,7 @@ mod ffi {
             name: *const u8,
             name_length: usize,
         ) -> Code;
-        pub fn moldthatch_disk_title(
-            disk: *mut u8,
-            disk_length: usize,
-            name: *const u8,
-            name_length: usize,
-            id: *const u8,
-            id_length: usize,
-        ) -> Code;
         pub fn moldthatch_disk_check(disk: *const u8, disk_length: usize) -> Code;
-        pub fn moldthatch_master_add(
-            disk: *mut u8,
-            disk_length: usize,
-            name: *const u8,
-            name_length: usize,
-            text: *const u8,
-            text_length: usize,
-            dialect: u8,
-            short_forms: u8,
-        ) -> MasterCode;
-        pub fn moldthatch_master_check(disk: *const u8, disk_length: usize) -> MasterCode;
         pub fn moldthatch_disk_directory(
             disk: *const u8,
             disk_length: usize,
@@ -1433,20 +1261,6 @@ mod ffi {
             text_length: usize,
             out: *mut u8,
             out_length: usize,
-        ) -> usize;
-        pub fn moldthatch_same(
-            first: *const u8,
-            first_length: usize,
-            second: *const u8,
-            second_length: usize,
-        ) -> bool;
-        pub fn moldthatch_compare(
-            image: *const u8,
-            image_length: usize,
-            other: *const u8,
-            other_length: usize,
-            marked: *mut u8,
-            marked_length: usize,
         ) -> usize;
         pub fn moldthatch_sha256(
             bytes: *const u8,

@@ -41,7 +41,7 @@ impl<'a> Fields<'a> {
     }
 
     /// Load address, dialect and the byte of options: bit 0 asks for the machine profile,
-    /// bit 1 for short forms. Bit 2, codes everywhere, is not drawn here: oracle/source tries it.
+    /// bit 1 for short forms, and no other bit has landed.
     pub fn crunch_options(&mut self) -> Option<CrunchOptions> {
         let (load, dialect) = (self.address()?, self.dialect()?);
         let [bits] = self.take()?;

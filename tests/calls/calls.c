@@ -8,8 +8,8 @@
 
 static const char text[] = "10 PRINT\"HI\"\n\n20 sY64738\n";
 static const char zero[] = "10 PRINT\"{0}A\":REM hi\n20 GOTO 30\n";
-static const moldthatch_crunch_options plain = {0x0801, MOLDTHATCH_AUTO, 0, 0, 0};
-static const moldthatch_crunch_options strict = {0x0801, MOLDTHATCH_BASIC_V2, 1, 1, 0};
+static const moldthatch_crunch_options plain = {0x0801, MOLDTHATCH_AUTO, 0, 0};
+static const moldthatch_crunch_options strict = {0x0801, MOLDTHATCH_BASIC_V2, 1, 1};
 static const moldthatch_list_options by_links = {MOLDTHATCH_AUTO, 1, 1};
 static uint8_t out[256], disk[MOLDTHATCH_DISK_LENGTH];
 static uint64_t totals[206], others[206];
@@ -50,21 +50,6 @@ static void line(const char *name, moldthatch_line line)
                line.code.first);
     else
         printf("none, %zu\n", line.code.first);
-}
-
-/* Writes what comes of a text that is added, or of a disk that is checked; behind @ the place of the program that is not fit. */
-static void master(const char *name, moldthatch_master told)
-{
-    moldthatch_code code = {told.number, 0, told.first, told.second};
-    printf("%s: ", name);
-    if (told.number == 0)
-        printf("%zu %zu %zu\n", told.first, told.second, told.third);
-    else if (told.number == MOLDTHATCH_FAULTY)
-        printf("@%zu fault %d %zu %zu\n", told.third, told.kind, told.first, told.second);
-    else {
-        printf("@%zu ", told.third);
-        refused(code);
-    }
 }
 
 /* Writes a result's bytes, or why there are none. */
@@ -143,16 +128,6 @@ static void images(void)
             break;
         place = fault.place;
     }
-    static uint8_t changed[256], only[65536];
-    for (size_t i = 0; i < length; i++)
-        changed[i] = image[i];
-    changed[length - 4] ^= 1;
-    printf("same: %d %d\n", moldthatch_same(image, length, image, length), moldthatch_same(image, length, changed, length));
-    printf("compare: %zu", moldthatch_compare(image, length, changed, length, only, sizeof only));
-    for (size_t i = 0; i < sizeof only; i++)
-        if (only[i])
-            printf(" %zu", i);
-    printf("\n");
     size_t index_length = moldthatch_index(image, length, out, sizeof out).first;
     pair("index_line", moldthatch_index_line(2, out, index_length));
     pair("index_jump", moldthatch_index_jump(1, out, index_length));
@@ -179,16 +154,6 @@ static void disks(void)
     moldthatch_disk_scratch(disk, sizeof disk, name, length);
     bytes("disk_read", moldthatch_disk_read(disk, sizeof disk, name, length, out, sizeof out));
     pair("disk_check", moldthatch_disk_check(disk, sizeof disk));
-    moldthatch_disk_title(disk, sizeof disk, BYTES("COVER"), BYTES("7"));
-    printf("disk_title: %c%c %02x %c %02x\n", disk[91536], disk[91540], disk[91541], disk[91554], disk[91555]);
-    number("disk_title", moldthatch_disk_title(disk, sizeof disk, BYTES("COVER"), BYTES("7AB")));
-    master("master_add", moldthatch_master_add(disk, sizeof disk, BYTES("A"), BYTES(text), MOLDTHATCH_AUTO, 1));
-    master("master_add", moldthatch_master_add(disk, sizeof disk, BYTES("A"), BYTES(text), MOLDTHATCH_AUTO, 1));
-    master("master_add", moldthatch_master_add(disk, sizeof disk, BYTES("B"), BYTES(zero), MOLDTHATCH_AUTO, 0));
-    master("master_add", moldthatch_master_add(disk, sizeof disk, BYTES("B"), BYTES("10 GOTO 20"), MOLDTHATCH_AUTO, 0));
-    master("master_check", moldthatch_master_check(disk, sizeof disk));
-    moldthatch_disk_save(disk, sizeof disk, BYTES("B"), BYTES("\x01\x08"));
-    master("master_check", moldthatch_master_check(disk, sizeof disk));
 }
 
 static void digests(void)
@@ -204,7 +169,7 @@ static void digests(void)
 /* What no caller in Rust can ask for: a number that names no dialect, and a digest in too short a buffer. */
 static int unknown(void)
 {
-    moldthatch_crunch_options crunch = {0x0801, 4, 0, 0, 0};
+    moldthatch_crunch_options crunch = {0x0801, 4, 0, 0};
     moldthatch_list_options list = {4, 0, 0};
     moldthatch_place place = {MOLDTHATCH_BODY, 1, 2, 3};
     moldthatch_stretch stretch = moldthatch_list_stretch(BYTES(text), list, place, out, sizeof out);
@@ -216,7 +181,6 @@ static int unknown(void)
            && moldthatch_list_with_room(BYTES(text), list).number == 14 && stretch.code.number == 14
            && stretch.place.kind == place.kind && stretch.place.mode == place.mode
            && stretch.place.number == place.number && stretch.place.at == place.at
-           && moldthatch_master_add(disk, sizeof disk, BYTES("A"), BYTES(text), 4, 0).number == 14
            && moldthatch_default_load(4).number == 14
            && moldthatch_resolved_dialect(BYTES(text), 4).number == 14;
 }

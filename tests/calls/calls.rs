@@ -37,45 +37,6 @@ fn line(name: &str, answer: Result<(Option<Line>, usize), Refusal>) {
     }
 }
 
-fn numbers(fault: Fault) -> (u8, u16, usize) {
-    match fault {
-        Fault::OutsideMemory { load, length } => (1, load, length),
-        Fault::NumberTooHigh { number } => (2, number, 0),
-        Fault::NotAscending { number } => (3, number, 0),
-        Fault::ZeroInBody { number, address } => (4, number, address),
-        Fault::BodyLength { number, length } => (5, number, length),
-        Fault::NoTarget { number, target } => (6, number, target),
-        Fault::LinkChanges { number, link } => (7, number, link.into()),
-        Fault::LinksLeave => (8, 0, 0),
-        Fault::LinksEndless => (9, 0, 0),
-    }
-}
-
-// Behind @ stands the place of the program that is not fit.
-fn unfit(name: &str, place: usize, why: Unfit) {
-    match why {
-        Unfit::Refused(refusal) => println!("{name}: @{place} {refusal}"),
-        Unfit::Fault(fault) => {
-            let (kind, first, second) = numbers(fault);
-            println!("{name}: @{place} fault {kind} {first} {second}");
-        }
-    }
-}
-
-fn added(answer: Result<Added, Unfit>) {
-    match answer {
-        Ok(file) => println!("master_add: {} {} {}", file.load, file.lines, file.sectors),
-        Err(why) => unfit("master_add", 0, why),
-    }
-}
-
-fn master(answer: Result<usize, UnfitProgram>) {
-    match answer {
-        Ok(files) => println!("master_check: {files} 0 0"),
-        Err(first) => unfit("master_check", first.place, first.why),
-    }
-}
-
 fn bytes(name: &str, answer: Result<Vec<u8>, Refusal>) {
     match answer {
         Ok(bytes) => println!("{name}: {}", String::from_utf8_lossy(&bytes)),
@@ -182,20 +143,20 @@ fn images() -> Result<(), Refusal> {
         }),
     );
     for fault in faults(&image) {
-        let (kind, first, second) = numbers(fault);
+        let (kind, first, second) = match fault {
+            Fault::OutsideMemory { load, length } => (1, load, length),
+            Fault::NumberTooHigh { number } => (2, number, 0),
+            Fault::NotAscending { number } => (3, number, 0),
+            Fault::ZeroInBody { number, address } => (4, number, address),
+            Fault::BodyLength { number, length } => (5, number, length),
+            Fault::NoTarget { number, target } => (6, number, target),
+            Fault::LinkChanges { number, link } => (7, number, link.into()),
+            Fault::LinksLeave => (8, 0, 0),
+            Fault::LinksEndless => (9, 0, 0),
+        };
         println!("fault: {kind} {first} {second}");
     }
     println!("fault: 0 0 0");
-    let mut changed = image.clone();
-    changed[image.len() - 4] ^= 1;
-    println!(
-        "same: {} {}",
-        u8::from(same(&image, &image)),
-        u8::from(same(&image, &changed))
-    );
-    let compared = compare(&image, &changed);
-    let others: Vec<String> = compared.others.iter().map(|n| format!(" {n}")).collect();
-    println!("compare: {}{}", compared.shared, others.concat());
     let mut out = [0; 256];
     let length = index(&image, &mut out)?;
     let lines = &out[..length];
@@ -247,24 +208,6 @@ fn disks() -> Result<(), Refusal> {
         "disk_check",
         disk.check().map(|h| Some((h.files, h.free_sectors))),
     );
-    disk.set_title(b"COVER", b"7")?;
-    let at = |place: usize| disk.bytes()[place];
-    println!(
-        "disk_title: {}{} {:02x} {} {:02x}",
-        at(91536) as char,
-        at(91540) as char,
-        at(91541),
-        at(91554) as char,
-        at(91555)
-    );
-    number("disk_title", disk.set_title(b"COVER", b"7AB").map(|()| 0));
-    added(disk.add_text(b"A", TEXT, Dialect::Auto, true));
-    added(disk.add_text(b"A", TEXT, Dialect::Auto, true));
-    added(disk.add_text(b"B", ZERO, Dialect::Auto, false));
-    added(disk.add_text(b"B", b"10 GOTO 20", Dialect::Auto, false));
-    master(disk.check_master());
-    disk.save(b"B", b"\x01\x08")?;
-    master(disk.check_master());
     Ok(())
 }
 

@@ -1,4 +1,6 @@
 // Bytes as ASCII text: letters without regard to case, digits, white space, trimming; and searches in bytes.
+#![tactic(auto)]
+
 ghost use Rattle.std.specs.Prelude.{◌≡◌, length};
 ghost use Rattle.base_ascii.specs.Bytes.{between as between_of, upper as upper_of, is_digit, is_letter, is_space, is_ascii};
 ghost use Rattle.base_ascii.specs.Search.{front, past_end};

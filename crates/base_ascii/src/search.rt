@@ -3,7 +3,7 @@ ghost use Rattle.std.specs.Prelude.{◌≡◌, length};
 ghost use Rattle.base_ascii.specs.Search.{is_white, is_blank, is_mark, of_kind, starts_with, front as front_of, before as before_of, last as last_of, past_end};
 
 // What is looked for: a byte of a kind.
-#[derive(Drop)]
+#[derive(Clone, Copy)]
 pub enum Kind {
     // One given byte.
     Is(u8),
@@ -20,7 +20,7 @@ pub enum Kind {
 }
 
 // Where a byte stands, if there is one.
-#[derive(Drop)]
+#[derive(Clone, Copy)]
 pub enum Found {
     At(usize),
     Nowhere,

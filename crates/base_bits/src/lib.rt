@@ -1,11 +1,13 @@
 // Fields of bits in bytes, most significant bit first: a pen that writes them one behind the other, and reading one at a bit offset.
+#![tactic(auto)]
+
 ghost use Rattle.std.specs.Prelude.{◌≡◌, ◌+◌, ◌*◌, ◌/◌, ◌%◌, ◌^◌, ◌≤◌, ◌<◌, [], length, get_or};
 ghost use Rattle.base_lent.specs.Stores.{Put};
 ghost use Rattle.base_bits.specs.Bits.{bits_of, pack_from, bytes_bits, field_at};
 ghost use Rattle.base_bits.specs.PenHelpers.{Sharp, Ready, drawn_bit, drawn};
 
 // The byte that is being filled: its place, the value of its bits so far, and how many they are, at most seven.
-#[derive(Drop)]
+#[derive(Clone, Copy)]
 pub struct Pen {
     pub at: usize,
     pub value: u8,

@@ -1,4 +1,6 @@
 // A result that goes into a lent buffer: how long it is, or why there is none.
+#![tactic(auto)]
+
 ghost use Rattle.std.specs.Prelude.{◌≡◌};
 ghost use Rattle.base_refusals.specs.Code.{length_code};
 ghost use Rattle.base_lent.specs.Lent.{outcome_answer};
@@ -6,7 +8,7 @@ ghost use Rattle.base_lent.specs.Lent.{outcome_answer};
 use base_refusals::{Code, Refusal};
 
 // What a call that makes bytes answers: how many they are, or why there are none.
-#[derive(Drop)]
+#[derive(Clone, Copy)]
 pub enum Outcome {
     Done(usize),
     Refused(Refusal),

@@ -1,9 +1,11 @@
 // The refusals: what a call answers where there is no result, with the number and the values of document 01.
+#![tactic(auto)]
+
 ghost use Rattle.std.specs.Prelude.{◌≡◌};
 ghost use Rattle.base_refusals.specs.Answer.{numbered as numbered_of};
 ghost use Rattle.base_refusals.specs.Code.{code_of};
 
-#[derive(Drop)]
+#[derive(Clone, Copy)]
 pub enum Refusal {
     TextTooLong { length: usize },
     BadByte { offset: usize },
@@ -43,7 +45,7 @@ pub enum Refusal {
 // An answer as numbers, for callers in other languages: 0 or a refusal's number, how many values it carries, and the values, 0 where
 // there is none.
 #[repr(C)]
-#[derive(Drop)]
+#[derive(Clone, Copy)]
 pub struct Code {
     pub number: u8,
     pub count: usize,

@@ -31,7 +31,7 @@ use Rattle.escape_bytes.proofs.Once.{Often, given_once}
 use Rattle.body.specs.Body.{written, crunched_from, crunched_body}
 use Rattle.body.specs.BoundHelpers.{may_repeat}
 use Rattle.body_rules.specs.Lexicon.{lexicon}
-use Rattle.body_rules.specs.Steps.{first, one, token, opened, other_step, sign_step, form_step, plain_step, lettered, string_byte, escaped, braced, escape_step, string_step, data_step, data_quote_step, uncoded_step, crunch_step}
+use Rattle.body_rules.specs.Steps.{first, one, token, opened, other_step, sign_step, form_step, plain_step, lettered, string_byte, escaped, braced, string_step, data_step, data_quote_step, crunch_step}
 use Rattle.body_rules.specs.declared.Mode.{Mode}
 use Rattle.body_rules.specs.declared.Mode.TheVariants.{Plain, String, Remark, Data, DataQuote}
 use Rattle.body_rules.specs.declared.Move.{Move}
@@ -167,41 +167,35 @@ unstarred s e h = go (dec_le close star)
         let low : length (drop star s) ≤ before (equals 0x7D) (drop star s) = ltb-false _ _ e in
         absurd (omega (arith, low, length-drop star s, front_drop (other (equals 0x7D)) star s (omega arith)))
 
-module _ (m : Mode) (o : Move) (k : Narrow o) where
-  escaped_narrow : (n : ℕ) (x : Escape) → Often 1 x → Narrow (escaped m o n x)
-  unfolding escaped
-  escaped_narrow n (Byte b count) e = omega (arith, length_written (escaped m o n (Byte b count)), e)
-  escaped_narrow n Unknown e = k
+escaped_narrow : (n : ℕ) (x : Escape) → Often 1 x → Narrow (escaped n x)
+unfolding escaped
+escaped_narrow n (Byte b count) e = omega (arith, length_written (escaped n (Byte b count)), e)
+escaped_narrow n Unknown e = byte_narrow 0x7B
 
-  braced_narrow : (s : List ℕ) → may_repeat s ≡ false → Narrow (braced m o s (before (equals 0x7D) s))
-  unfolding braced
-  braced_narrow s e = go (ltb (before (equals 0x7D) s) (length s)) refl
-    where
-      go : (x : Bool) → ltb (before (equals 0x7D) s) (length s) ≡ x
-          → Narrow (elim x [ true ↦ escaped m o (before (equals 0x7D) s) (escape_of (take (before (equals 0x7D) s) s)) | false ↦ o ])
-      go true q = escaped_narrow (before (equals 0x7D) s) (escape_of (take (before (equals 0x7D) s) s)) (given_once _ (unstarred s e (ltb-true _ _ q)))
-      go false q = k
+braced_narrow : (s : List ℕ) → may_repeat s ≡ false → Narrow (braced s (before (equals 0x7D) s))
+unfolding braced
+braced_narrow s e = go (ltb (before (equals 0x7D) s) (length s)) refl
+  where
+    go : (x : Bool) → ltb (before (equals 0x7D) s) (length s) ≡ x
+        → Narrow (elim x [ true ↦ escaped (before (equals 0x7D) s) (escape_of (take (before (equals 0x7D) s) s)) | false ↦ string_byte 0x7B ])
+    go true q = escaped_narrow (before (equals 0x7D) s) (escape_of (take (before (equals 0x7D) s) s)) (given_once _ (unstarred s e (ltb-true _ _ q)))
+    go false q = byte_narrow 0x7B
 
-  escaping_narrow : (t : List ℕ) → may_repeat t ≡ false → Narrow (escape_step m o t)
-  unfolding escape_step
-  escaping_narrow [] e = k
-  escaping_narrow (b ∷ s) e = by_test (eqb b 0x7B) (braced m o s (before (equals 0x7D) s)) o (braced_narrow s (repeat_behind b s e)) k
-
-uncoded_narrow : (s : Sets) (m : Mode) (t : List ℕ) → may_repeat t ≡ false → Narrow (uncoded_step (lexicon s) m t)
-unfolding uncoded_step string_step data_step data_quote_step
-uncoded_narrow s Plain t e = plain_narrow s t
-uncoded_narrow s String t e = escaping_narrow String (string_byte (first t)) (byte_narrow (first t)) t e
-uncoded_narrow s Remark t e = one_narrow (first t) Remark
-uncoded_narrow s Data t e =
-    by_test (eqb (first t) 0x22) (one 0x22 DataQuote) _ (one_narrow _ _)
-    (by_test (eqb (first t) 0x3A) (one 0x3A Plain) (one (upper (first t)) Data) (one_narrow _ _) (one_narrow _ _))
-uncoded_narrow s DataQuote t e = by_test (eqb (first t) 0x22) (one 0x22 Data) (one (upper (first t)) DataQuote) (one_narrow _ _) (one_narrow _ _)
+string_narrow : (t : List ℕ) → may_repeat t ≡ false → Narrow (string_step t)
+unfolding string_step
+string_narrow [] e = byte_narrow 0
+string_narrow (b ∷ s) e =
+    by_test (eqb b 0x7B) (braced s (before (equals 0x7D) s)) (string_byte b) (braced_narrow s (repeat_behind b s e)) (byte_narrow b)
 
 step_narrow : (s : Sets) (m : Mode) (t : List ℕ) → may_repeat t ≡ false → Narrow (crunch_step (lexicon s) m t)
-unfolding crunch_step
-step_narrow s m t e =
-    by_test s.codes (escape_step m (uncoded_step (lexicon s) m t) t) (uncoded_step (lexicon s) m t)
-    (escaping_narrow m (uncoded_step (lexicon s) m t) (uncoded_narrow s m t e) t e) (uncoded_narrow s m t e)
+unfolding crunch_step data_step data_quote_step
+step_narrow s Plain t e = plain_narrow s t
+step_narrow s String t e = string_narrow t e
+step_narrow s Remark t e = one_narrow (first t) Remark
+step_narrow s Data t e =
+    by_test (eqb (first t) 0x22) (one 0x22 DataQuote) _ (one_narrow _ _)
+    (by_test (eqb (first t) 0x3A) (one 0x3A Plain) (one (upper (first t)) Data) (one_narrow _ _) (one_narrow _ _))
+step_narrow s DataQuote t e = by_test (eqb (first t) 0x22) (one 0x22 Data) (one (upper (first t)) DataQuote) (one_narrow _ _) (one_narrow _ _)
 
 -- ---- the whole body
 

@@ -21,7 +21,7 @@ use Rattle.word_match.specs.Sets.{live_word, plain_word}
 use Rattle.body_short_forms.specs.Forms.{form_word}
 use Rattle.body_short_forms.proofs.Standing.{form_takes}
 use Rattle.body_rules.specs.Lexicon.{Lexicon}
-use Rattle.body_rules.specs.Steps.{first, one, token, opened, other_step, sign_step, form_step, plain_step, lettered, string_byte, escaped, braced, escape_step, string_step, data_step, data_quote_step, uncoded_step, crunch_step}
+use Rattle.body_rules.specs.Steps.{first, one, token, opened, other_step, sign_step, form_step, plain_step, lettered, string_byte, escaped, braced, string_step, data_step, data_quote_step, crunch_step}
 use Rattle.body_rules.specs.declared.Mode.{Mode}
 use Rattle.body_rules.specs.declared.Mode.TheVariants.{Plain, String, Remark, Data, DataQuote}
 use Rattle.body_rules.specs.declared.Move.{Move}
@@ -83,38 +83,31 @@ module _ (t : List ℕ) (h : 0 < length t) where
   unfolding string_byte
   byte_takes b = by_test t (eqb b 0x22) (one 0x22 Plain) (one (lettered b) String) (λ _. one_takes) (λ _. one_takes)
 
-module _ (m : Mode) (o : Move) where
-  escape_takes : (b : ℕ) (s : List ℕ) (n : ℕ) → Moves (b ∷ s) o → n < length s → (x : Escape) → Moves (b ∷ s) (escaped m o n x)
-  unfolding escaped
-  escape_takes b s n k h (Byte c count) = record { more = omega arith; most = omega arith }
-  escape_takes b s n k h Unknown = k
+escape_takes : (b : ℕ) (s : List ℕ) (n : ℕ) → n < length s → (x : Escape) → Moves (b ∷ s) (escaped n x)
+unfolding escaped
+escape_takes b s n h (Byte c count) = record { more = omega arith; most = omega arith }
+escape_takes b s n h Unknown = byte_takes (b ∷ s) (omega arith) 0x7B
 
-  brace_takes : (b : ℕ) (s : List ℕ) (n : ℕ) → Moves (b ∷ s) o → Moves (b ∷ s) (braced m o s n)
-  unfolding braced
-  brace_takes b s n k =
-      by_test (b ∷ s) (ltb n (length s)) (escaped m o n (escape_of (take n s))) o
-      (λ e. escape_takes b s n k (ltb-true _ _ e) (escape_of (take n s))) (λ _. k)
+brace_takes : (b : ℕ) (s : List ℕ) (n : ℕ) → Moves (b ∷ s) (braced s n)
+unfolding braced
+brace_takes b s n =
+    by_test (b ∷ s) (ltb n (length s)) (escaped n (escape_of (take n s))) (string_byte 0x7B)
+    (λ e. escape_takes b s n (ltb-true _ _ e) (escape_of (take n s))) (λ _. byte_takes (b ∷ s) (omega arith) 0x7B)
 
-  -- an escape, or a step that takes text
-  escaping_takes : (t : List ℕ) → Moves t o → Moves t (escape_step m o t)
-  unfolding escape_step
-  escaping_takes [] k = k
-  escaping_takes (b ∷ s) k =
-      by_test (b ∷ s) (eqb b 0x7B) (braced m o s (before (equals 0x7D) s)) o (λ _. brace_takes b s (before (equals 0x7D) s) k) (λ _. k)
-
-uncoded_takes : (l : Lexicon) → T (proper l) → (m : Mode) (t : List ℕ) → 0 < length t → Moves t (uncoded_step l m t)
-unfolding uncoded_step string_step data_step data_quote_step
-uncoded_takes l g Plain t h = plain_takes t h l g
-uncoded_takes l g String t h = escaping_takes String (string_byte (first t)) t (byte_takes t h (first t))
-uncoded_takes l g Remark t h = one_takes t h
-uncoded_takes l g Data t h =
-    by_test t (eqb (first t) 0x22) (one 0x22 DataQuote) _ (λ _. one_takes t h)
-    (λ _. by_test t (eqb (first t) 0x3A) (one 0x3A Plain) (one (upper (first t)) Data) (λ _. one_takes t h) (λ _. one_takes t h))
-uncoded_takes l g DataQuote t h =
-    by_test t (eqb (first t) 0x22) (one 0x22 Data) (one (upper (first t)) DataQuote) (λ _. one_takes t h) (λ _. one_takes t h)
+string_takes : (t : List ℕ) → 0 < length t → Moves t (string_step t)
+unfolding string_step
+string_takes [] h = absurd (omega arith)
+string_takes (b ∷ s) h =
+    by_test (b ∷ s) (eqb b 0x7B) (braced s (before (equals 0x7D) s)) (string_byte b)
+    (λ _. brace_takes b s (before (equals 0x7D) s)) (λ _. byte_takes (b ∷ s) h b)
 
 pub step_takes : (l : Lexicon) → T (proper l) → (m : Mode) (t : List ℕ) → 0 < length t → Takes t (crunch_step l m t).used
-unfolding crunch_step
-step_takes l g m t h =
-    by_test t l.sets.codes (escape_step m (uncoded_step l m t) t) (uncoded_step l m t)
-    (λ _. escaping_takes m (uncoded_step l m t) t (uncoded_takes l g m t h)) (λ _. uncoded_takes l g m t h)
+unfolding crunch_step data_step data_quote_step
+step_takes l g Plain t h = plain_takes t h l g
+step_takes l g String t h = string_takes t h
+step_takes l g Remark t h = one_takes t h
+step_takes l g Data t h =
+    by_test t (eqb (first t) 0x22) (one 0x22 DataQuote) _ (λ _. one_takes t h)
+    (λ _. by_test t (eqb (first t) 0x3A) (one 0x3A Plain) (one (upper (first t)) Data) (λ _. one_takes t h) (λ _. one_takes t h))
+step_takes l g DataQuote t h =
+    by_test t (eqb (first t) 0x22) (one 0x22 Data) (one (upper (first t)) DataQuote) (λ _. one_takes t h) (λ _. one_takes t h)

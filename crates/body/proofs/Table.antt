@@ -27,18 +27,18 @@ use Rattle.body_rules.specs.Lexicon.{Lexicon, lexicon}
 
 -- no TSB word is live
 abbrev pub v2_lexicon : Lexicon
-v2_lexicon = lexicon (record { tsb = false; demoted = []; basic35 = false; forms = false; codes = false })
+v2_lexicon = lexicon (record { tsb = false; demoted = []; basic35 = false; forms = false })
 
 -- every TSB word is live but one, which is demoted
 abbrev pub sets_but : List ℕ → Bool → Sets
-sets_but w forms = record { tsb = true; demoted = map (λ e. same w e.word) tsb_words; basic35 = false; forms = forms; codes = false }
+sets_but w forms = record { tsb = true; demoted = map (λ e. same w e.word) tsb_words; basic35 = false; forms = forms }
 
 abbrev pub all_but : List ℕ → Lexicon
 all_but w = lexicon (sets_but w false)
 
 -- the words of BASIC 3.5, and no TSB word
 abbrev pub basic35_lexicon : Lexicon
-basic35_lexicon = lexicon (record { tsb = false; demoted = []; basic35 = true; forms = false; codes = false })
+basic35_lexicon = lexicon (record { tsb = false; demoted = []; basic35 = true; forms = false })
 
 infix 60 ◌gives◌
 abbrev pub ◌gives◌ : String → List ℕ → Type 0
@@ -86,7 +86,7 @@ body-table = (refl, refl, refl, refl, refl, refl, refl, refl, refl, refl, refl, 
 
 infix 60 ◌shortened_gives◌
 abbrev pub ◌shortened_gives◌ : String → List ℕ → Type 0
-text shortened_gives bytes = crunched_body (lexicon (record { tsb = false; demoted = []; basic35 = false; forms = true; codes = false })) (bytes_of text) ≡ bytes
+text shortened_gives bytes = crunched_body (lexicon (record { tsb = false; demoted = []; basic35 = false; forms = true })) (bytes_of text) ≡ bytes
 
 pub shortened-table :
     ("pO1,pE2" shortened_gives 0x97 ∷ 0x31 ∷ 0x2C ∷ 0xC2 ∷ 0x32 ∷ [])
@@ -102,30 +102,8 @@ pub shortened-table :
     -- a demoted word stands in the way, and so does a live one
     × (crunched_body (lexicon (sets_but (bytes_of "DIR") true)) (bytes_of "dIr:dI:lOop") ≡ 0x44 ∷ 0x49 ∷ 0x52 ∷ 0x3A ∷ 0x86 ∷ 0x3A ∷ 0x64 ∷ 0x3A ∷ [])
     -- under BASIC 3.5 its own words stand in the way too
-    × (crunched_body (lexicon (record { tsb = false; demoted = []; basic35 = true; forms = true; codes = false })) (bytes_of "dO:pO") ≡ 0xEB ∷ 0x3A ∷ 0x97 ∷ [])
+    × (crunched_body (lexicon (record { tsb = false; demoted = []; basic35 = true; forms = true })) (bytes_of "dO:pO") ≡ 0xEB ∷ 0x3A ∷ 0x97 ∷ [])
     -- with the option off they are letters
     × ("pO" gives 0x50 ∷ 0x4F ∷ [])
 unfolding crunched_from live_word plain_word form_word v2_words basic35_words operators tsb_words upper between same front
 shortened-table = (refl, refl, refl, refl, refl, refl, refl, refl, refl, refl)
-
--- codes everywhere, where they are asked for
-
-infix 60 ◌coded_gives◌
-abbrev pub ◌coded_gives◌ : String → List ℕ → Type 0
-text coded_gives bytes = crunched_body (lexicon (record { tsb = false; demoted = []; basic35 = false; forms = false; codes = true })) (bytes_of text) ≡ bytes
-
-pub coded-table :
-    -- behind REM and DATA, in its quoted part too, and in plain code
-    ("rem {red}a" coded_gives 0x8F ∷ 0x20 ∷ 0x1C ∷ 0x61 ∷ [])
-    × ("data {clr},\"{red*2}:\"" coded_gives 0x83 ∷ 0x20 ∷ 0x93 ∷ 0x2C ∷ 0x22 ∷ 0x1C ∷ 0x1C ∷ 0x3A ∷ 0x22 ∷ [])
-    × ("{$3F}?s{84}op" coded_gives 0x3F ∷ 0x99 ∷ 0x53 ∷ 0x54 ∷ 0x4F ∷ 0x50 ∷ [])
-    -- a byte so made opens and ends nothing: neither a quote, nor REM, nor the colon behind DATA
-    × ("{34}a{$8F}go" coded_gives 0x22 ∷ 0x41 ∷ 0x8F ∷ 0xCB ∷ [])
-    × ("data{58}go:go" coded_gives 0x83 ∷ 0x3A ∷ 0x47 ∷ 0x4F ∷ 0x3A ∷ 0xCB ∷ [])
-    × ("data\"{34}:\":go" coded_gives 0x83 ∷ 0x22 ∷ 0x22 ∷ 0x3A ∷ 0x22 ∷ 0x3A ∷ 0xCB ∷ [])
-    -- a string is as it is without them; a brace without an escape is a byte
-    × ("\"{34}A" coded_gives 0x22 ∷ 0x22 ∷ 0xC1 ∷ [])
-    × ("{goto}" coded_gives 0x7B ∷ 0x89 ∷ 0x7D ∷ [])
-    × ("rem {red" coded_gives 0x8F ∷ 0x20 ∷ 0x7B ∷ 0x72 ∷ 0x65 ∷ 0x64 ∷ [])
-unfolding crunched_from live_word plain_word v2_words basic35_words operators tsb_words name_in meaning escape_of counted_name starred repeated name_escape key_escape keyed key_with control_byte key_names count_of unsigned hex_of number_of number_after digit_of escape_names cbm_letters ctrl_digits last before trim upper between same
-coded-table = (refl, refl, refl, refl, refl, refl, refl, refl, refl)

@@ -17,14 +17,13 @@ use Rattle.body.specs.Body.{prefix_of, written, crunched_from, crunched_body}
 use Rattle.word_match.specs.declared.sets.Sets.{Sets}
 use Rattle.body_rules.specs.Lexicon.{Lexicon, lexicon}
 use Rattle.body_rules.specs.ShortHelpers.{is_short, short_byte, short_mode, is_long, long_step}
-use Rattle.body_rules.specs.Steps.{first, one, uncoded_step, crunch_step}
+use Rattle.body_rules.specs.Steps.{first, one, crunch_step}
 use Rattle.body_rules.specs.declared.Mode.{Mode}
 use Rattle.body_rules.specs.declared.Mode.TheVariants.{Plain}
 use Rattle.body_rules.specs.declared.Move.{Move}
 use Rattle.body_rules.proofs.Beginnings.{proper, Takes, document_proper}
 use Rattle.body.proofs.Progress.{step_takes}
 use Rattle.body_rules.proofs.ShortSteps.{short_step, long_known, long_step_lem, first_at}
-use Rattle.body_rules.proofs.CodedSteps.{codes_off}
 use Rattle.body.proofs.Run.{length_prefix, length_written, body_end_lem, body_step}
 
 -- ---- a step at a place of a body
@@ -59,21 +58,13 @@ module _ (s : List ℕ) (at : ℕ) (m : Mode) {x : Bool} (e : x ≡ is_short m (
     asked : x ≡ is_short m (first (drop at s))
     asked = e ∙ ap (is_short m) (sym (first_at s at h))
 
-    pub short_here : (w : Sets) → x ≡ true → one (short_byte m (get_or s at 0)) (short_mode m (get_or s at 0)) ≡ uncoded_step (lexicon w) m (drop at s)
+    pub short_here : (w : Sets) → x ≡ true → one (short_byte m (get_or s at 0)) (short_mode m (get_or s at 0)) ≡ crunch_step (lexicon w) m (drop at s)
     short_here w t =
         ap (λ (b : ℕ). one (short_byte m b) (short_mode m b)) (sym (first_at s at h))
         ∙ short_step w m (drop at s) (omega (arith, length-drop at s)) (sym asked ∙ t)
 
-    pub long_here : (w : Sets) {o : Move} → o ≡ long_step (lexicon w) (drop at s) → x ≡ false → o ≡ uncoded_step (lexicon w) m (drop at s)
+    pub long_here : (w : Sets) {o : Move} → o ≡ long_step (lexicon w) (drop at s) → x ≡ false → o ≡ crunch_step (lexicon w) m (drop at s)
     long_here w q f = q ∙ long_step_lem w m (drop at s) (sym asked ∙ f)
-
-    -- without codes that is the step
-    module _ (w : Sets) (off : w.codes ≡ false) where
-      pub short_off : x ≡ true → one (short_byte m (get_or s at 0)) (short_mode m (get_or s at 0)) ≡ crunch_step (lexicon w) m (drop at s)
-      short_off t = short_here w t ∙ codes_off w m (drop at s) off
-
-      pub long_off : {o : Move} → o ≡ long_step (lexicon w) (drop at s) → x ≡ false → o ≡ crunch_step (lexicon w) m (drop at s)
-      long_off q f = long_here w q f ∙ codes_off w m (drop at s) off
 
 -- ---- writing
 
@@ -118,16 +109,16 @@ module _ {l : Lexicon} {s first : List ℕ} {m : Mode} {out : List ℕ} {n at : 
 
 -- a short byte
 module _ (w : Sets) {s first : List ℕ} {m : Mode} {out : List ℕ} {n at : ℕ} (k : Owed (lexicon w) s first m out n at) (h : at < length s) {x : Bool} (t : x ≡ true)
-    (e : x ≡ is_short m (get_or s at 0)) (off : w.codes ≡ false) where
+    (e : x ≡ is_short m (get_or s at 0)) where
   pub short_room : n < length out
   unfolding written
-  short_room = omega (arith, (owed_room k (short_off s _ m e h w off t) h (document_proper w)).room)
+  short_room = omega (arith, (owed_room k (short_here s _ m e h w t) h (document_proper w)).room)
 
   pub short_turn : {b : ℕ} {behind : Mode} → b ≡ short_byte m (get_or s at 0) → behind ≡ short_mode m (get_or s at 0)
       → Owed (lexicon w) s first behind (set out n b) (n + 1) (at + 1)
   unfolding written
   short_turn p q =
-      rw (p, q) (owed_turn k (short_off s _ m e h w off t) h (document_proper w) (record { ends = omega arith; stored = refl }))
+      rw (p, q) (owed_turn k (short_here s _ m e h w t) h (document_proper w) (record { ends = omega arith; stored = refl }))
 
 -- ---- measuring
 
@@ -165,16 +156,16 @@ module _ {l : Lexicon} {s : List ℕ} {m : Mode} {n at : ℕ} (k : Measured l s 
 
 -- a short byte
 module _ (w : Sets) {s : List ℕ} {m : Mode} {n at : ℕ} (k : Measured (lexicon w) s m n at) (h : at < length s) {x : Bool} (t : x ≡ true)
-    (e : x ≡ is_short m (get_or s at 0)) (off : w.codes ≡ false) where
+    (e : x ≡ is_short m (get_or s at 0)) where
   one_longer : n + 1 ≡ min (n + length (written (one (short_byte m (get_or s at 0)) (short_mode m (get_or s at 0))))) 65536
   unfolding written
   one_longer = omega (arith, k.low)
 
   pub short_full : n + 1 ≡ 65536 → n + 1 ≡ min (length (crunched_body (lexicon w) s)) 65536
-  short_full f = measured_full k one_longer (short_off s _ m e h w off t) h (document_proper w) f
+  short_full f = measured_full k one_longer (short_here s _ m e h w t) h (document_proper w) f
 
   pub short_measured : {behind : Mode} → behind ≡ short_mode m (get_or s at 0) → (n + 1 ≡ 65536 → ⊥) → Measured (lexicon w) s behind (n + 1) (at + 1)
-  short_measured q f = rw q (measured_turn k one_longer (short_off s _ m e h w off t) h (document_proper w) f)
+  short_measured q f = rw q (measured_turn k one_longer (short_here s _ m e h w t) h (document_proper w) f)
 
 -- a length with what a step writes behind it
 module _ (n : ℕ) {begun : ℕ} where

@@ -31,7 +31,7 @@ use Rattle.body_rules.specs.declared.Mode.TheVariants.{Plain, String, Remark, Da
 use Rattle.body_rules.specs.declared.Move.{Move}
 use Rattle.body_rules.proofs.Beginnings.{proper, document_proper}
 use Rattle.body.proofs.Run.{body_end_lem}
-use Rattle.body.proofs.Writing.{body_at, step_within, step_less, step_fits, short_off}
+use Rattle.body.proofs.Writing.{body_at, step_within, step_less, step_fits, short_here}
 
 -- ---- zeros of lists
 
@@ -179,13 +179,13 @@ module _ {l : Lexicon} {s : List ℕ} {m : Mode} {at : ℕ} (k : NoneTo l s m at
 
 -- a short byte
 module _ (w : Sets) {s : List ℕ} {m : Mode} {at : ℕ} (k : NoneTo (lexicon w) s m at) (h : at < length s) {x : Bool} (t : x ≡ true)
-    (e : x ≡ is_short m (get_or s at 0)) (off : w.codes ≡ false) where
+    (e : x ≡ is_short m (get_or s at 0)) where
   writes : eqb (get_or s at 0) 0 ≡ holds_zero (written (one (short_byte m (get_or s at 0)) (short_mode m (get_or s at 0))))
   unfolding written holds_zero
   writes = sym (zero_alone m (get_or s at 0)) ∙ sym (or_false (eqb (short_byte m (get_or s at 0)) 0))
 
   pub short_found : get_or s at 0 ≡ 0 → true ≡ holds_zero (crunched_body (lexicon w) s)
-  short_found z = none_found k (short_off s at m e h w off t) h (document_proper w) writes (eq-eqb (get_or s at 0) 0 z)
+  short_found z = none_found k (short_here s at m e h w t) h (document_proper w) writes (eq-eqb (get_or s at 0) 0 z)
 
   pub short_none : {behind : Mode} → behind ≡ short_mode m (get_or s at 0) → (get_or s at 0 ≡ 0 → ⊥) → NoneTo (lexicon w) s behind (at + 1)
-  short_none q f = rw q (none_turn k (short_off s at m e h w off t) h (document_proper w) writes (ne_eqb (get_or s at 0) 0 f))
+  short_none q f = rw q (none_turn k (short_here s at m e h w t) h (document_proper w) writes (ne_eqb (get_or s at 0) 0 f))

@@ -4,7 +4,6 @@ ghost use Rattle.word_tables.specs.WordsHelpers.{SpellsWords};
 ghost use Rattle.body_steps.specs.BraceHelpers.{Spans};
 ghost use Rattle.body_rules.specs.Lexicon.{lexicon};
 ghost use Rattle.body_rules.specs.Steps.{crunch_step};
-ghost use Rattle.body_rules.specs.ShortHelpers.{in_mode};
 
 use body_rules::{Mode, Move, short};
 use body_steps::string::Span;
@@ -12,7 +11,7 @@ use body_steps::{step, string};
 use word_match::sets::Sets;
 
 // Where a walk over a body stands: a place, the mode there, and the span that is known there.
-#[derive(Drop)]
+#[derive(Clone, Copy)]
 pub struct Stand {
     pub at: usize,
     pub mode: Mode,
@@ -20,7 +19,7 @@ pub struct Stand {
 }
 
 // A step, and the span that is known behind it.
-#[derive(Drop)]
+#[derive(Clone, Copy)]
 pub struct Stepped {
     pub step: Move,
     pub span: Span,
@@ -37,19 +36,6 @@ pub fn stand_at(text: &[u8], at: usize, mode: Mode) -> Stand
     }
 }
 
-// A step with another mode behind it.
-fn in_mode(step: Move, mode: Mode) -> Move
-    ensures { result ≡ in_mode mode step }
-{
-    Move {
-        prefixed: step.prefixed,
-        byte: step.byte,
-        count: step.count,
-        mode,
-        used: step.used,
-    }
-}
-
 // The step where a walk stands. Over a whole body no byte is looked at for more than one span.
 pub fn step_at(text: &[u8], from: Stand, bytes: &[u8], index: &[u16], sets: Sets) -> Stepped
     requires { (from.at < length text.now) × Spans text.now from.at from.span × SpellsWords bytes.now index.now }
@@ -59,18 +45,10 @@ pub fn step_at(text: &[u8], from: Stand, bytes: &[u8], index: &[u16], sets: Sets
     let mode = from.mode;
     let known = from.span;
     let b = text[at];
-    if short::opens_code(sets.codes, b) {
-        let span = string::span_at(text, at, known);
-        let m = step::step(text, at, span, bytes, index, sets);
-        return Stepped {
-            step: in_mode(m, mode),
-            span,
-        };
-    }
     if short::is_short(mode, b) {
         let next = short::mode_behind(mode, b);
         return Stepped {
-            step: body_rules::one(short::byte_alone(mode, b), next),
+            step: body_rules::one(short::short_byte(mode, b), next),
             span: known,
         };
     }

@@ -1,4 +1,6 @@
 // One body, crunched: its length, and its bytes written into a lent buffer from that buffer's first byte on.
+#![tactic(auto)]
+
 ghost use Rattle.std.specs.Prelude.{◌≡◌, ◌+◌, ◌≤◌, ◌<◌, min, length, replicate};
 ghost use Rattle.base_lent.specs.Stores.{Room, Put};
 ghost use Rattle.word_tables.specs.WordsHelpers.{SpellsWords};
@@ -13,7 +15,6 @@ use body_steps::{step, string};
 use word_match::sets::Sets;
 
 pub mod at;
-mod coded;
 pub mod zero;
 
 // The length of a body, or 65,536 where it is that or more.
@@ -21,9 +22,6 @@ pub fn measure_body(text: &[u8], bytes: &[u8], index: &[u16], sets: Sets) -> usi
     requires { SpellsWords bytes.now index.now }
     ensures { result ≡ min (length (crunched_body (lexicon sets) text.now)) 65536 }
 {
-    if sets.codes {
-        return coded::measure(text, bytes, index, sets);
-    }
     let mut span = string::no_span(text);
     let mut at: usize = 0;
     let mut mode = Mode::Plain;
@@ -105,9 +103,6 @@ pub fn write_body(out: &mut [u8], text: &[u8], bytes: &[u8], index: &[u16], sets
     requires { SpellsWords bytes.now index.now × Room out.old 0 (crunched_body (lexicon sets) text.now) }
     ensures { Put out.old 0 (crunched_body (lexicon sets) text.now) result out.new }
 {
-    if sets.codes {
-        return coded::write(out, text, bytes, index, sets);
-    }
     let mut span = string::no_span(text);
     let mut at: usize = 0;
     let mut mode = Mode::Plain;

@@ -5,7 +5,6 @@ ghost use Rattle.body.specs.Body.{written, crunched_body};
 ghost use Rattle.body_rules.specs.Lexicon.{lexicon};
 ghost use Rattle.body.specs.Zero.{holds_zero};
 
-use crate::coded;
 use body_rules::{Mode, Move, short};
 use body_steps::{step, string};
 use word_match::sets::Sets;
@@ -16,9 +15,6 @@ pub fn holds_zero(text: &[u8], bytes: &[u8], index: &[u16], sets: Sets) -> bool
     requires { SpellsWords bytes.now index.now }
     ensures { result ≡ holds_zero (crunched_body (lexicon sets) text.now) }
 {
-    if sets.codes {
-        return coded::holds_zero(text, bytes, index, sets);
-    }
     let mut span = string::no_span(text);
     let mut at: usize = 0;
     let mut mode = Mode::Plain;
@@ -45,7 +41,7 @@ pub fn holds_zero(text: &[u8], bytes: &[u8], index: &[u16], sets: Sets) -> bool
 }
 
 // Whether a step writes a zero: the 64 in front of a token is none.
-pub fn writes_zero(m: Move) -> bool
+fn writes_zero(m: Move) -> bool
     ensures { result ≡ holds_zero (written m) }
 {
     if m.count == 0 {

@@ -1,5 +1,4 @@
 pub mod Beginnings
-pub mod CodedSteps
 pub mod PlainSteps
 pub mod ShortSteps
 pub mod StringSteps

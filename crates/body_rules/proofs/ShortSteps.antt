@@ -1,4 +1,4 @@
--- The law of the step without codes: a byte that is short in its mode gives one byte, whatever stands behind it; every other is a letter or the first
+-- The law of the step: a byte that is short in its mode gives one byte, whatever stands behind it; every other is a letter or the first
 -- byte of pi in plain mode, or a { in a string.
 -- Assumes nothing.
 use Prim.Native.Nat.{ℕ, suc, ◌-◌, ◌≤◌, ◌<◌}
@@ -10,7 +10,6 @@ use lib.Dec.{eqb}
 use lib.ListN.{length, get_or, take, drop, length-drop}
 use borrow.Author.Tests.{eq-eqb, ne_eqb, eqb-true}
 use Rattle.base_ascii.specs.Bytes.{upper, between, is_letter}
-use Rattle.base_ascii.proofs.Choice.{taken}
 use Rattle.base_ascii.proofs.Ranges.{between_in, in_between}
 use Rattle.base_ascii.proofs.Searching.{tail, here as from_here}
 use Rattle.word_search.specs.Compare.{begins, passes}
@@ -22,7 +21,7 @@ use Rattle.word_tables.specs.Rom.{operators}
 use Rattle.word_match.specs.declared.sets.Sets.{Sets}
 use Rattle.body_rules.specs.Lexicon.{lexicon}
 use Rattle.body_rules.specs.ShortHelpers.{is_short, plain_byte, short_byte, short_mode, is_long, long_step}
-use Rattle.body_rules.specs.Steps.{first, one, token, other_step, plain_step, lettered, string_byte, string_step, data_step, data_quote_step, escape_step, uncoded_step}
+use Rattle.body_rules.specs.Steps.{first, one, token, other_step, plain_step, lettered, string_byte, string_step, data_step, data_quote_step, crunch_step}
 use Rattle.body_rules.specs.declared.Mode.{Mode}
 use Rattle.body_rules.specs.declared.Mode.TheVariants.{Plain, String, Remark, Data, DataQuote}
 use Rattle.body_rules.specs.declared.Move.{Move}
@@ -176,11 +175,11 @@ no_operator b e a = go (word_in operators (b ∷ [])) (none b (own_capital b (pl
 -- ---- the law
 
 pub short_step : (s : Sets) (m : Mode) (t : List ℕ) → 0 < length t → is_short m (first t) ≡ true
-    → one (short_byte m (first t)) (short_mode m (first t)) ≡ uncoded_step (lexicon s) m t
-unfolding uncoded_step short_byte short_mode is_short string_step escape_step string_byte data_step data_quote_step lettered upper between
+    → one (short_byte m (first t)) (short_mode m (first t)) ≡ crunch_step (lexicon s) m t
+unfolding crunch_step short_byte short_mode is_short string_step string_byte data_step data_quote_step lettered upper between
 short_step s m [] h e = absurd (omega arith)
 short_step s Plain (b ∷ u) h e = let k = plain_known b e in plain_alone s b u k.0 k.1
-short_step s String (b ∷ u) h e = rw (string_step, escape_step, not_true (eqb b 0x7B) e) (go (eqb b 0x22) refl)
+short_step s String (b ∷ u) h e = rw (string_step, not_true (eqb b 0x7B) e) (go (eqb b 0x22) refl)
   where
     go : (x : Bool) → eqb b 0x22 ≡ x → one (lettered b) (cond x Plain String) ≡ elim x [ true ↦ one 0x22 Plain | false ↦ one (lettered b) String ]
     go true q = rw (eqb-true b 0x22 q)
@@ -224,8 +223,8 @@ long_known Remark b e = absurd (true≢false e)
 long_known Data b e = absurd (true≢false e)
 long_known DataQuote b e = absurd (true≢false e)
 
-pub long_step_lem : (s : Sets) (m : Mode) (t : List ℕ) → is_short m (first t) ≡ false → long_step (lexicon s) t ≡ uncoded_step (lexicon s) m t
-unfolding is_short long_step uncoded_step
+pub long_step_lem : (s : Sets) (m : Mode) (t : List ℕ) → is_short m (first t) ≡ false → long_step (lexicon s) t ≡ crunch_step (lexicon s) m t
+unfolding is_short long_step crunch_step
 long_step_lem s Plain t e = go (eqb (first t) 0x7B) refl
   where
     go : (x : Bool) → eqb (first t) 0x7B ≡ x → elim x [ true ↦ string_step t | false ↦ plain_step (lexicon s) t ] ≡ plain_step (lexicon s) t
@@ -235,20 +234,6 @@ long_step_lem s String t e = rw (long_step, not_false (eqb (first t) 0x7B) e)
 long_step_lem s Remark t e = absurd (true≢false e)
 long_step_lem s Data t e = absurd (true≢false e)
 long_step_lem s DataQuote t e = absurd (true≢false e)
-
--- at a { it is a string's step
-pub long_string : (s : Sets) (t : List ℕ) → first t ≡ 0x7B → long_step (lexicon s) t ≡ string_step t
-unfolding long_step
-long_string s t e = taken _ _ (eq-eqb _ _ e)
-
--- a { that no escape begins with is a byte like others
-string_brace : (t : List ℕ) → first t ≡ 0x7B → string_byte (first t) ≡ one 0x7B String
-unfolding string_byte lettered between
-string_brace t e = rw e
-
-pub string_escape : (t : List ℕ) → first t ≡ 0x7B → escape_step String (one 0x7B String) t ≡ string_step t
-unfolding string_step
-string_escape t e = ap (λ (o : Move). escape_step String o t) (sym (string_brace t e))
 
 long_other : (s : Sets) (t : List ℕ) {r : Move} → r ≡ plain_step (lexicon s) t → (first t ≡ 0x7B → ⊥) → r ≡ long_step (lexicon s) t
 unfolding long_step
@@ -275,7 +260,7 @@ letter_left b e n p = go (is_letter b) (rw (ne_eqb _ _ n, ne_eqb _ _ p) at e)
 -- ---- such a byte at a place of a text, and the text from there on, as it is lent
 
 module _ (t : List ℕ) (at : ℕ) where
-  abbrev pub rest : List ℕ
+  abbrev rest : List ℕ
   rest = take (length t - at) (drop at t)
 
   pub first_at : at < length t → first (drop at t) ≡ get_or t at 0
@@ -284,7 +269,7 @@ module _ (t : List ℕ) (at : ℕ) where
   pub rest_some : at < length t → 0 < length rest
   rest_some h = rw (tail t at) (omega (arith, length-drop at t))
 
-  pub rest_at : at < length t → first rest ≡ get_or t at 0
+  rest_at : at < length t → first rest ≡ get_or t at 0
   rest_at h = ap first (tail t at) ∙ first_at h
 
   pub rest_pi : get_or t at 0 ≡ 0xCF → at < length t → first rest ≡ 0xCF

@@ -8,8 +8,8 @@ use Rattle.base_ascii.specs.Bytes.{between}
 use Rattle.base_ascii.proofs.Ranges.{between_in}
 use Rattle.escape_bytes.specs.declared.Escape.{Escape}
 use Rattle.escape_bytes.specs.declared.Escape.TheVariants.{Byte, Unknown}
-use Rattle.body_rules.specs.Steps.{lettered, escaped}
-use Rattle.body_rules.specs.declared.Mode.{Mode}
+use Rattle.body_rules.specs.Steps.{one, lettered, escaped}
+use Rattle.body_rules.specs.declared.Mode.TheVariants.{String}
 use Rattle.body_rules.specs.declared.Move.{Move}
 
 module _ (b : ℕ) where
@@ -31,13 +31,13 @@ module _ (b : ℕ) where
   pub capital_to : {x : Bool} → x ≡ true → x ≡ between 65 90 b → b ≤ 90
   capital_to t e = omega (arith, between_in 65 90 b (sym e ∙ t))
 
--- an escape, n bytes between braces: the mode goes on behind it, whatever byte it gives
-module _ (m : Mode) (other : Move) (n : ℕ) {x : Escape} where
+-- an escape, n bytes between braces: the string goes on behind it, whatever byte it gives
+module _ (n : ℕ) {x : Escape} where
   pub escaped_known : {b count : ℕ} → x ≡ Byte b count
-      → ◌≡◌ {A = Move} (record { prefixed = false; byte = b; count = count; mode = m; used = n + 2 }) (escaped m other n x)
+      → ◌≡◌ {A = Move} (record { prefixed = false; byte = b; count = count; mode = String; used = n + 2 }) (escaped n x)
   unfolding escaped
-  escaped_known e = ap (escaped m other n) (sym e)
+  escaped_known e = ap (escaped n) (sym e)
 
-  pub escaped_unknown : {r : Move} → r ≡ other → x ≡ Unknown → r ≡ escaped m other n x
+  pub escaped_unknown : {r : Move} → r ≡ one 0x7B String → x ≡ Unknown → r ≡ escaped n x
   unfolding escaped
-  escaped_unknown q e = q ∙ ap (escaped m other n) (sym e)
+  escaped_unknown q e = q ∙ ap (escaped n) (sym e)

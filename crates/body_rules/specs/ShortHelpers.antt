@@ -43,14 +43,6 @@ short_mode Remark b = Remark
 short_mode Data b = cond (eqb b 0x22) DataQuote (cond (eqb b 0x3A) Plain Data)
 short_mode DataQuote b = cond (eqb b 0x22) Data DataQuote
 
--- an escape is looked for at this byte in every mode
-unfoldable pub opens_code : Bool → ℕ → Bool
-opens_code codes b = codes && eqb b 0x7B
-
--- a step with another mode behind it
-abbrev pub in_mode : Mode → Move → Move
-in_mode m o = record { prefixed = o.prefixed; byte = o.byte; count = o.count; mode = m; used = o.used }
-
 -- ---- the other bytes: in plain mode a letter or the first byte of pi, in a string {
 
 unfoldable pub is_long : ℕ → Bool

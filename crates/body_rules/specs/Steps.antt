@@ -1,6 +1,4 @@
--- One step of crunching a body: what the front of the text left gives in each mode (document 01, "Crunching one body"; document 02, No. 5; the
--- option of codes: "in plain code, remarks and DATA too, `{`, the first later `}` in the body and a known escape between them give its byte,
--- repeated; a byte so made opens and ends nothing, as in strings").
+-- One step of crunching a body: what the front of the text left gives in each mode (document 01, "Crunching one body"; document 02, No. 5).
 -- Assumes nothing.
 use Rattle.std.specs.Prelude.{ℕ, ◌+◌, ◌-◌, Bool, true, false, cond, ◌&&◌, List, [], ◌∷◌, length, get_or, take, eqb, ltb}
 use Rattle.base_ascii.specs.Bytes.{between, upper}
@@ -69,24 +67,6 @@ plain_step l t =
       ]
     ]
 
--- ---- escapes
-
--- what the n bytes behind a brace give in a mode, which goes on; where they are no known escape, the other step
-unfoldable pub escaped : Mode → Move → ℕ → Escape → Move
-escaped m other n (Byte b count) = record { prefixed = false; byte = b; count = count; mode = m; used = n + 2 }
-escaped m other n Unknown = other
-
--- a brace and the text behind it, n bytes of which stand in front of the first closing brace
-unfoldable pub braced : Mode → Move → List ℕ → ℕ → Move
-unfolding escaped escape_of
-braced m other s n = elim (ltb n (length s)) [ true ↦ escaped m other n (escape_of (take n s)) | false ↦ other ]
-
--- a known escape at the front of the text, or the other step
-unfoldable pub escape_step : Mode → Move → List ℕ → Move
-unfolding braced before
-escape_step m other [] = other
-escape_step m other (b ∷ s) = elim (eqb b 0x7B) [ true ↦ braced m other s (before (equals 0x7D) s) | false ↦ other ]
-
 -- ---- string
 
 -- a-z become 41 to 5A, A-Z become C1 to DA
@@ -99,10 +79,21 @@ unfoldable pub string_byte : ℕ → Move
 unfolding lettered
 string_byte b = elim (eqb b 0x22) [ true ↦ one 0x22 Plain | false ↦ one (lettered b) String ]
 
--- a known escape, or a byte
+-- a brace, and the escape of the n bytes behind it; where that is unknown the brace is a byte like others
+unfoldable pub escaped : ℕ → Escape → Move
+unfolding string_byte
+escaped n (Byte b count) = record { prefixed = false; byte = b; count = count; mode = String; used = n + 2 }
+escaped n Unknown = string_byte 0x7B
+
+-- a brace and the text behind it, n bytes of which stand in front of the first closing brace
+unfoldable pub braced : List ℕ → ℕ → Move
+unfolding escaped escape_of string_byte
+braced s n = elim (ltb n (length s)) [ true ↦ escaped n (escape_of (take n s)) | false ↦ string_byte 0x7B ]
+
 unfoldable pub string_step : List ℕ → Move
-unfolding escape_step string_byte
-string_step t = escape_step String (string_byte (first t)) t
+unfolding braced string_byte before
+string_step [] = string_byte 0
+string_step (b ∷ s) = elim (eqb b 0x7B) [ true ↦ braced s (before (equals 0x7D) s) | false ↦ string_byte b ]
 
 -- ---- data
 
@@ -120,18 +111,12 @@ unfoldable pub data_quote_step : ℕ → Move
 unfolding upper
 data_quote_step b = elim (eqb b 0x22) [ true ↦ one 0x22 Data | false ↦ one (upper b) DataQuote ]
 
--- ---- all modes
+-- ---- all modes; in a remark all is copied
 
--- document 01's steps; in a remark all is copied
-unfoldable pub uncoded_step : Lexicon → Mode → List ℕ → Move
-unfolding plain_step string_step data_step data_quote_step
-uncoded_step l Plain t = plain_step l t
-uncoded_step l String t = string_step t
-uncoded_step l Remark t = one (first t) Remark
-uncoded_step l Data t = data_step (first t)
-uncoded_step l DataQuote t = data_quote_step (first t)
-
--- with codes a known escape comes first in every mode
 unfoldable pub crunch_step : Lexicon → Mode → List ℕ → Move
-unfolding uncoded_step escape_step
-crunch_step l m t = elim l.sets.codes [ true ↦ escape_step m (uncoded_step l m t) t | false ↦ uncoded_step l m t ]
+unfolding plain_step string_step data_step data_quote_step
+crunch_step l Plain t = plain_step l t
+crunch_step l String t = string_step t
+crunch_step l Remark t = one (first t) Remark
+crunch_step l Data t = data_step (first t)
+crunch_step l DataQuote t = data_quote_step (first t)

@@ -1,11 +1,13 @@
 // The rules of a step of crunching: the modes, a step's answer, and the bytes that give one byte by themselves. The definition of a step in
 // each mode, plain, string, remark and DATA, is specs/Steps.antt; its laws stand in proofs/.
+#![tactic(auto)]
+
 ghost use Rattle.std.specs.Prelude.{◌≡◌};
 ghost use Rattle.body_rules.specs.Steps.{one as one_byte, token as token_of, opened as opened_by};
 
 pub mod short;
 
-#[derive(Drop)]
+#[derive(Clone, Copy)]
 pub enum Mode {
     Plain,
     String,
@@ -16,7 +18,7 @@ pub enum Mode {
 }
 
 // What a step writes, 64 if prefixed and then count copies of byte; the mode behind it; and how many bytes of the text it takes.
-#[derive(Drop)]
+#[derive(Clone, Copy)]
 pub struct Move {
     pub prefixed: bool,
     pub byte: u8,

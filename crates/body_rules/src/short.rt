@@ -1,6 +1,6 @@
 // Bytes that give one byte by themselves, whatever stands behind them.
 ghost use Rattle.std.specs.Prelude.{◌≡◌, true, cond, eqb};
-ghost use Rattle.body_rules.specs.ShortHelpers.{is_short, opens_code, plain_byte, short_byte, short_mode};
+ghost use Rattle.body_rules.specs.ShortHelpers.{is_short, plain_byte, short_byte, short_mode};
 ghost use Rattle.body_rules.specs.Steps.{lettered as lettered_of};
 
 use crate::Mode;
@@ -21,16 +21,6 @@ pub fn is_short(mode: Mode, b: u8) -> bool
         Mode::Data => true,
         Mode::DataQuote => true,
     }
-}
-
-// Whether an escape is looked for at a byte in every mode.
-pub fn opens_code(codes: bool, b: u8) -> bool
-    ensures { result ≡ opens_code codes b }
-{
-    if !codes {
-        return false;
-    }
-    b == 0x7B
 }
 
 // What it gives.
@@ -64,56 +54,6 @@ fn plain_byte(b: u8) -> u8
         b'?' => 0x99,
         _ => b,
     }
-}
-
-// The same for a step by itself. The loop that writes a body is the only caller of `short_byte`, so that the compiler puts that into the loop;
-// a second caller made crunching without codes 9 in 100 slower.
-pub fn byte_alone(mode: Mode, b: u8) -> u8
-    requires { is_short mode b ≡ true }
-    ensures { result ≡ short_byte mode b }
-{
-    match mode {
-        Mode::Plain => sign_alone(b),
-        Mode::String => lettered(b),
-        Mode::Remark => b,
-        Mode::Data => base_ascii::upper(b),
-        Mode::DataQuote => base_ascii::upper(b),
-    }
-}
-
-// An operator gives its token, ? that of PRINT, one test behind the other.
-fn sign_alone(b: u8) -> u8
-    requires { is_short Mode.Plain b ≡ true }
-    ensures { result ≡ plain_byte b }
-{
-    if b == b'+' {
-        return 0xAA;
-    }
-    if b == b'-' {
-        return 0xAB;
-    }
-    if b == b'*' {
-        return 0xAC;
-    }
-    if b == b'/' {
-        return 0xAD;
-    }
-    if b == b'^' {
-        return 0xAE;
-    }
-    if b == b'>' {
-        return 0xB1;
-    }
-    if b == b'=' {
-        return 0xB2;
-    }
-    if b == b'<' {
-        return 0xB3;
-    }
-    if b == b'?' {
-        return 0x99;
-    }
-    b
 }
 
 // a to z become 41 to 5A, A to Z become C1 to DA.

@@ -176,9 +176,9 @@ module _ (s : Sets) (t : List ℕ) where
 
 -- ---- for steps of crunching, whatever the lists
 
-small_letter_lem : (b : ℕ) → is_letter b ≡ false → is_small b ≡ false
+small_letter : (b : ℕ) → is_letter b ≡ false → is_small b ≡ false
 unfolding upper
-small_letter_lem b n = go (is_small b) refl n
+small_letter b n = go (is_small b) refl n
   where
     go : (x : Bool) → is_small b ≡ x → between 65 90 (cond x (b - 32) b) ≡ false → is_small b ≡ false
     go true q f =
@@ -202,7 +202,7 @@ no_letter es t n = ap (word_for es) (sym (letters_none t refl (sym (none t n))))
   where
     none : (t : List ℕ) → is_letter (get_or t 0 0) ≡ false → front is_small t ≡ 0
     none [] m = front_nil is_small
-    none (b ∷ u) m = front_none is_small b u (small_letter_lem b m)
+    none (b ∷ u) m = front_none is_small b u (small_letter b m)
 
 letters_most : (t : List ℕ) → length (form_letters t) ≤ length t
 unfolding form_letters

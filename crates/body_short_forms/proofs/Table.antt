@@ -38,8 +38,8 @@ stands-table = (refl, refl, refl, refl, refl, refl, refl, refl, refl, refl, refl
 
 -- a TSB word stands in the way where TSB words are in force
 force-table :
-    (form_word (record { tsb = false; demoted = []; basic35 = false; forms = true; codes = false }) tsb_words v2_words (bytes_of "lOop") ≡ Word 19 2 0x93)
-    × (form_word (record { tsb = true; demoted = []; basic35 = false; forms = true; codes = false }) tsb_words v2_words (bytes_of "lOop") ≡ Nothing)
-    × (form_word (record { tsb = false; demoted = []; basic35 = false; forms = false; codes = false }) tsb_words v2_words (bytes_of "lOop") ≡ Nothing)
+    (form_word (record { tsb = false; demoted = []; basic35 = false; forms = true }) tsb_words v2_words (bytes_of "lOop") ≡ Word 19 2 0x93)
+    × (form_word (record { tsb = true; demoted = []; basic35 = false; forms = true }) tsb_words v2_words (bytes_of "lOop") ≡ Nothing)
+    × (form_word (record { tsb = false; demoted = []; basic35 = false; forms = false }) tsb_words v2_words (bytes_of "lOop") ≡ Nothing)
 unfolding form_word tsb_words v2_words between upper front
 force-table = (refl, refl, refl)

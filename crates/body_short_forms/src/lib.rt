@@ -1,4 +1,6 @@
 // Short forms of V2 words: small letters and a capital behind them.
+#![tactic(auto)]
+
 ghost use Rattle.std.specs.Prelude.{◌≡◌, min};
 ghost use Rattle.base_ascii.specs.Search.{front};
 ghost use Rattle.word_tables.specs.Rom.{v2_words};

@@ -19,11 +19,10 @@ use Rattle.escape_bytes.specs.declared.Escape.TheVariants.{Byte, Unknown}
 use Rattle.escapes.specs.declared.Tail.{Tail}
 use Rattle.escapes.proofs.Tails.{drop_take}
 use Rattle.body_steps.specs.BraceHelpers.{SpanOf, Spans, Reaches}
-use Rattle.body_rules.specs.Steps.{one, escaped, braced, escape_step, string_step}
+use Rattle.body_rules.specs.Steps.{one, escaped, braced, string_step}
 use Rattle.body_rules.specs.declared.Mode.TheVariants.{String}
 use Rattle.body_rules.specs.declared.Move.{Move}
 use Rattle.body_rules.proofs.StringSteps.{escaped_known, escaped_unknown}
-use Rattle.body_rules.proofs.ShortSteps.{string_escape, first_at}
 use Rattle.body_steps.specs.declared.string.Span.{Span}
 
 -- ---- a span that is known
@@ -95,38 +94,32 @@ module _ (t : List ℕ) {at : ℕ} {w : Span} (s : SpanOf t at w) (e : get_or t 
         s.begun,
       )
 
-  abbrev brace : Move
-  brace = one 0x7B String
+  braced_here : string_step (drop at t) ≡ braced (drop (at + 1) t) (w.close - (at + 1))
+  unfolding string_step
+  braced_here = rw (here t at h, string_step, eq-eqb _ _ e) (ap (braced (drop (at + 1) t)) closing)
 
-  escaping_here : escape_step String brace (drop at t) ≡ braced String brace (drop (at + 1) t) (w.close - (at + 1))
-  unfolding escape_step
-  escaping_here = rw (here t at h, escape_step, eq-eqb _ _ e) (ap (braced String brace (drop (at + 1) t)) closing)
-
-  braced_here : string_step (drop at t) ≡ braced String brace (drop (at + 1) t) (w.close - (at + 1))
-  braced_here = sym (string_escape (drop at t) (first_at t at h ∙ e)) ∙ escaping_here
-
-  pub brace_open : {r : Move} → r ≡ brace → length t ≤ w.close → r ≡ string_step (drop at t)
+  pub brace_open : {r : Move} → r ≡ one 0x7B String → length t ≤ w.close → r ≡ string_step (drop at t)
   unfolding braced
   brace_open q l =
       let u : length (drop (at + 1) t) ≤ w.close - (at + 1) = omega (arith, length-drop (at + 1) t) in
       q ∙ sym (braced_here ∙ rw (braced, le-ltb _ _ u))
 
   module _ {x : Escape} (p : x ≡ escape_of (drop (at + 1 - w.from) (take (w.close - w.from) (drop w.from t)))) (l : w.close < length t) where
-    escaped_here : escaped String brace (w.close - (at + 1)) x ≡ string_step (drop at t)
+    escaped_here : escaped (w.close - (at + 1)) x ≡ string_step (drop at t)
     unfolding braced
     escaped_here =
         let i : w.close - w.from - since ≡ w.close - (at + 1) = omega (arith, s.begun) in
         let inside : drop since (take (w.close - w.from) (drop w.from t)) ≡ take (w.close - (at + 1)) (drop (at + 1) t) =
         drop_take since (w.close - w.from) (drop w.from t) ∙ rw (i, behind) in
         let u : w.close - (at + 1) < length (drop (at + 1) t) = omega (arith, length-drop (at + 1) t, s.ahead) in
-        ap (escaped String brace (w.close - (at + 1))) (p ∙ ap escape_of inside) ∙ sym (braced_here ∙ rw (braced, lt-ltb _ _ u))
+        ap (escaped (w.close - (at + 1))) (p ∙ ap escape_of inside) ∙ sym (braced_here ∙ rw (braced, lt-ltb _ _ u))
 
     pub brace_known : {b count : ℕ} → x ≡ Byte b count
         → ◌≡◌ {A = Move} (record { prefixed = false; byte = b; count = count; mode = String; used = w.close + 1 - at }) (string_step (drop at t))
     brace_known {b} {count} g =
         let i : w.close + 1 - at ≡ w.close - (at + 1) + 2 = omega (arith, s.ahead) in
         ap {B = Move} (λ (n : ℕ). record { prefixed = false; byte = b; count = count; mode = String; used = n }) i
-        ∙ escaped_known String brace (w.close - (at + 1)) g ∙ escaped_here
+        ∙ escaped_known (w.close - (at + 1)) g ∙ escaped_here
 
-    pub brace_unknown : {r : Move} → r ≡ brace → x ≡ Unknown → r ≡ string_step (drop at t)
-    brace_unknown q g = escaped_unknown String brace (w.close - (at + 1)) q g ∙ escaped_here
+    pub brace_unknown : {r : Move} → r ≡ one 0x7B String → x ≡ Unknown → r ≡ string_step (drop at t)
+    brace_unknown q g = escaped_unknown (w.close - (at + 1)) q g ∙ escaped_here

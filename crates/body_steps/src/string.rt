@@ -12,7 +12,7 @@ use escapes::Tail;
 
 // What the { in front of one } share: a place behind the first of them, the place of the }, or the text's end where none follows, and
 // the tail of the bytes between.
-#[derive(Drop)]
+#[derive(Clone, Copy)]
 pub struct Span {
     pub from: usize,
     pub close: usize,

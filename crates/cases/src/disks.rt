@@ -6,7 +6,7 @@ use disk_rules::{Changed, DiskCheck};
 use judge_frames::{Answer, rooms};
 
 // Where the name ends that bytes begin with, behind its length; beyond bytes that are too short for one.
-pub fn name_end(bytes: &[u8]) -> usize
+fn name_end(bytes: &[u8]) -> usize
     ensures { (2 ≤ result) × (result ≤ 65537) }
 {
     if bytes.len() < 2 {
@@ -16,7 +16,7 @@ pub fn name_end(bytes: &[u8]) -> usize
 }
 
 // The same for a file.
-pub fn file_end(bytes: &[u8]) -> usize
+fn file_end(bytes: &[u8]) -> usize
     ensures { 4 ≤ result }
 {
     if bytes.len() < 4 {

@@ -1,14 +1,15 @@
 // The batch driver: answers framed calls of the libraries' public functions, so that any judge can be held against them byte by byte. It reads
 // a frame, calls one function and writes what came back.
+#![tactic(auto)]
+
 mod disks;
-mod masters;
 
 ghost use Rattle.std.specs.Prelude.{◌≤◌, length};
 
 use desk_inputs::Part;
 use image_readers::By;
 use judge_calls::{
-    compared, counted, dialects, found, images, indexes, measured, relinked, rooms, texts, words,
+    counted, dialects, found, images, indexes, measured, relinked, rooms, texts, words,
 };
 use libc::STDIN_FILENO;
 
@@ -22,7 +23,6 @@ fn answer_request(op: u8, payload: &[u8], room: &mut [u8], disk: &mut [u8]) -> b
         0x02 | 0x0B | 0x11 | 0x15 | 0x17 | 0x31 => rooms::measure(op, payload),
         0x20 | 0x21 | 0x23 => disks::change(op, payload, disk),
         0x22 => disks::read(payload, room),
-        0x43 => masters::add(payload, disk),
         _ => answer_plain(op, payload),
     }
 }
@@ -47,10 +47,6 @@ fn answer_plain(op: u8, payload: &[u8]) -> bool {
         0x1E => indexes::entry(payload),
         0x24 => disks::check(payload),
         0x34 => relinked::relink(payload),
-        0x42 => compared::sha256(payload),
-        0x44 => masters::check(payload),
-        0x45 => compared::same(payload),
-        0x47 => compared::compare(payload),
         _ => judge_frames::reject(),
     }
 }

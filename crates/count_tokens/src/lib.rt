@@ -1,4 +1,6 @@
 // Which tokens of a body count (document 02, No. 12).
+#![tactic(auto)]
+
 ghost use Rattle.std.specs.Prelude.{◌≡◌};
 ghost use Rattle.list_texts.specs.TextsHelpers.{SpellsTexts};
 ghost use Rattle.count_tokens.specs.Tokens.{count_rules, counted_as};

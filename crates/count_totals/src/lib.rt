@@ -2,6 +2,8 @@
 //
 // Totals are 206 numbers. A token's count stands at the token's own number: those of V2 at 80 to CB, those of TSB at the byte behind 64.
 // Behind them stand the images taken and, among these, the refused ones.
+#![tactic(auto)]
+
 ghost use Rattle.std.specs.Prelude.{◌≡◌, ◌+◌, ◌≤◌, min, length};
 ghost use Rattle.count_totals.specs.TokenTotals.{is_totals, tokens_sum, tokens_counted, share_of};
 

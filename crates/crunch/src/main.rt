@@ -1,5 +1,7 @@
 // Crunches a text: standard input to standard output, or the files that it was given. Behind their names ./moldthatch puts the dialect's word, a word
 // for each option, which is empty where it was not asked for, and the load address where one was asked for.
+#![tactic(auto)]
+
 ghost use Rattle.std.specs.Prelude.{◌≤◌, length};
 
 use base_refusals::Refusal;
@@ -15,9 +17,7 @@ const FORMS: usize = names::WORDS + 1;
 
 const PROFILE: usize = names::WORDS + 2;
 
-const CODES: usize = names::WORDS + 3;
-
-const LOAD: usize = names::WORDS + 4;
+const LOAD: usize = names::WORDS + 3;
 
 fn crunch_text(text: &[u8], options: Options)
     requires { length text.now ≤ 1048576 }
@@ -40,14 +40,12 @@ fn crunch_given(options: Options) {
 fn crunch_under(dialect: Dialect) {
     let profile = options::is_set(PROFILE);
     let forms = options::is_set(FORMS);
-    let codes = options::is_set(CODES);
     match options::load(LOAD, dialect) {
         AskedNumber::Known(load) => crunch_given(Options {
             load,
             dialect,
             profile,
             forms,
-            codes,
         }),
         AskedNumber::Ended => {}
     }

@@ -52,8 +52,8 @@ module _ {words : Lexicon} {load : ℕ} {text : List ℕ} {at bound : ℕ} (g : 
     abbrev new : List NumberedBody
     new = given (text_line words 0 (line_behind text r))
 
-    not_above_lem : end_address g.address new ≤ next
-    not_above_lem = omega (arith, end_mono g.address bound new g.below, b.below q)
+    not_above : end_address g.address new ≤ next
+    not_above = omega (arith, end_mono g.address bound new g.below, b.below q)
 
     gives_new : text_line words (suc g.k) (line_at text at r) ≡ done new
     gives_new =
@@ -64,12 +64,12 @@ module _ {words : Lexicon} {load : ℕ} {text : List ℕ} {at bound : ℕ} (g : 
 
     taken_here : Taken false words (suc g.k) g.least g.address (line_at text at r) (end_address g.address new)
     taken_here =
-        let low : end_address g.address new ≤ 0xFFFF = omega (arith, not_above_lem, q) in
+        let low : end_address g.address new ≤ 0xFFFF = omega (arith, not_above, q) in
         record { new = new; line_is = plain_under false words (suc g.k) g.least (line_at text at r) gives_new; link_is = link_fits g.address new low; next_is = refl; high = low }
 
     pub bound_turn : BoundTo words load text r.next next
     unfolding taken_here
-    bound_turn = record { k = g.k + 1; least = least_behind g.least new; address = end_address g.address new; reached = reached_turn g.reached h is taken_here; below = not_above_lem; high = q }
+    bound_turn = record { k = g.k + 1; least = least_behind g.least new; address = end_address g.address new; reached = reached_turn g.reached h is taken_here; below = not_above; high = q }
 
   pub bound_end : {room : ℕ} → length text ≤ at → bound - load + 4 ≤ room → FitsIf true room (text_image false words load text)
   unfolding text_image

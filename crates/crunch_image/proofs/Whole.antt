@@ -14,7 +14,7 @@ use Rattle.base_lent.specs.Stores.{HasRoom}
 use Rattle.base_lent.specs.declared.Outcome.{Outcome}
 use Rattle.base_lent.specs.declared.Outcome.TheVariants.{Done, Refused}
 use Rattle.base_lent.proofs.Outcomes.{told_outcome, has_room, into_refused, into_none}
-use Rattle.word_match.specs.Sets.{with_options}
+use Rattle.word_match.specs.Sets.{with_forms}
 use Rattle.word_match.specs.declared.sets.Sets.{Sets}
 use Rattle.text_domain.specs.declared.TextCheck.{TextCheck}
 use Rattle.text_domain.specs.declared.TextCheck.TheVariants.{Fine, Refused as CheckAsRefused}
@@ -60,12 +60,12 @@ module _ (o : Options) (place : ℕ) (text : List ℕ) where
       ∙ ap (λ (x : Answer (List NumberedBody)). map_done (entry_from place 1) (map_done (λ ls. with_text_lines (lines_at o.load 2 ls) (nonblank_lines text)) x)) e
 
   module _ {c : TextCheck} where
-    lines_fine : {sets guessed : Sets} → sets ≡ with_options o.forms o.codes guessed → guessed ≡ word_sets o.dialect text → c ≡ Fine → text_check_answer c ≡ checked_text text
+    lines_fine : {sets guessed : Sets} → sets ≡ with_forms o.forms guessed → guessed ≡ word_sets o.dialect text → c ≡ Fine → text_check_answer c ≡ checked_text text
         → crunch_lines o.profile (lexicon sets) 1 0 o.load (text_lines AfterCr text) ≡ crunched_lines o text
     lines_fine w s t e =
-        ap (λ (x : Sets). crunch_lines o.profile (lexicon x) 1 0 o.load (text_lines AfterCr text)) (w ∙ ap (with_options o.forms o.codes) s) ∙ lines_by t e
+        ap (λ (x : Sets). crunch_lines o.profile (lexicon x) 1 0 o.load (text_lines AfterCr text)) (w ∙ ap (with_forms o.forms) s) ∙ lines_by t e
 
-    pub measured_fine : {sets guessed : Sets} {p : Pass} → PassedAs o.profile (lexicon sets) o.load place text p → sets ≡ with_options o.forms o.codes guessed → guessed ≡ word_sets o.dialect text
+    pub measured_fine : {sets guessed : Sets} {p : Pass} → PassedAs o.profile (lexicon sets) o.load place text p → sets ≡ with_forms o.forms guessed → guessed ≡ word_sets o.dialect text
         → c ≡ Fine → text_check_answer c ≡ checked_text text → MeasuredAs o place text p
     unfolding text_image text_placed
     measured_fine r w s t e = record { sized = r.sized ∙ ap room_for (image_by (lines_fine w s t e)); placed = r.placed ∙ placed_by (lines_fine w s t e) }
@@ -77,7 +77,7 @@ module _ (o : Options) (place : ℕ) (text : List ℕ) where
 
 module _ (o : Options) (text buffer : List ℕ) {c : TextCheck} where
   pub whole_fine : {sets guessed : Sets} (r : Outcome) {after : List ℕ} → left r after ≡ into_buffer (text_image o.profile (lexicon sets) o.load text) buffer
-      → sets ≡ with_options o.forms o.codes guessed → guessed ≡ word_sets o.dialect text → c ≡ Fine → text_check_answer c ≡ checked_text text → left r after ≡ into_buffer (crunched o text) buffer
+      → sets ≡ with_forms o.forms guessed → guessed ≡ word_sets o.dialect text → c ≡ Fine → text_check_answer c ≡ checked_text text → left r after ≡ into_buffer (crunched o text) buffer
   unfolding text_image
   whole_fine r q w s t e = q ∙ ap (λ (a : Answer (List ℕ)). into_buffer a buffer) (image_by o 0 text (lines_fine o 0 text w s t e))
 

@@ -1,4 +1,6 @@
 // A text, crunched to an image.
+#![tactic(auto)]
+
 ghost use Rattle.std.specs.Prelude.{◌≡◌};
 ghost use Rattle.base_lent.specs.Lent.{into_buffer, room_for, outcome_answer, left};
 ghost use Rattle.word_tables.specs.WordsHelpers.{SpellsWords};
@@ -92,7 +94,7 @@ fn measured(text: &[u8], options: Options, place: usize, bytes: &[u8], index: &[
         TextCheck::Fine => {
             let dialect = options.dialect;
             let guessed = resolve::word_sets(text, dialect, bytes, index);
-            let sets = sets::with_options(guessed, options.forms, options.codes);
+            let sets = sets::with_forms(guessed, options.forms);
             crunch_measure::measure(text, options, place, bytes, index, sets)
         }
         TextCheck::Refused(refusal) => crunch_measure::refused(refusal),
@@ -114,7 +116,7 @@ fn crunch_with(
         TextCheck::Fine => {
             let dialect = options.dialect;
             let guessed = resolve::word_sets(text, dialect, bytes, index);
-            let sets = sets::with_options(guessed, options.forms, options.codes);
+            let sets = sets::with_forms(guessed, options.forms);
             into_buffer(out, text, options, bytes, index, sets)
         }
         TextCheck::Refused(refusal) => Outcome::Refused(refusal),

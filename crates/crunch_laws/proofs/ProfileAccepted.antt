@@ -163,11 +163,11 @@ passable least (l ∷ ls) f = (record { some = f.1.some; few = f.1.few; none = f
 
 -- the same options without the profile
 abbrev plain : Options → Options
-plain o = record { load = o.load; dialect = o.dialect; profile = false; forms = o.forms; codes = o.codes }
+plain o = record { load = o.load; dialect = o.dialect; profile = false; forms = o.forms }
 
 -- and with it
 abbrev profiled : Options → Options
-profiled o = record { load = o.load; dialect = o.dialect; profile = true; forms = o.forms; codes = o.codes }
+profiled o = record { load = o.load; dialect = o.dialect; profile = true; forms = o.forms }
 
 -- lines that are read plainly and fit the machine are accepted under the profile
 pub fits_accepted : (o : Options) (text : List ℕ) {ls : List NumberedBody} → crunched_lines (plain o) text ≡ done ls → FitMachine 0 ls → crunched_lines (profiled o) text ≡ done ls

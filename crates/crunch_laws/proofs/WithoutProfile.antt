@@ -36,7 +36,7 @@ lines_plain words (line ∷ lines) k least address = read (λ m next. lines_plai
 
 -- "demand 2 is unchanged outside the profile"
 module _ (o : Options) (off : o.profile ≡ false) (text : List ℕ) where
-  pub profile_off : crunched_lines o text ≡ crunched_plain o.load o.dialect o.forms o.codes text
+  pub profile_off : crunched_lines o text ≡ crunched_plain o.load o.dialect o.forms text
   unfolding crunched_lines crunched_plain
   profile_off =
       ap (λ (b : Bool). and_then (checked_text text) (λ _. crunch_lines b (text_lexicon o text) 1 0 o.load (text_lines AfterCr text))) off
@@ -47,6 +47,6 @@ module _ (o : Options) (off : o.profile ≡ false) (text : List ℕ) where
       go (done u) = lines_plain (text_lexicon o text) (text_lines AfterCr text) 1 0 o.load
       go (refused r) = refl
 
-  pub image_profile_off : crunched o text ≡ map_done (image_of o.load) (crunched_plain o.load o.dialect o.forms o.codes text)
+  pub image_profile_off : crunched o text ≡ map_done (image_of o.load) (crunched_plain o.load o.dialect o.forms text)
   unfolding crunched
   image_profile_off = ap (map_done (image_of o.load)) profile_off

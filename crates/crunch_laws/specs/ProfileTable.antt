@@ -11,7 +11,7 @@ use Rattle.crunch_rules.specs.Crunched.{crunched_lines}
 
 infix 60 ◌profiled_at◌
 abbrev pub ◌profiled_at◌ : List ℕ → ℕ → Answer (List NumberedBody)
-text profiled_at load = crunched_lines (record { load = load; dialect = Auto; profile = true; forms = false; codes = false }) text
+text profiled_at load = crunched_lines (record { load = load; dialect = Auto; profile = true; forms = false }) text
 
 -- two text lines
 abbrev pub two_texts : String → String → List ℕ

@@ -3,7 +3,7 @@
 -- Assumes nothing.
 use Rattle.std.specs.Prelude.{ℕ, suc, Bool, List, [], ◌∷◌, ◌++◌}
 use Rattle.base_refusals.specs.Answer.{Answer, done, map_done, and_then}
-use Rattle.word_match.specs.Sets.{with_options}
+use Rattle.word_match.specs.Sets.{with_forms}
 use Rattle.word_dialects.specs.declared.Dialect.{Dialect}
 use Rattle.text_lines.specs.declared.LineRule.TheVariants.{AfterCr}
 use Rattle.text_domain.specs.Domain.{checked_text}
@@ -22,8 +22,8 @@ plain_lines words k address (line ∷ lines) =
     and_then (last_link address new) (λ next.
     map_done (λ ls. new ++ ls) (plain_lines words (suc k) next lines)))
 
--- by load address and dialect, with short forms and codes or without
-unfoldable pub crunched_plain : ℕ → Dialect → Bool → Bool → List ℕ → Answer (List NumberedBody)
+-- by load address and dialect, with short forms or without
+unfoldable pub crunched_plain : ℕ → Dialect → Bool → List ℕ → Answer (List NumberedBody)
 unfolding checked_text plain_lines text_lines word_sets
-crunched_plain load dialect forms codes text =
-    and_then (checked_text text) (λ _. plain_lines (lexicon (with_options forms codes (word_sets dialect text))) 1 load (text_lines AfterCr text))
+crunched_plain load dialect forms text =
+    and_then (checked_text text) (λ _. plain_lines (lexicon (with_forms forms (word_sets dialect text))) 1 load (text_lines AfterCr text))

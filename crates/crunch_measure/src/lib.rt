@@ -1,4 +1,6 @@
 // The measuring pass: the room that an image needs, and the refusals of a text.
+#![tactic(auto)]
+
 ghost use Rattle.std.specs.Prelude.{◌≡◌};
 ghost use Rattle.word_tables.specs.WordsHelpers.{SpellsWords};
 ghost use Rattle.body_rules.specs.Lexicon.{lexicon};
@@ -13,7 +15,7 @@ use text_lines::LineRule;
 use word_match::sets::Sets;
 
 // What measuring a text answers: the room that its image needs, and the line at a place of that image.
-#[derive(Drop)]
+#[derive(Clone, Copy)]
 pub struct Pass {
     pub room: Outcome,
     pub line: LineMeasured,

@@ -1,4 +1,6 @@
 // Where the lines of an image come from: the text lines that give them, found in one pass.
+#![tactic(auto)]
+
 ghost use Rattle.std.specs.Prelude.{◌≤◌, length};
 ghost use Rattle.base_ascii.specs.Trim.{trim as trim_of};
 ghost use Rattle.say_put.specs.Clipped.{Clipped};

@@ -1,11 +1,13 @@
 // The machine profile: the lines that the machine's own relinking and its editor take as they are.
+#![tactic(auto)]
+
 ghost use Rattle.std.specs.Prelude.{◌≡◌};
 ghost use Rattle.crunch_profile.specs.Profile.{profile_says, allowed_answer};
 
 use base_refusals::Refusal;
 
 // What the profile says of a line.
-#[derive(Drop)]
+#[derive(Clone, Copy)]
 pub enum Allowed {
     Yes,
     Refused(Refusal),

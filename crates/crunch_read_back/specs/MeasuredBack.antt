@@ -43,7 +43,7 @@ abbrev pub two_of_four : List ℕ
 two_of_four = 0x0A ∷ bytes_of "10 A" ++ 0x0A ∷ 0x0A ∷ bytes_of "20"
 
 abbrev pub at0801 : Options
-at0801 = record { load = 0x0801; dialect = Auto; profile = false; forms = false; codes = false }
+at0801 = record { load = 0x0801; dialect = Auto; profile = false; forms = false }
 
 -- its lines come from the second and the fourth text line; there is no line at place 0, nor at place 3
 abbrev pub MeasuredTable : Type 0

@@ -16,7 +16,7 @@ use Rattle.crunch_rules.specs.Crunched.{crunched_lines, crunched}
 
 infix 60 ◌crunched_at◌
 abbrev pub ◌crunched_at◌ : String → ℕ → Answer (List ℕ)
-text crunched_at load = crunched (record { load = load; dialect = Auto; profile = false; forms = false; codes = false }) (bytes_of text)
+text crunched_at load = crunched (record { load = load; dialect = Auto; profile = false; forms = false }) (bytes_of text)
 
 -- one line, 10
 abbrev pub ten : List ℕ → Answer (List NumberedBody)
@@ -24,7 +24,7 @@ ten body = done (record { number = 10; body = body } ∷ [])
 
 -- the lines of a text
 abbrev pub lines_in : String → Answer (List NumberedBody)
-lines_in text = crunched_lines (record { load = 0x0801; dialect = Auto; profile = false; forms = false; codes = false }) (bytes_of text)
+lines_in text = crunched_lines (record { load = 0x0801; dialect = Auto; profile = false; forms = false }) (bytes_of text)
 
 -- an image of one line, 10 with the body 99, and the link of these two bytes
 abbrev pub linked_by : ℕ → ℕ → List ℕ
@@ -43,7 +43,7 @@ ProvedTable =
     × ("1" crunched_at 0xFFFB ≡ refused address_overflow)
     -- "`65536`: 4, line 1", "LF LF `X`: 3, line 3"
     × ("65536" crunched_at 0x0801 ≡ refused (line_number_out_of_range 1 65536))
-    × (crunched (record { load = 0x0801; dialect = Auto; profile = false; forms = false; codes = false }) (0x0A ∷ 0x0A ∷ bytes_of "X") ≡ refused (missing_line_number 3))
+    × (crunched (record { load = 0x0801; dialect = Auto; profile = false; forms = false }) (0x0A ∷ 0x0A ∷ bytes_of "X") ≡ refused (missing_line_number 3))
     -- "body `{sh *}` in quotes: 22 C0 22", "`{space*0}` in quotes: 22, the text `{SPACE*0}`, 22"
     × (lines_in "10 \"{sh *}\"" ≡ ten (0x22 ∷ 0xC0 ∷ 0x22 ∷ []))
     × (lines_in "10 \"{space*0}\"" ≡ ten (0x22 ∷ bytes_of "{SPACE*0}" ++ 0x22 ∷ []))

@@ -1,4 +1,6 @@
 // A text, crunched and read back: the third demand, as a call.
+#![tactic(auto)]
+
 ghost use Rattle.std.specs.Prelude.{◌≡◌};
 ghost use Rattle.base_lent.specs.Lent.{into_buffer};
 ghost use Rattle.crunch_rules.specs.Crunched.{crunched};
@@ -10,7 +12,7 @@ use crunch_rules::Options;
 use image_readers::{Checked, links};
 
 // What comes of a text.
-#[derive(Drop)]
+#[derive(Clone, Copy)]
 pub enum ReadBack {
     // An image of this length, and what the reader by links says of it. From the load address 0x00FB on it finds every line; below, it
     // may find none (proofs/Demand.antt).

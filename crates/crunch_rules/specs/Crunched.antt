@@ -5,7 +5,7 @@
 use Rattle.std.specs.Prelude.{ℕ, suc, Bool, true, false, cond, List, [], ◌∷◌, ◌++◌, leb}
 use Rattle.base_refusals.specs.Answer.{Answer, done, refused, map_done, and_then}
 use Rattle.base_refusals.specs.Numbers.{missing_line_number, line_number_out_of_range, address_overflow}
-use Rattle.word_match.specs.Sets.{with_options}
+use Rattle.word_match.specs.Sets.{with_forms}
 use Rattle.text_lines.specs.declared.LineRule.TheVariants.{AfterCr}
 use Rattle.text_domain.specs.Domain.{checked_text}
 use Rattle.text_numbers.specs.Numbering.{ReadLine, blank_line, missing_number, number_too_high, numbered_text, read_line}
@@ -49,9 +49,9 @@ crunch_lines profile words k least address (line ∷ lines) =
     and_then (last_link address new) (λ next.
     map_done (λ ls. new ++ ls) (crunch_lines profile words (suc k) (least_behind least new) next lines)))
 
--- the words that are looked for in a text, whether their short forms are (document 02, No. 7), and whether codes are in every mode
+-- the words that are looked for in a text, and whether their short forms are (document 02, No. 7)
 abbrev pub text_lexicon : Options → List ℕ → Lexicon
-text_lexicon o text = lexicon (with_options o.forms o.codes (word_sets o.dialect text))
+text_lexicon o text = lexicon (with_forms o.forms (word_sets o.dialect text))
 
 -- the numbers and bodies of a text's nonblank lines
 unfoldable pub crunched_lines : Options → List ℕ → Answer (List NumberedBody)

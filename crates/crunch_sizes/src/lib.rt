@@ -1,4 +1,6 @@
 // How long a text line becomes at an address, or its refusal; and a bound of that length.
+#![tactic(auto)]
+
 ghost use Rattle.std.specs.Prelude.{◌≡◌, ◌≤◌};
 ghost use Rattle.word_tables.specs.WordsHelpers.{SpellsWords};
 ghost use Rattle.body_rules.specs.Lexicon.{lexicon};
@@ -12,7 +14,7 @@ use text_numbers::Numbering;
 use word_match::sets::Sets;
 
 // What a text line gives: nothing, a line with the address behind it, or a refusal.
-#[derive(Drop)]
+#[derive(Clone, Copy)]
 pub enum Sized {
     Blank,
     Numbered { number: u16, behind: usize },
@@ -21,7 +23,7 @@ pub enum Sized {
 
 // Where a text line is met: whether the profile is asked, the line's place from 1, the least number that it may have, and the address of its
 // own line.
-#[derive(Drop)]
+#[derive(Clone, Copy)]
 pub struct Spot {
     pub profile: bool,
     pub k: usize,

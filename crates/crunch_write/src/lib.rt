@@ -1,4 +1,6 @@
 // The writing pass: the image of a text that has one, in a buffer that has the room.
+#![tactic(auto)]
+
 ghost use Rattle.std.specs.Prelude.{◌≡◌, ◌≤◌, false};
 ghost use Rattle.base_lent.specs.Lent.{into_buffer, left};
 ghost use Rattle.base_lent.specs.Stores.{Room, Put, HasRoom};

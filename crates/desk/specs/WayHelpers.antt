@@ -5,7 +5,7 @@ use Rattle.desk.specs.declared.names.Way.{Way}
 use Rattle.desk.specs.declared.names.Way.TheVariants.{Beside, InPlace, Nowhere}
 
 -- - is for writing in place; a name that does not fit reads as the empty word, which is for nothing
-abbrev pub out_way : List ℕ → Way
-out_way [] = Nowhere
-out_way (b ∷ []) = cond (eqb b 0x2D) InPlace Beside
-out_way (b ∷ c ∷ rest) = Beside
+abbrev pub way_of : List ℕ → Way
+way_of [] = Nowhere
+way_of (b ∷ []) = cond (eqb b 0x2D) InPlace Beside
+way_of (b ∷ c ∷ rest) = Beside

@@ -2,6 +2,8 @@
 // IN and OUT, where - stands for the two, and PART, a free name beside OUT. OUT is then written under that name first, and takes its own
 // once it is whole; where PART is -, as for a device, it is written in place. Further words are the program's own. No contract can say what is
 // read or written.
+#![tactic(auto)]
+
 pub mod input;
 pub mod names;
 pub mod options;

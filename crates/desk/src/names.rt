@@ -1,7 +1,7 @@
 // The names that a program was given.
 ghost use Rattle.std.specs.Prelude.{◌≡◌};
 ghost use Rattle.io.specs.Counts.{IsPrefixLen};
-ghost use Rattle.desk.specs.WayHelpers.{out_way};
+ghost use Rattle.desk.specs.WayHelpers.{way_of};
 
 pub const IN: usize = 1;
 
@@ -10,7 +10,7 @@ pub const OUT: usize = 2;
 pub const PART: usize = 3;
 
 // How OUT is written, as the word PART says.
-#[derive(Drop)]
+#[derive(Clone, Copy)]
 pub enum Way {
     // Under that name first.
     Beside,
@@ -30,7 +30,7 @@ pub fn given() -> bool {
 
 // What the word PART says. An empty word, as a name is read that does not fit, is never one for writing in place.
 pub fn way_of(part: &[u8]) -> Way
-    ensures { result ≡ out_way part.now }
+    ensures { result ≡ way_of part.now }
 {
     if part.len() < 1 {
         return Way::Nowhere;

@@ -7,14 +7,14 @@ use text_numbers::Numbering;
 use word_dialects::{Dialect, Named};
 
 // The dialect that was asked for.
-#[derive(Drop)]
+#[derive(Clone, Copy)]
 pub enum AskedDialect {
     Known(Dialect),
     Ended,
 }
 
 // The number that was asked for.
-#[derive(Drop)]
+#[derive(Clone, Copy)]
 pub enum AskedNumber {
     Known(u16),
     Ended,

@@ -4,11 +4,11 @@ ghost use Rattle.disk_entries.specs.EntryHelpers.{Entries};
 
 use crate::{check_program, telling};
 use base_lent::Outcome;
+use base_refusals::Refusal;
 use desk_status::Status;
 use disk_check::look;
 use disk_entries::name_at;
 use disk_names::put_name;
-use master_add::MasterCheck;
 use say_put::put_text;
 
 // Checks the file of an entry, under a name.
@@ -48,34 +48,16 @@ fn check_entries(name: &[u8], disk: &[u8], files: &[usize], is_quiet: bool) -> S
     run
 }
 
-// What the check of all programs comes to.
-fn decided(check: MasterCheck) -> Status {
-    match check {
-        MasterCheck::Fit { files: _ } => Status::Done,
-        MasterCheck::Refused(_) => Status::Refused,
-        MasterCheck::Unread {
-            place: _,
-            refusal: _,
-        } => Status::Refused,
-        MasterCheck::Unfit { place: _, fault: _ } => Status::Refused,
-    }
-}
-
-// Whether a disk is fit is decided by one call; then each program is told.
 pub fn check_disk(name: &[u8], disk: &[u8], is_quiet: bool) -> Status
     requires { length disk.now ≡ 174848 }
 {
-    let verdict = decided(master_add::check(disk));
-    if is_quiet {
-        return verdict;
-    }
     let mut sectors = [0usize; 18];
     let mut files = [0usize; 144];
     let seen = look(disk, &mut sectors, &mut files);
     if !seen.sound {
-        return telling::tell_broken(name, disk, is_quiet);
+        return telling::tell_refusal(name, Refusal::BadDisk, is_quiet);
     }
     let count = seen.files;
     let run = check_entries(name, disk, &files[..count], is_quiet);
-    telling::tell_disk(name, count, desk_status::worse(verdict, run), is_quiet)
+    telling::tell_disk(name, count, run, is_quiet)
 }

@@ -1,5 +1,7 @@
 // Whether programs and disks are fit for the master. ./moldthatch gives it a letter, v where it is to say what it finds and q where it is
 // not, and then the names. All that decides is called; here bytes and words are carried. No contract can say what is read or written.
+#![tactic(auto)]
+
 mod disks;
 mod telling;
 
@@ -14,7 +16,7 @@ const DISK: usize = 174_848;
 
 // What a file came to, and whether the run is over with it: where standard output is closed or full, nothing more can be said. What cannot be read
 // leaves the others to be checked.
-#[derive(Drop)]
+#[derive(Clone, Copy)]
 struct File {
     status: Status,
     is_last: bool,

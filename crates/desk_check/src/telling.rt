@@ -69,20 +69,6 @@ pub fn tell_refusal(name: &[u8], refusal: Refusal, is_quiet: bool) -> Status {
     desk_status::written(write_refusal(name, refusal), Status::Refused)
 }
 
-fn write_broken(name: &[u8], disk: &[u8]) -> bool {
-    let mut line = [0u8; 4608];
-    let n = disk_sentences::put_refused(short(name), disk, &mut line);
-    write_line(&line[..n]) && write_unread(name)
-}
-
-// A disk that is not in order, and why.
-pub fn tell_broken(name: &[u8], disk: &[u8], is_quiet: bool) -> Status {
-    if is_quiet {
-        return Status::Refused;
-    }
-    desk_status::written(write_broken(name, disk), Status::Refused)
-}
-
 fn write_program(name: &[u8], load: usize, lines: usize, fit: bool) -> bool {
     let mut line = [0u8; 4608];
     let outcome = image_sentences::lend_program(short(name), load, lines, fit, &mut line);

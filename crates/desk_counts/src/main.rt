@@ -1,5 +1,7 @@
 // Which words authors use: counts over programs for the yearbook. ./moldthatch gives it a letter for what it is given, images (i) or totals
 // (t), one for what it writes, a table (t) or totals (s), and then the names. No contract can say what is read or written.
+#![tactic(auto)]
+
 mod table;
 mod totals;
 

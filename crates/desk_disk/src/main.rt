@@ -1,10 +1,10 @@
 // The desk's work on a disk image. ./moldthatch gives this program a command and words behind the three names of crate `desk`: the disk that
 // is read, what is written, and a free name beside that. The disk is read whole and worked on in memory.
-mod refusing;
+#![tactic(auto)]
+
 mod saving;
 
 ghost use Rattle.std.specs.Prelude.{◌≤◌, length};
-ghost use Rattle.desk.specs.ResultHelpers.{Holds};
 
 use base_lent::Outcome;
 use base_refusals::Refusal;
@@ -17,23 +17,11 @@ const COMMAND: usize = names::WORDS;
 
 const NAME: usize = names::WORDS + 1;
 
-const ID: usize = names::WORDS + 2;
-
-// Writes a result, or says why there is none.
-fn answer(outcome: Outcome, bytes: &[u8], disk: &[u8])
-    requires { Holds outcome bytes.now }
-{
-    match outcome {
-        Outcome::Done(_) => output::answer(outcome, bytes, b""),
-        Outcome::Refused(refusal) => refusing::refuse(refusal, disk),
-    }
-}
-
 // Writes the disk as a call left it, or says why that call was refused.
 fn answer_changed(changed: Changed, disk: &[u8]) {
     match changed {
         Changed::Done => output::answer(Outcome::Done(disk.len()), disk, b""),
-        Changed::Refused(refusal) => refusing::refuse(refusal, disk),
+        Changed::Refused(refusal) => output::refuse(refusal, b""),
     }
 }
 
@@ -49,41 +37,17 @@ fn format() {
 fn save(disk: &mut [u8]) {
     match disk::check(disk) {
         DiskCheck::Holds { files: _, free: _ } => saving::save_files(disk, false),
-        DiskCheck::Refused(refusal) => refusing::refuse(refusal, disk),
+        DiskCheck::Refused(refusal) => output::refuse(refusal, b""),
     }
 }
 
 // The name that a word stands for, at the start of a buffer.
-fn given_word(argument: usize, name: &mut [u8]) -> usize
-    ensures { result ≤ length name.new }
-{
-    let mut text = io::buffer();
-    let n = names::name(argument, &mut text);
-    disk_names::given(&text[..n], name)
-}
-
 fn given_name(name: &mut [u8]) -> usize
     ensures { result ≤ length name.new }
 {
-    given_word(NAME, name)
-}
-
-// Sets the name and the id of a disk; without a word for it the id stays as it is.
-fn set_title(disk: &mut [u8], name: &[u8]) -> Changed {
-    if os::arg_count() <= ID {
-        return disk_title::set_name(disk, name);
-    }
-    // One byte more than an id may have: what is cut off does not make it one.
-    let mut id = [0u8; 3];
-    let length = given_word(ID, &mut id);
-    disk_title::set_title(disk, name, &id[..length])
-}
-
-fn title(disk: &mut [u8]) {
-    let mut name = [0u8; 17];
-    let length = given_name(&mut name);
-    let changed = set_title(disk, &name[..length]);
-    answer_changed(changed, disk);
+    let mut text = io::buffer();
+    let n = names::name(NAME, &mut text);
+    disk_names::given(&text[..n], name)
 }
 
 fn scratch(disk: &mut [u8]) {
@@ -96,7 +60,7 @@ fn scratch(disk: &mut [u8]) {
 
 fn read_into(file: &mut [u8], disk: &[u8], name: &[u8]) {
     let outcome = disk::read(disk, name, file);
-    answer(outcome, file, disk);
+    output::answer(outcome, file, b"");
 }
 
 fn read_named(disk: &[u8], name: &[u8]) {
@@ -115,7 +79,7 @@ fn show(disk: &[u8]) {
     // No directory's text is longer: 144 lines of 69 bytes, and the last.
     let mut text = [0u8; 10_240];
     let outcome = disk_directory::put_directory(disk, &mut text);
-    answer(outcome, &text, disk);
+    output::answer(outcome, &text, b"");
 }
 
 // So many files: one, or several.
@@ -146,7 +110,7 @@ fn answer_check(files: usize, free: usize) {
 fn check(disk: &[u8]) {
     match disk::check(disk) {
         DiskCheck::Holds { files, free } => answer_check(files, free),
-        DiskCheck::Refused(refusal) => refusing::refuse(refusal, disk),
+        DiskCheck::Refused(refusal) => output::refuse(refusal, b""),
     }
 }
 
@@ -166,25 +130,18 @@ fn work(command: &[u8], disk: &mut [u8]) {
         save(disk);
     } else if check::same(command, b"scratch") {
         scratch(disk);
-    } else if check::same(command, b"title") {
-        title(disk);
     } else {
         look_at(command, disk);
     }
 }
 
-fn work_on_given(command: &[u8], disk: &mut [u8]) {
-    match input::read_given(disk) {
+fn read_and_work(command: &[u8]) {
+    let mut disk = [0u8; 174_848];
+    match input::read_given(&mut disk) {
         Input::All(count) => work(command, &mut disk[0..count]),
         Input::Longer => output::refuse(Refusal::BadDisk, b""),
         Input::Failed => output::fail(),
     }
-}
-
-fn read_and_work(command: &[u8]) {
-    // More than any image of a disk has, so that its length can be told.
-    let mut disk = [0u8; 1_048_576];
-    work_on_given(command, &mut disk);
 }
 
 fn main() {

@@ -1,5 +1,7 @@
 // The desk's looks at an image, or at the image that a text would have. ./moldthatch gives this program a command and words behind the three
 // names of crate `desk`: what is read, what is written, and a free name beside that. Each answer comes from a proved call.
+#![tactic(auto)]
+
 mod finding;
 mod places;
 mod references;
@@ -21,7 +23,7 @@ const TEXT: usize = names::WORDS + 1;
 const LINKS: usize = names::WORDS + 2;
 
 // What an image is looked at for.
-#[derive(Drop)]
+#[derive(Clone, Copy)]
 pub enum Look {
     Line(u16),
     Places(By),

@@ -13,9 +13,7 @@ use word_dialects::Dialect;
 
 const DIALECT: usize = names::WORDS + 3;
 
-const CODES: usize = names::WORDS + 4;
-
-const LOAD: usize = names::WORDS + 5;
+const LOAD: usize = names::WORDS + 4;
 
 fn show_rows(rows: &mut [u8], image: &[u8], by: By, lines: &[usize]) {
     let outcome = places::lend_places(image, by, lines, rows);
@@ -59,14 +57,12 @@ fn show_under(options: Options) {
 }
 
 fn show_in(dialect: Dialect) {
-    let codes = options::is_set(CODES);
     match options::load(LOAD, dialect) {
         AskedNumber::Known(load) => show_under(Options {
             load,
             dialect,
             profile: false,
             forms: false,
-            codes,
         }),
         AskedNumber::Ended => {}
     }

@@ -1,10 +1,12 @@
 // What is read, into a lent buffer: the end of the input, a read that failed and an input that is longer than the buffer are told apart. Each
 // function ends, also on an input that never does, given that each read returns. A read that a signal interrupts counts as failed.
+#![tactic(auto)]
+
 ghost use Rattle.std.specs.Prelude.{◌≤◌};
 ghost use Rattle.desk_inputs.specs.CountedHelpers.{PartWithin, InputWithin, input_count};
 
 // What filling a buffer came to.
-#[derive(Drop)]
+#[derive(Clone, Copy)]
 pub enum Part {
     Whole,
     // The input ended behind this many bytes, fewer than the buffer has.
@@ -13,7 +15,7 @@ pub enum Part {
 }
 
 // What reading a whole input came to.
-#[derive(Drop)]
+#[derive(Clone, Copy)]
 pub enum Input {
     // The input is this many bytes, which stand at the buffer's start.
     All(usize),

@@ -1,5 +1,7 @@
 // How an image is listed, and its listed lines, written one after the other, a long one in stretches. No contract can say what is written: the bytes are those that
 // `list_stretches` promises.
+#![tactic(auto)]
+
 ghost use Rattle.std.specs.Prelude.{◌≤◌, length};
 
 use desk::{names, options, result};

@@ -1,11 +1,11 @@
--- The first bytes of a name lie within it.
+-- What was stored lies within its buffer.
 -- Assumes nothing.
-use Prim.Native.Nat.{ℕ, ◌<◌}
-use mathlib.Core.Path.{◌≡◌, sym}
+use Prim.Native.Nat.{ℕ}
 use mathlib.Core.List.{List}
-use native.Mathlib.Omega.{arith}
-use lib.ListN.{length, take}
-use lib.Seq.{length-take-le}
+use Rattle.io.specs.Counts.{IsPrefixLen}
+use Rattle.io.proofs.Counting.{prefix_len_of_le}
+use Rattle.say_put.specs.Clipped.{Clipped}
+use Rattle.say_put.proofs.Clipping.{clip_within}
 
-pub part_long : (name : List ℕ) → 4096 < length name → 4096 ≡ length (take 4096 name)
-part_long name h = sym (length-take-le 4096 name (omega arith))
+pub stored_counts : {buffer text after : List ℕ} {at n : ℕ} → Clipped buffer at text n after → IsPrefixLen n after
+stored_counts {after = after} {n = n} p = prefix_len_of_le n after (clip_within p)

@@ -1,19 +1,17 @@
 // Lists programs, each to a file of its own in a folder. ./moldthatch gives the folder in the place of OUT, and a free name in it, under which each
-// listing is written before it is whole. Behind these stand the dialect's word and two flags, as for `list`, and then the names. Where the word `names`
-// stands in the place of IN, nothing is listed: it is told what the listings would be called. No contract can say what is read or written.
+// listing is written before it is whole. Behind these stand the dialect's word and two flags, as for `list`, and then the names. No
+// contract can say what is read or written.
+#![tactic(auto)]
+
 mod naming;
 
-ghost use Rattle.desk.specs.ResultHelpers.{Holds};
-
-use base_lent::Outcome;
 use base_refusals::Refusal;
 use desk::options::AskedDialect;
-use desk::{input, names, options, output, result, saying};
+use desk::{input, names, options, output, result};
 use desk_inputs::Input;
 use desk_status::Status;
 use image_readers::Checked;
 use list_options::ListOptions;
-use say_put::put_text;
 
 // The first of the files.
 const FILES: usize = names::WORDS + 3;
@@ -27,44 +25,16 @@ fn end_listing(fd: i32, name: &[u8], written: bool) -> Status {
     Status::Failed
 }
 
-fn write_named(name: &[u8], image: &[u8], options: ListOptions) -> Status {
-    let fd = result::begin(name);
+fn write_listing(file: &[u8], image: &[u8], options: ListOptions) -> Status {
+    let mut name = io::buffer();
+    let n = naming::listing_name(file, &mut name);
+    let fd = result::begin(&name[..n]);
     if fd < 0 {
         return Status::Failed;
     }
     let mut out = [0u8; 8192];
-    let written = desk_lines::write_lines(fd, name, image, options, &mut out);
-    end_listing(fd, name, written)
-}
-
-// A listing whose name is longer than a name may be. ./moldthatch has asked for the names before, and says the same.
-fn fail_name(file: &[u8]) -> Status {
-    let mut line = [0u8; 4352];
-    let from = put_text(&mut line, 0, file);
-    let end = put_text(&mut line, from, b": the name of its listing is too long");
-    saying::tell(&line[..end]);
-    Status::Failed
-}
-
-fn write_under(
-    outcome: Outcome,
-    name: &[u8],
-    file: &[u8],
-    image: &[u8],
-    options: ListOptions,
-) -> Status
-    requires { Holds outcome name.now }
-{
-    match outcome {
-        Outcome::Done(n) => write_named(&name[0..n], image, options),
-        Outcome::Refused(_) => fail_name(file),
-    }
-}
-
-fn write_listing(file: &[u8], image: &[u8], options: ListOptions) -> Status {
-    let mut name = io::buffer();
-    let outcome = naming::listing_name(file, &mut name);
-    write_under(outcome, &name, file, image, options)
+    let written = desk_lines::write_lines(fd, &name[..n], image, options, &mut out);
+    end_listing(fd, &name[..n], written)
 }
 
 fn refuse(file: &[u8], refusal: Refusal) -> Status {
@@ -107,42 +77,9 @@ fn list_all(options: ListOptions) {
     desk_status::tell(list_files(&mut image, options));
 }
 
-fn tell_name(argument: usize) -> bool {
-    let mut file = io::buffer();
-    let n = names::name(argument, &mut file);
-    naming::tell_name(&file[..n])
-}
-
-fn tell_names() -> Status {
-    let count = os::arg_count();
-    let mut i = FILES;
-    while i < count {
-        if !tell_name(i) {
-            return Status::Failed;
-        }
-        i += 1;
-    }
-    Status::Done
-}
-
-// Whether names are asked for, and no listing.
-fn is_naming() -> bool {
-    let mut word = io::buffer();
-    let n = names::name(names::IN, &mut word);
-    check::same(&word[..n], b"names")
-}
-
-fn list_asked() {
+fn main() {
     match options::dialect(desk_lines::DIALECT) {
         AskedDialect::Known(dialect) => list_all(desk_lines::asked(dialect)),
         AskedDialect::Ended => {}
-    }
-}
-
-fn main() {
-    if is_naming() {
-        desk_status::tell(tell_names());
-    } else {
-        list_asked();
     }
 }

@@ -21,5 +21,5 @@ abbrev pub worst : Status → Status → Status
 worst a b = cond (leb (number a) (number b)) b a
 
 -- a command that could not write what it was to write has failed, whatever it came to before
-abbrev pub after_writing : Bool → Status → Status
-after_writing done status = cond done status Failed
+abbrev pub written : Bool → Status → Status
+written done status = cond done status Failed

@@ -1,12 +1,14 @@
 // What a command comes to, and where that is told. A program cannot end with a status: it writes a digit to descriptor 3, last of all, and
 // ./moldthatch ends with that number. Without a digit the program was ended before it was through.
+#![tactic(auto)]
+
 ghost use Rattle.std.specs.Prelude.{◌≡◌};
-ghost use Rattle.desk_status.specs.Status.{is_done, number as status_number, worst, after_writing};
+ghost use Rattle.desk_status.specs.Status.{is_done, number as status_number, worst, written as the_written_Status};
 
 // Where the status goes.
 const STATUS_FILENO: i32 = 3;
 
-#[derive(Drop)]
+#[derive(Clone, Copy)]
 pub enum Status {
     Done,
     // Something was refused, or is not fit.
@@ -53,7 +55,7 @@ pub fn worse(first: Status, second: Status) -> Status
 
 // What a command comes to that was to write something first.
 pub fn written(done: bool, status: Status) -> Status
-    ensures { result ≡ after_writing done status }
+    ensures { result ≡ the_written_Status done status }
 {
     if done { status } else { Status::Failed }
 }

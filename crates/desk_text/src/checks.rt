@@ -20,14 +20,14 @@ use word_dialects::Dialect;
 use word_match::sets::Sets;
 
 // The number of a line, if there is one before it.
-#[derive(Drop)]
+#[derive(Clone, Copy)]
 pub enum Last {
     Number(u16),
     First,
 }
 
 // What was found up to a line, and its number.
-#[derive(Drop)]
+#[derive(Clone, Copy)]
 pub struct Lined {
     pub tally: Tally,
     pub last: Last,
@@ -150,7 +150,6 @@ fn room_fault(text: &[u8]) -> usize {
         dialect: Dialect::Auto,
         profile: false,
         forms: false,
-        codes: false,
     };
     match crunch_image::room(text, options) {
         Outcome::Done(n) => {

@@ -1,5 +1,7 @@
 // What an editor asks of texts before they are crunched. ./moldthatch gives it a letter, c to check, q to check and say nothing, d to name the
 // dialect, and then the names of files. What is found goes to standard output. No contract can say what is read or written.
+#![tactic(auto)]
+
 mod checks;
 mod sayings;
 mod sentence;

@@ -15,7 +15,7 @@ const LONGEST: usize = 46_592;
 
 // What was found so far: whether a release would refuse the text, whether a line could not be written, and whether lines are to be
 // written at all; how long the name is with which the page begins, where its lines end, and how many of each kind there were.
-#[derive(Drop)]
+#[derive(Clone, Copy)]
 pub struct Tally {
     pub faulty: bool,
     pub failed: bool,

@@ -6,7 +6,7 @@ ghost use Rattle.digest_sha256.specs.StepHelpers.{Filled, turns_from};
 use std::num::wrapping_add_u32;
 
 // Eight words: a hash value, and the working variables.
-#[derive(Drop)]
+#[derive(Clone, Copy)]
 pub struct Words {
     pub a: u32,
     pub b: u32,

@@ -25,7 +25,6 @@ use Rattle.disk_rules.specs.Calls.{is_file_name, entries_named, of_file, disk_ho
 use Rattle.disk_chains.specs.ChainHelpers.{Sectors, Traces, Lists}
 use Rattle.disk_chains.specs.declared.Traced.{Traced}
 use Rattle.disk_chains.proofs.Marking.{marked_all_long}
-use Rattle.disk_bytes.specs.BytesHelpers.{Below}
 use Rattle.disk_check.specs.SoundHelpers.{Looks}
 use Rattle.disk_check.specs.declared.Seen.{Seen}
 use Rattle.disk_check.proofs.Looking.{entry_sectors, logged_start}
@@ -59,15 +58,8 @@ module _ (k : ℕ) (d : List ℕ) (p : ℕ) {log : List ℕ} {r : Traced} {after
   pub traced_sectors : Sectors (take r.to after)
   traced_sectors = rw (logged_start t) (entry_sectors k d p)
 
-pub traced_below : (d : List ℕ) (p : ℕ) {r : Traced} {after : List ℕ} → Traces (chain_of_within 683 d p) (replicate 683 0) 0 r after → length d ≡ 174848 → Below d (take r.to after)
-traced_below d p {r} {after} t e =
-    let h : r.to ≤ 683 = t.within in
-    let s : Sectors (take r.to after) = traced_sectors 683 d p t in
-    record {
-      few = omega (arith, length-take r.to after);
-      small = λ i j. omega (arith, s.below i j);
-      within = λ i j. omega (arith, s.below i j);
-    }
+pub traced_few : {c : Chain} {r : Traced} {after : List ℕ} → Traces c (replicate 683 0) 0 r after → length (take r.to after) ≤ 683
+traced_few {c} {r} {after} t = let h : r.to ≤ 683 = t.within in omega (arith, length-take r.to after)
 
 module _ (d : List ℕ) (p : ℕ) {log : List ℕ} {r : Traced} {after : List ℕ} (t : Traces (chain_of_within 683 d p) log 0 r after) where
   abbrev bytes : List ℕ

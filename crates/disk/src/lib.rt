@@ -1,4 +1,6 @@
 // The calls over a lent disk: formatting, the check, reading, scratching and saving.
+#![tactic(auto)]
+
 ghost use Rattle.std.specs.Prelude.{◌≡◌, true, ◌+◌, ◌≤◌, length, set, replicate};
 ghost use Rattle.base_refusals.specs.Answer.{done};
 ghost use Rattle.base_lent.specs.Lent.{into_buffer, left};
@@ -34,14 +36,14 @@ const LAST: [u8; 2] = [0x00, 0xFF];
 
 // What is known of a sound disk and a name: how many sectors the directory has, how many files are listed, and the place of the first
 // with the name, or their number.
-#[derive(Drop)]
+#[derive(Clone, Copy)]
 enum Sought {
     On(usize, usize, usize),
     Refused(Refusal),
 }
 
 // Where the entry of a name stands.
-#[derive(Drop)]
+#[derive(Clone, Copy)]
 enum Located {
     At(usize),
     Refused(Refusal),

@@ -15,9 +15,8 @@ use Rattle.disk_any.specs.declared.EntrySpot.{EntrySpot}
 use Rattle.disk_any.specs.declared.EntrySpot.TheVariants.{On, Off}
 use Rattle.disk_any.specs.declared.Entry.{Entry}
 use Rattle.disk_any.specs.declared.Entry.TheVariants.{Is, None}
-use Rattle.disk_any.specs.declared.DirectoryEnd.TheVariants.{Stops, NoD64}
 use Rattle.disk_any.specs.declared.FileRead.{FileRead}
-use Rattle.disk_any.specs.declared.FileRead.TheVariants.{NoEntry}
+use Rattle.disk_any.specs.declared.FileRead.TheVariants.{NoEntry, Stopped}
 
 pub described_as : (d : List ℕ) (q : ℕ) {n m : ℕ} → n ≡ get_or d (q + 28) 0 → m ≡ get_or d (q + 29) 0
     → Is (get_or d q 0) (get_or d (q + 1) 0) (get_or d (q + 2) 0) (n + 256 * m) ≡ entry_told d (On q)
@@ -73,14 +72,14 @@ module _ (d : List ℕ) (place : ℕ) (out : List ℕ) {k : DiskKind} (f : k ≡
 -- how the directory's chain stops
 
 module _ (d : List ℕ) {k : DiskKind} (f : k ≡ disk_kind (length d)) where
-  pub stop_told : {tracks : ℕ} {s : Stop} → k ≡ D64 tracks → s ≡ (directory_on tracks d).stop → Stops s ≡ stop_by d (disk_kind (length d))
-  stop_told g e = ap Stops e ∙ ap (stop_by d) (sym g ∙ f)
+  pub stop_told : {tracks : ℕ} {s : Stop} → k ≡ D64 tracks → s ≡ (directory_on tracks d).stop → Stopped s ≡ stop_by d (disk_kind (length d))
+  stop_told g e = ap Stopped e ∙ ap (stop_by d) (sym g ∙ f)
 
-  pub stop_71 : k ≡ D71 → NoD64 ≡ stop_by d (disk_kind (length d))
+  pub stop_71 : k ≡ D71 → NoEntry ≡ stop_by d (disk_kind (length d))
   stop_71 g = ap (stop_by d) (sym g ∙ f)
 
-  pub stop_81 : k ≡ D81 → NoD64 ≡ stop_by d (disk_kind (length d))
+  pub stop_81 : k ≡ D81 → NoEntry ≡ stop_by d (disk_kind (length d))
   stop_81 g = ap (stop_by d) (sym g ∙ f)
 
-  pub stop_other : k ≡ Other → NoD64 ≡ stop_by d (disk_kind (length d))
+  pub stop_other : k ≡ Other → NoEntry ≡ stop_by d (disk_kind (length d))
   stop_other g = ap (stop_by d) (sym g ∙ f)

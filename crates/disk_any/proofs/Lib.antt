@@ -1,4 +1,5 @@
 pub mod Answers
+pub mod Bytes
 pub mod Locating
 pub mod Same
 pub mod Sizes

@@ -22,9 +22,8 @@ use Rattle.disk_ways.specs.WayHelpers.{Follows}
 use Rattle.disk_ways.specs.declared.Over.TheVariants.{Tracks}
 use Rattle.disk_ways.specs.declared.Followed.{Followed}
 use Rattle.disk_ways.proofs.Logged.{Of, way_each, entry_each, followed_start}
-use Rattle.disk_any.specs.Any.{disk_kind, directory_on, listed_on, any_listed, spot_from, any_spot, entry_told, name_of, file_on, ReadInto, read_by, read_at, any_file}
-use Rattle.disk_bytes.specs.BytesHelpers.{Below}
-use Rattle.disk_any.specs.AnyHelpers.{Holds, Placed}
+use Rattle.disk_any.specs.Any.{disk_kind, directory_on, listed_by, any_listed, spot_from, any_spot, entry_told, name_of, file_on, ReadInto, read_by, read_at, any_file}
+use Rattle.disk_any.specs.AnyHelpers.{Holds, Below, Placed}
 use Rattle.disk_any.specs.declared.DiskKind.{DiskKind}
 use Rattle.disk_any.specs.declared.DiskKind.TheVariants.{D64, D71, D81, Other}
 use Rattle.disk_any.specs.declared.EntrySpot.{EntrySpot}
@@ -139,8 +138,8 @@ module _ {d : List ℕ} {tracks : ℕ} (h : Holds d tracks) where
       let a : 18 ≤ tracks + 1 = omega (arith, h.low) in let b : 25 ≤ tracks + 1 = omega (arith, h.low) in let c : 31 ≤ tracks + 1 = omega (arith, h.low) in
       simp (le-ltb (tracks + 1) 18 a, le-ltb (tracks + 1) 25 b, le-ltb (tracks + 1) 31 c) (omega arith)
 
-  below_all_lem : (w : Way) → Each (Of (Tracks tracks)) w.sectors → length w.sectors ≤ 768 → Below d w.sectors
-  below_all_lem w e f =
+  below_all : (w : Way) → Each (Of (Tracks tracks)) w.sectors → length w.sectors ≤ 768 → Below d w.sectors
+  below_all w e f =
       record {
         few = f;
         small = λ i g. omega (arith, each_at (Of (Tracks tracks)) 0 w.sectors e i g, h.few);
@@ -149,8 +148,8 @@ module _ {d : List ℕ} {tracks : ℕ} (h : Holds d tracks) where
 
   module _ {r : Followed} {after : List ℕ} {marks marks' : List Bool} where
     module _ (f : Follows (way (Tracks tracks) 768 d (λ m. get_or (replicate 768 false) m false) 358) (replicate 768 0) marks r after marks') where
-      pub directory_found : take r.to after ≡ (directory_on tracks d).sectors
-      directory_found = subst (λ (met : ℕ → Bool). take r.to after ≡ (way (Tracks tracks) 768 d met 358).sectors) blank (followed_start f)
+      found : take r.to after ≡ (directory_on tracks d).sectors
+      found = subst (λ (met : ℕ → Bool). take r.to after ≡ (way (Tracks tracks) 768 d met 358).sectors) blank (followed_start f)
 
       pub directory_stops : r.stop ≡ (directory_on tracks d).stop
       directory_stops = subst (λ (met : ℕ → Bool). r.stop ≡ (way (Tracks tracks) 768 d met 358).stop) blank f.stop
@@ -158,11 +157,11 @@ module _ {d : List ℕ} {tracks : ℕ} (h : Holds d tracks) where
       pub directory_below : Below d (take r.to after)
       directory_below =
           rw (followed_start f)
-          (below_all_lem (way (Tracks tracks) 768 d (λ m. get_or (replicate 768 false) m false) 358)
+          (below_all (way (Tracks tracks) 768 d (λ m. get_or (replicate 768 false) m false) 358)
           (way_each (Tracks tracks) holds_low 768 d (λ m. get_or (replicate 768 false) m false) 358 holds_first) (omega (arith, f.to, f.within)))
 
       pub directory_placed : (place : ℕ) {s : EntrySpot} → Placed d (entries_that true d (take r.to after)) place s → Placed d (entries_that true d (directory_on tracks d).sectors) place s
-      directory_placed place {s} p = subst (λ (l : List ℕ). Placed d (entries_that true d l) place s) directory_found p
+      directory_placed place {s} p = subst (λ (l : List ℕ). Placed d (entries_that true d l) place s) found p
 
     module _ (p : ℕ) (f : Follows (way_of (Tracks tracks) 768 d (λ m. get_or (replicate 768 false) m false) p) (replicate 768 0) marks r after marks') where
       followed : Follows (file_on tracks d p) (replicate 768 0) marks r after marks'
@@ -171,7 +170,7 @@ module _ {d : List ℕ} {tracks : ℕ} (h : Holds d tracks) where
       pub file_below : Below d (take r.to after)
       file_below =
           rw (followed_start f)
-          (below_all_lem (way_of (Tracks tracks) 768 d (λ m. get_or (replicate 768 false) m false) p) (entry_each (Tracks tracks) holds_low 768 d (λ m. get_or (replicate 768 false) m false) p)
+          (below_all (way_of (Tracks tracks) 768 d (λ m. get_or (replicate 768 false) m false) p) (entry_each (Tracks tracks) holds_low 768 d (λ m. get_or (replicate 768 false) m false) p)
           (omega (arith, f.to, f.within)))
 
       bytes : chain_bytes d (take r.to after) ≡ chain_bytes d (file_on tracks d p).sectors
@@ -208,7 +207,7 @@ module _ {d : List ℕ} {tracks : ℕ} (h : Holds d tracks) where
 module _ (d : List ℕ) {k : DiskKind} (e : k ≡ disk_kind (length d)) (place : ℕ) where
   pub located : {tracks : ℕ} {s : EntrySpot} → k ≡ D64 tracks → Placed d (entries_that true d (directory_on tracks d).sectors) place s → Placed d (any_listed d) place s
   unfolding any_listed
-  located {tracks} {s} f p = subst (λ (x : DiskKind). Placed d (listed_on d x) place s) (sym f ∙ e) p
+  located {tracks} {s} f p = subst (λ (x : DiskKind). Placed d (listed_by d x) place s) (sym f ∙ e) p
 
   nowhere : Placed d [] place Off
   unfolding spot_from
@@ -216,12 +215,12 @@ module _ (d : List ℕ) {k : DiskKind} (e : k ≡ disk_kind (length d)) (place :
 
   pub located_71 : k ≡ D71 → Placed d (any_listed d) place Off
   unfolding any_listed
-  located_71 f = subst (λ (x : DiskKind). Placed d (listed_on d x) place Off) (sym f ∙ e) nowhere
+  located_71 f = subst (λ (x : DiskKind). Placed d (listed_by d x) place Off) (sym f ∙ e) nowhere
 
   pub located_81 : k ≡ D81 → Placed d (any_listed d) place Off
   unfolding any_listed
-  located_81 f = subst (λ (x : DiskKind). Placed d (listed_on d x) place Off) (sym f ∙ e) nowhere
+  located_81 f = subst (λ (x : DiskKind). Placed d (listed_by d x) place Off) (sym f ∙ e) nowhere
 
   pub located_other : k ≡ Other → Placed d (any_listed d) place Off
   unfolding any_listed
-  located_other f = subst (λ (x : DiskKind). Placed d (listed_on d x) place Off) (sym f ∙ e) nowhere
+  located_other f = subst (λ (x : DiskKind). Placed d (listed_by d x) place Off) (sym f ∙ e) nowhere

@@ -23,7 +23,7 @@ use Rattle.disk_ways.proofs.Chained.{Walked, chain_walked, entry_walked}
 use Rattle.disk_laws.proofs.Kept.{in_those}
 use Rattle.disk_laws.proofs.Chained.{AllEnd}
 use Rattle.disk_laws.proofs.Parts.{Parts, parts}
-use Rattle.disk_any.specs.Any.{disk_kind, directory_on, listed_on, any_listed, spot_from, any_spot, file_on, ReadInto, lent_bytes, read_by, read_at, any_file}
+use Rattle.disk_any.specs.Any.{disk_kind, directory_on, listed_by, any_listed, spot_from, any_spot, file_on, ReadInto, lent_bytes, read_by, read_at, any_file}
 use Rattle.disk_any.specs.declared.DiskKind.{DiskKind}
 use Rattle.disk_any.specs.declared.DiskKind.TheVariants.{D64}
 use Rattle.disk_any.specs.declared.EntrySpot.{EntrySpot}
@@ -66,7 +66,7 @@ module _ (d : List ℕ) (e : sound d ≡ true) where
   -- the same entries, in the same order
   pub same_directory : any_listed d ≡ listed d
   unfolding any_listed
-  same_directory = ap (listed_on d) kind_35 ∙ ap (entries_that true d) directory_same.sectors
+  same_directory = ap (listed_by d) kind_35 ∙ ap (entries_that true d) directory_same.sectors
 
   -- the same bytes
   pub same_bytes : (p : ℕ) → is_in (listed d) p ≡ true → (out : List ℕ) → read_by d (file_on 35 d p) out ≡ lent_bytes (chain_bytes d (chain_of d p).sectors) out

@@ -12,8 +12,6 @@ use Rattle.disk_any.specs.declared.EntrySpot.{EntrySpot}
 use Rattle.disk_any.specs.declared.EntrySpot.TheVariants.{On, Off}
 use Rattle.disk_any.specs.declared.Entry.{Entry}
 use Rattle.disk_any.specs.declared.Entry.TheVariants.{Is, None}
-use Rattle.disk_any.specs.declared.DirectoryEnd.{DirectoryEnd}
-use Rattle.disk_any.specs.declared.DirectoryEnd.TheVariants.{Stops, NoD64}
 use Rattle.disk_any.specs.declared.FileRead.{FileRead}
 use Rattle.disk_any.specs.declared.FileRead.TheVariants.{Done, NoEntry, Stopped, NoRoom}
 
@@ -36,21 +34,21 @@ abbrev pub directory_on : ℕ → List ℕ → Way
 directory_on tracks disk = way (Tracks tracks) 768 disk none_met 358
 
 -- how it stops
-abbrev pub stop_by : List ℕ → DiskKind → DirectoryEnd
-stop_by disk (D64 tracks) = Stops (directory_on tracks disk).stop
-stop_by disk D71 = NoD64
-stop_by disk D81 = NoD64
-stop_by disk Other = NoD64
+abbrev pub stop_by : List ℕ → DiskKind → FileRead
+stop_by disk (D64 tracks) = Stopped (directory_on tracks disk).stop
+stop_by disk D71 = NoEntry
+stop_by disk D81 = NoEntry
+stop_by disk Other = NoEntry
 
 -- "every entry of the directory whose type is not 00, in the chain's order"
-abbrev pub listed_on : List ℕ → DiskKind → List ℕ
-listed_on disk (D64 tracks) = entries_that true disk (directory_on tracks disk).sectors
-listed_on disk D71 = []
-listed_on disk D81 = []
-listed_on disk Other = []
+abbrev pub listed_by : List ℕ → DiskKind → List ℕ
+listed_by disk (D64 tracks) = entries_that true disk (directory_on tracks disk).sectors
+listed_by disk D71 = []
+listed_by disk D81 = []
+listed_by disk Other = []
 
 unfoldable pub any_listed : List ℕ → List ℕ
-any_listed disk = listed_on disk (disk_kind (length disk))
+any_listed disk = listed_by disk (disk_kind (length disk))
 
 -- where the entry at a place stands, the places counted from 0
 unfoldable pub spot_from : List ℕ → ℕ → EntrySpot
@@ -61,13 +59,9 @@ spot_from (p ∷ ps) (suc n) = spot_from ps n
 unfoldable pub any_spot : List ℕ → ℕ → EntrySpot
 any_spot disk n = spot_from (any_listed disk) n
 
--- how many sectors an entry says to have
-abbrev pub sectors_said : List ℕ → ℕ → ℕ
-sectors_said disk p = get_or disk (p + 28) 0 + 256 * get_or disk (p + 29) 0
-
 -- its type, the track and the sector that its file begins with, and how many sectors it says to have
 abbrev pub entry_told : List ℕ → EntrySpot → Entry
-entry_told disk (On p) = Is (get_or disk p 0) (get_or disk (p + 1) 0) (get_or disk (p + 2) 0) (sectors_said disk p)
+entry_told disk (On p) = Is (get_or disk p 0) (get_or disk (p + 1) 0) (get_or disk (p + 2) 0) (get_or disk (p + 28) 0 + 256 * get_or disk (p + 29) 0)
 entry_told disk Off = None
 
 -- its name; none where there is no entry

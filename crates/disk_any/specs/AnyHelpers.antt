@@ -1,6 +1,6 @@
 -- What the contracts of the helpers in this crate say of lists in the caller's hands.
 -- Assumes nothing.
-use Rattle.std.specs.Prelude.{ℕ, ◌+◌, ◌*◌, ◌≤◌, ◌≡◌, List, length}
+use Rattle.std.specs.Prelude.{ℕ, ◌+◌, ◌*◌, ◌≤◌, ◌<◌, ◌≡◌, true, List, length, get_or}
 use Rattle.disk_rules.specs.Places.{sectors_before}
 use Rattle.disk_any.specs.Any.{spot_from}
 use Rattle.disk_any.specs.declared.EntrySpot.{EntrySpot}
@@ -12,6 +12,12 @@ pub record Holds (disk : List ℕ) (tracks : ℕ) : Type 0 where
   pub high : tracks ≤ 40
   pub size : 256 * sectors_before (tracks + 1) ≤ length disk
   pub few : sectors_before (tracks + 1) ≤ 768
+
+-- each number of a list is a sector of the image
+pub record Below (disk l : List ℕ) : Type 0 where
+  pub few : length l ≤ 768
+  pub small : (i : ℕ) → i < length l → get_or l i 0 < 768
+  pub within : (i : ℕ) → i < length l → 256 * get_or l i 0 + 256 ≤ length disk
 
 -- the entry at a place of a list, and that it stands in the image
 pub record Placed (disk l : List ℕ) (place : ℕ) (r : EntrySpot) : Type 0 where

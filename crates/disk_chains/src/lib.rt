@@ -1,4 +1,6 @@
 // Chains of sectors, met once each, and the map beside them.
+#![tactic(auto)]
+
 ghost use Rattle.std.specs.Prelude.{◌≡◌, false, ◌&&◌, [], ◌-◌, ◌≤◌, ◌<◌, length, get_or};
 ghost use Rattle.disk_rules.specs.Lists.{is_in, none_twice};
 ghost use Rattle.disk_rules.specs.Chains.{may_hold, may_end};
@@ -10,7 +12,7 @@ use disk_rules::Link;
 use disk_sectors::{bit_at, is_free, link_at, mark, sectors_before, sectors_on};
 
 // A chain that was followed: the place behind its last sector in the log, and whether it ends as it should.
-#[derive(Drop)]
+#[derive(Clone, Copy)]
 pub struct Traced {
     pub to: usize,
     pub ends: bool,

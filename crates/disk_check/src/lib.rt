@@ -1,4 +1,6 @@
 // Whether a disk is sound, with its directory's sectors and its listed entries.
+#![tactic(auto)]
+
 ghost use Rattle.std.specs.Prelude.{◌≡◌, length};
 ghost use Rattle.disk_rules.specs.CountedHelpers.{directory_within, listed_within, sound_within};
 ghost use Rattle.disk_check.specs.SoundHelpers.{Looks};
@@ -7,7 +9,7 @@ use disk_chains::{accounted, none_twice, trace};
 use disk_entries::{entries_good, entries_that, trace_all};
 
 // What a disk was seen to be: how many sectors its directory has, how many files are listed, and whether it is sound.
-#[derive(Drop)]
+#[derive(Clone, Copy)]
 pub struct Seen {
     pub sectors: usize,
     pub files: usize,

@@ -1,4 +1,6 @@
 // A disk's directory as a text: a line for each file, and one for the sectors that are free.
+#![tactic(auto)]
+
 ghost use Rattle.std.specs.Prelude.{◌≡◌, true, ◌+◌, ◌≤◌, length};
 ghost use Rattle.say_put.specs.Clipped.{Clipped};
 ghost use Rattle.disk_rules.specs.Lists.{is_in};

@@ -1,4 +1,6 @@
 // The directory's entries: where they stand, their names, and the chains of files.
+#![tactic(auto)]
+
 ghost use Rattle.std.specs.Prelude.{◌≡◌, ◌+◌, ◌*◌, ◌-◌, ◌≤◌, ◌<◌, length};
 ghost use Rattle.disk_rules.specs.Entries.{entry_at, is_that, entries_that, name_at, is_named, entries_good};
 ghost use Rattle.disk_rules.specs.CountedHelpers.{chain_of_within, chains_within};

@@ -76,7 +76,7 @@ payload_same d d' l n b h =
     ∙ part_same d d' l (256 * n + 2) (held (get_or d (256 * n) 0) (get_or d (256 * n + 1) 0))
     (λ i g. h (256 * n + 2 + i) (record { from = omega arith; to = omega (arith, held_few (get_or d (256 * n) 0) (get_or d (256 * n + 1) 0) b) }))
 
-pub bytes_same : (d d' : List ℕ) → length d' ≡ length d → ((j : ℕ) → get_or d j 0 < 256) → (ns : List ℕ)
+bytes_same : (d d' : List ℕ) → length d' ≡ length d → ((j : ℕ) → get_or d j 0 < 256) → (ns : List ℕ)
     → ((n j : ℕ) → is_in ns n ≡ true → Within n j → get_or d' j 0 ≡ get_or d j 0) → chain_bytes d' ns ≡ chain_bytes d ns
 unfolding chain_bytes some
 bytes_same d d' l b [] h = refl

@@ -152,8 +152,3 @@ zeros (suc n) (suc j) = zeros n j
 pub fresh_sound : sound fresh ≡ true
 unfolding fresh
 fresh_sound = made_sound (replicate 174848 0) (length-replicate {A = ℕ} 174848 0) (zeros 174848)
-
--- and no file is listed there
-pub fresh_empty : listed fresh ≡ []
-unfolding fresh
-fresh_empty = none_listed (replicate 174848 0) (length-replicate {A = ℕ} 174848 0) (zeros 174848)

@@ -16,6 +16,5 @@ pub mod ReadBack
 pub mod Room
 pub mod Saved
 pub mod Scratched
-pub mod Titled
 pub mod Totals
 pub mod Without

@@ -230,12 +230,14 @@ behind_calls d name image [] x e = x
 behind_calls d name image (c ∷ cs) x e =
     behind_calls (after_call d c) name image cs (behind_call d name image x c (and_left (spares name c) (all_spare name cs) e)) (and_right (spares name c) (all_spare name cs) e)
 
--- a file that was saved is in its place
-pub saved_in_place : (d name image made : List ℕ) → saved d name image ≡ done made → InPlace made name image
+-- "a saved file reads back exactly its bytes, after any further calls that neither scratch it nor format"
+pub reads_back_later : (d name image made : List ℕ) → saved d name image ≡ done made → (cs : List Call) → all_spare name cs ≡ true → file_bytes (after_calls made cs) name ≡ done image
 unfolding a
-saved_in_place d name image made e =
+reads_back_later d name image made e cs s =
     let w : AddedAt d name image made = save_adds d name image made e in
-    record {
+    in_place_reads (after_calls made cs) name image
+    (behind_calls made name image cs
+    (record {
       at = w.at;
       sectors = taken d image;
       is_sound = saved_sound d name image made e;
@@ -244,9 +246,4 @@ saved_in_place d name image made e =
       chain = chain_new d name image made w.at e w.is;
       long = taken_long d name image made e;
       lies = all_lie d name image made e;
-    }
-
--- "a saved file reads back exactly its bytes, after any further calls that neither scratch it nor format"
-pub reads_back_later : (d name image made : List ℕ) → saved d name image ≡ done made → (cs : List Call) → all_spare name cs ≡ true → file_bytes (after_calls made cs) name ≡ done image
-reads_back_later d name image made e cs s =
-    in_place_reads (after_calls made cs) name image (behind_calls made name image cs (saved_in_place d name image made e) s)
+    }) s)

@@ -1,4 +1,6 @@
 // Names of files on a disk as they are given on a command line, and as they are shown there.
+#![tactic(auto)]
+
 ghost use Rattle.std.specs.Prelude.{◌≡◌, ◌≤◌, length};
 ghost use Rattle.say_put.specs.Clipped.{Clipped};
 ghost use Rattle.disk_names.specs.Names.{digit_value, byte_form, character_byte, name_given, is_shown, byte_shown, name_shown};
@@ -10,7 +12,7 @@ use list_bytes::hex_digit;
 use say_put::put_text;
 
 // What a text begins with: two hex digits between braces, or something else.
-#[derive(Drop)]
+#[derive(Clone, Copy)]
 pub enum Form {
     Byte(u8),
     Nothing,

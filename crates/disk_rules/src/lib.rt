@@ -1,8 +1,10 @@
 // Definitions only: a disk of the 1541 as a D64, and what the five calls over one do. The code stands in the other crates of this layer.
+#![tactic(auto)]
+
 use base_refusals::Refusal;
 
 // What two bytes link to: nothing further, with a second byte; a sector; or a sector that does not exist.
-#[derive(Drop)]
+#[derive(Clone, Copy)]
 pub enum Link {
     Last(u8),
     To(usize),
@@ -10,14 +12,14 @@ pub enum Link {
 }
 
 // What a call answers that only changes the disk.
-#[derive(Drop)]
+#[derive(Clone, Copy)]
 pub enum Changed {
     Done,
     Refused(Refusal),
 }
 
 // What a sound disk holds: how many listed files, and how many free sectors off track 18.
-#[derive(Drop)]
+#[derive(Clone, Copy)]
 pub enum DiskCheck {
     Holds { files: usize, free: usize },
     Refused(Refusal),

@@ -1,4 +1,6 @@
 // Saving a file whose name is free: the sectors that it takes, where its entry goes, and what is written there.
+#![tactic(auto)]
+
 ghost use Rattle.std.specs.Prelude.{◌≡◌, ◌≤◌, length, get_or};
 ghost use Rattle.disk_rules.specs.Lists.{is_in};
 ghost use Rattle.disk_rules.specs.Entries.{directory};
@@ -15,7 +17,7 @@ use disk_rules::Changed;
 mod file;
 
 // How many sectors an image takes.
-pub fn sectors_for(image: &[u8]) -> usize
+fn sectors_for(image: &[u8]) -> usize
     ensures { result ≡ sectors_for image.now }
 {
     let full = (image.len() + 253) / 254;

@@ -1,4 +1,6 @@
 // The sectors of a disk, their links, and the map of free ones.
+#![tactic(auto)]
+
 ghost use Rattle.std.specs.Prelude.{◌≡◌, cond, ◌+◌, ◌/◌, ◌%◌, ◌^◌, ◌<◌, ◌≤◌, length};
 ghost use Rattle.disk_rules.specs.Places.{sectors_on, sectors_before, track_of, sector_of as sector_in};
 ghost use Rattle.disk_rules.specs.Links.{link_to as link_of, link_at as link_in};

@@ -21,10 +21,9 @@ use Rattle.disk_rules.specs.Entries.{name_at}
 use Rattle.disk_names.specs.Names.{name_shown}
 use Rattle.disk_ways.specs.declared.Stop.{Stop}
 use Rattle.disk_ways.specs.declared.Stop.TheVariants.{Ended, Astray, Barred, Again}
-use Rattle.disk_why.specs.Why.{why}
 use Rattle.disk_why.specs.declared.Broken.{Broken}
 use Rattle.disk_why.specs.declared.Broken.TheVariants.{Nothing, Length, Start, Directory, NotClosed, SameName, File, Free, Used, Beyond}
-use Rattle.disk_sentences.specs.Sentences.{name_told, track_and_sector, about_text, sector_text, entry_text, stop_text, type_text, open_at_text, open_text, twin_text, twins_text, broken_text, refused_disk}
+use Rattle.disk_sentences.specs.Sentences.{name_told, place_text, about_text, sector_text, entry_text, stop_text, type_text, open_at_text, open_text, twin_text, twins_text, broken_text}
 
 -- ---- a name
 
@@ -54,18 +53,18 @@ module _ {b : List ℕ} {at : ℕ} where
   three x y z p q r = clip_both x (y ++ z) p (clip_both y z q r)
 
   pub place_put : (t s : ℕ) {m1 m2 m3 : ℕ} {o1 o2 o3 : List ℕ} → Clipped b at (decimal t) m1 o1 → Clipped o1 m1 (0x2F ∷ []) m2 o2 → Clipped o2 m2 (decimal s) m3 o3
-      → Clipped b at (track_and_sector t s) m3 o3
+      → Clipped b at (place_text t s) m3 o3
   place_put t s p q r = three (decimal t) (0x2F ∷ []) (decimal s) p q r
 
-  pub about_put : (t s : ℕ) {before after : List ℕ} {m1 m2 m3 : ℕ} {o1 o2 o3 : List ℕ} → Clipped b at before m1 o1 → Clipped o1 m1 (track_and_sector t s) m2 o2 → Clipped o2 m2 after m3 o3
+  pub about_put : (t s : ℕ) {before after : List ℕ} {m1 m2 m3 : ℕ} {o1 o2 o3 : List ℕ} → Clipped b at before m1 o1 → Clipped o1 m1 (place_text t s) m2 o2 → Clipped o2 m2 after m3 o3
       → Clipped b at (about_text before t s after) m3 o3
-  about_put t s {before} {after} p q r = three before (track_and_sector t s) after p q r
+  about_put t s {before} {after} p q r = three before (place_text t s) after p q r
 
-  pub entry_put : (p : ℕ) {t s : ℕ} {m1 m2 m3 : ℕ} {o1 o2 o3 : List ℕ} → t ≡ track_of (p / 256) → s ≡ sector_of (p / 256) → Clipped b at (track_and_sector t s) m1 o1
+  pub entry_put : (p : ℕ) {t s : ℕ} {m1 m2 m3 : ℕ} {o1 o2 o3 : List ℕ} → t ≡ track_of (p / 256) → s ≡ sector_of (p / 256) → Clipped b at (place_text t s) m1 o1
       → Clipped o1 m1 (bytes_of ", ") m2 o2 → Clipped o2 m2 (decimal (1 + p % 256 / 32)) m3 o3 → Clipped b at (entry_text p) m3 o3
   entry_put p {t} {s} e f x y z =
-      let w : Clipped b at (track_and_sector (track_of (p / 256)) (sector_of (p / 256))) _ _ = clip_as (ap (λ (k : ℕ). track_and_sector k s) e ∙ ap (track_and_sector (track_of (p / 256))) f) x in
-      three (track_and_sector (track_of (p / 256)) (sector_of (p / 256))) (bytes_of ", ") (decimal (1 + p % 256 / 32)) w y z
+      let w : Clipped b at (place_text (track_of (p / 256)) (sector_of (p / 256))) _ _ = clip_as (ap (λ (k : ℕ). place_text k s) e ∙ ap (place_text (track_of (p / 256))) f) x in
+      three (place_text (track_of (p / 256)) (sector_of (p / 256))) (bytes_of ", ") (decimal (1 + p % 256 / 32)) w y z
 
   -- ---- how a chain stops
 
@@ -78,9 +77,9 @@ module _ {b : List ℕ} {at : ℕ} where
         (clip_as (by_number_lem n (bytes_of " ends at ") (bytes_of " with a second byte of ") f g) x) (clip_as (ap decimal h) y))
 
     pub astray_put : {u v t s : ℕ} {m1 m2 : ℕ} {o1 o2 : List ℕ} → stop ≡ Astray u v → Clipped b at (bytes_of " leaves the disk at ") m1 o1 → t ≡ u → s ≡ v
-        → Clipped o1 m1 (track_and_sector t s) m2 o2 → Clipped b at (stop_text stop) m2 o2
+        → Clipped o1 m1 (place_text t s) m2 o2 → Clipped b at (stop_text stop) m2 o2
     astray_put {u} {v} {t} {s} e x f g y =
-        rw e (clip_both (bytes_of " leaves the disk at ") (track_and_sector u v) x (clip_as (ap (λ (k : ℕ). track_and_sector k s) f ∙ ap (track_and_sector u) g) y))
+        rw e (clip_both (bytes_of " leaves the disk at ") (place_text u v) x (clip_as (ap (λ (k : ℕ). place_text k s) f ∙ ap (place_text u) g) y))
 
     pub barred_put : {n t s : ℕ} {m1 : ℕ} {o1 : List ℕ} → stop ≡ Barred n → t ≡ track_of n → s ≡ sector_of n
         → Clipped b at (about_text (bytes_of " goes to ") t s (bytes_of ", where it may not be")) m1 o1 → Clipped b at (stop_text stop) m1 o1
@@ -100,69 +99,61 @@ module _ {b : List ℕ} {at : ℕ} where
 
 -- ---- sentences
 
-module _ (d : List ℕ) (p : ℕ) {b : List ℕ} {at : ℕ} where
-  pub open_at_put : {m1 m2 m3 : ℕ} {o1 o2 o3 : List ℕ} → Clipped b at (bytes_of " at ") m1 o1 → Clipped o1 m1 (entry_text p) m2 o2 → Clipped o2 m2 (type_text d p) m3 o3
+module _ (d : List ℕ) (p : ℕ) {b : List ℕ} where
+  pub open_at_put : {at : ℕ} {m1 m2 m3 : ℕ} {o1 o2 o3 : List ℕ} → Clipped b at (bytes_of " at ") m1 o1 → Clipped o1 m1 (entry_text p) m2 o2 → Clipped o2 m2 (type_text d p) m3 o3
       → Clipped b at (open_at_text d p) m3 o3
   open_at_put x1 x2 x3 = three (bytes_of " at ") (entry_text p) (type_text d p) x1 x2 x3
 
-  pub open_put : {n : List ℕ} {m1 m2 m3 : ℕ} {o1 o2 o3 : List ℕ} → Clipped b at (bytes_of "the entry ") m1 o1 → n ≡ name_told d p → Clipped o1 m1 (name_shown n) m2 o2
-      → Clipped o2 m2 (open_at_text d p) m3 o3 → Clipped b at (open_text d p) m3 o3
+  pub open_put : {n : List ℕ} {m1 m2 m3 : ℕ} {o1 o2 o3 : List ℕ} → Clipped b 0 (bytes_of "the entry ") m1 o1 → n ≡ name_told d p → Clipped o1 m1 (name_shown n) m2 o2
+      → Clipped o2 m2 (open_at_text d p) m3 o3 → Clipped b 0 (open_text d p) m3 o3
   open_put x1 e x2 x3 = three (bytes_of "the entry ") (name_shown (name_told d p)) (open_at_text d p) x1 (clip_as (ap name_shown e) x2) x3
 
-  pub twin_put : {n : List ℕ} {m1 m2 m3 m4 : ℕ} {o1 o2 o3 o4 : List ℕ} → Clipped b at (bytes_of " and ") m1 o1 → Clipped o1 m1 (entry_text p) m2 o2
+  pub twin_put : {at : ℕ} {n : List ℕ} {m1 m2 m3 m4 : ℕ} {o1 o2 o3 o4 : List ℕ} → Clipped b at (bytes_of " and ") m1 o1 → Clipped o1 m1 (entry_text p) m2 o2
       → Clipped o2 m2 (bytes_of " have one name, ") m3 o3 → n ≡ name_told d p → Clipped o3 m3 (name_shown n) m4 o4 → Clipped b at (twin_text d p) m4 o4
   twin_put x1 x2 x3 e x4 =
       three (bytes_of " and ") (entry_text p) (bytes_of " have one name, " ++ name_shown (name_told d p)) x1 x2
       (clip_both (bytes_of " have one name, ") (name_shown (name_told d p)) x3 (clip_as (ap name_shown e) x4))
 
-  pub twins_put : (q : ℕ) {m1 m2 m3 : ℕ} {o1 o2 o3 : List ℕ} → Clipped b at (bytes_of "the entries at ") m1 o1 → Clipped o1 m1 (entry_text p) m2 o2
-      → Clipped o2 m2 (twin_text d q) m3 o3 → Clipped b at (twins_text d p q) m3 o3
+  pub twins_put : (q : ℕ) {m1 m2 m3 : ℕ} {o1 o2 o3 : List ℕ} → Clipped b 0 (bytes_of "the entries at ") m1 o1 → Clipped o1 m1 (entry_text p) m2 o2
+      → Clipped o2 m2 (twin_text d q) m3 o3 → Clipped b 0 (twins_text d p q) m3 o3
   twins_put q x1 x2 x3 = three (bytes_of "the entries at ") (entry_text p) (twin_text d q) x1 x2 x3
 
-module _ (d : List ℕ) {b : List ℕ} {at : ℕ} {w : Broken} where
-  pub nothing_said : w ≡ Nothing → at ≤ length b → Clipped b at (broken_text d w) at b
-  nothing_said e h = rw e (clip_none h)
+module _ (d : List ℕ) {b : List ℕ} {w : Broken} where
+  pub nothing_said : w ≡ Nothing → Clipped b 0 (broken_text d w) 0 b
+  nothing_said e = rw e (clip_none (omega arith))
 
-  pub length_said : {n : ℕ} {m1 m2 m3 : ℕ} {o1 o2 o3 : List ℕ} → w ≡ Length n → Clipped b at (bytes_of "the disk has ") m1 o1 → Clipped o1 m1 (decimal n) m2 o2
-      → Clipped o2 m2 (bytes_of " bytes, not 174848") m3 o3 → Clipped b at (broken_text d w) m3 o3
+  pub length_said : {n : ℕ} {m1 m2 m3 : ℕ} {o1 o2 o3 : List ℕ} → w ≡ Length n → Clipped b 0 (bytes_of "the disk has ") m1 o1 → Clipped o1 m1 (decimal n) m2 o2
+      → Clipped o2 m2 (bytes_of " bytes, not 174848") m3 o3 → Clipped b 0 (broken_text d w) m3 o3
   length_said {n} e x y z = rw e (three (bytes_of "the disk has ") (decimal n) (bytes_of " bytes, not 174848") x y z)
 
-  pub start_said : {u v t s : ℕ} {m : ℕ} {o : List ℕ} → w ≡ Start u v → t ≡ u → s ≡ v → Clipped b at (about_text (bytes_of "18/0 links to ") t s (bytes_of ", not to 18/1")) m o
-      → Clipped b at (broken_text d w) m o
+  pub start_said : {u v t s : ℕ} {m : ℕ} {o : List ℕ} → w ≡ Start u v → t ≡ u → s ≡ v → Clipped b 0 (about_text (bytes_of "18/0 links to ") t s (bytes_of ", not to 18/1")) m o
+      → Clipped b 0 (broken_text d w) m o
   start_said {u} {v} {t} {s} e f g x =
       rw e (clip_as (ap (λ (k : ℕ). about_text (bytes_of "18/0 links to ") k s (bytes_of ", not to 18/1")) f ∙ ap (λ (k : ℕ). about_text (bytes_of "18/0 links to ") u k (bytes_of ", not to 18/1")) g) x)
 
-  pub directory_said : {stop : Stop} {m1 m2 : ℕ} {o1 o2 : List ℕ} → w ≡ Directory stop → Clipped b at (bytes_of "the directory") m1 o1 → Clipped o1 m1 (stop_text stop) m2 o2
-      → Clipped b at (broken_text d w) m2 o2
+  pub directory_said : {stop : Stop} {m1 m2 : ℕ} {o1 o2 : List ℕ} → w ≡ Directory stop → Clipped b 0 (bytes_of "the directory") m1 o1 → Clipped o1 m1 (stop_text stop) m2 o2
+      → Clipped b 0 (broken_text d w) m2 o2
   directory_said {stop} e x y = rw e (clip_both (bytes_of "the directory") (stop_text stop) x y)
 
-  pub open_said : {p : ℕ} {m : ℕ} {o : List ℕ} → w ≡ NotClosed p → Clipped b at (open_text d p) m o → Clipped b at (broken_text d w) m o
+  pub open_said : {p : ℕ} {m : ℕ} {o : List ℕ} → w ≡ NotClosed p → Clipped b 0 (open_text d p) m o → Clipped b 0 (broken_text d w) m o
   open_said e x = rw e x
 
-  pub twins_said : {p q : ℕ} {m : ℕ} {o : List ℕ} → w ≡ SameName p q → Clipped b at (twins_text d p q) m o → Clipped b at (broken_text d w) m o
+  pub twins_said : {p q : ℕ} {m : ℕ} {o : List ℕ} → w ≡ SameName p q → Clipped b 0 (twins_text d p q) m o → Clipped b 0 (broken_text d w) m o
   twins_said e x = rw e x
 
-  pub file_said : {p : ℕ} {stop : Stop} {n : List ℕ} {m1 m2 m3 : ℕ} {o1 o2 o3 : List ℕ} → w ≡ File p stop → Clipped b at (bytes_of "the chain of ") m1 o1 → n ≡ name_told d p
-      → Clipped o1 m1 (name_shown n) m2 o2 → Clipped o2 m2 (stop_text stop) m3 o3 → Clipped b at (broken_text d w) m3 o3
+  pub file_said : {p : ℕ} {stop : Stop} {n : List ℕ} {m1 m2 m3 : ℕ} {o1 o2 o3 : List ℕ} → w ≡ File p stop → Clipped b 0 (bytes_of "the chain of ") m1 o1 → n ≡ name_told d p
+      → Clipped o1 m1 (name_shown n) m2 o2 → Clipped o2 m2 (stop_text stop) m3 o3 → Clipped b 0 (broken_text d w) m3 o3
   file_said {p} {stop} e x f y z =
       rw e (three (bytes_of "the chain of ") (name_shown (name_told d p)) (stop_text stop) x (clip_as (ap name_shown f) y) z)
 
-  pub free_said : {t s : ℕ} {m : ℕ} {o : List ℕ} → w ≡ Free t s → Clipped b at (about_text (bytes_of "the map calls ") t s (bytes_of " free, which is in a chain")) m o
-      → Clipped b at (broken_text d w) m o
+  pub free_said : {t s : ℕ} {m : ℕ} {o : List ℕ} → w ≡ Free t s → Clipped b 0 (about_text (bytes_of "the map calls ") t s (bytes_of " free, which is in a chain")) m o
+      → Clipped b 0 (broken_text d w) m o
   free_said e x = rw e x
 
-  pub used_said : {t s : ℕ} {m : ℕ} {o : List ℕ} → w ≡ Used t s → Clipped b at (about_text (bytes_of "the map calls ") t s (bytes_of " used, which is in no chain")) m o
-      → Clipped b at (broken_text d w) m o
+  pub used_said : {t s : ℕ} {m : ℕ} {o : List ℕ} → w ≡ Used t s → Clipped b 0 (about_text (bytes_of "the map calls ") t s (bytes_of " used, which is in no chain")) m o
+      → Clipped b 0 (broken_text d w) m o
   used_said e x = rw e x
 
-  pub beyond_said : {t s : ℕ} {m : ℕ} {o : List ℕ} → w ≡ Beyond t s → Clipped b at (about_text (bytes_of "the map calls ") t s (bytes_of " free, which does not exist")) m o
-      → Clipped b at (broken_text d w) m o
+  pub beyond_said : {t s : ℕ} {m : ℕ} {o : List ℕ} → w ≡ Beyond t s → Clipped b 0 (about_text (bytes_of "the map calls ") t s (bytes_of " free, which does not exist")) m o
+      → Clipped b 0 (broken_text d w) m o
   beyond_said e x = rw e x
-
--- ---- the line that refuses a disk
-
-pub refused_put : (d : List ℕ) {b name : List ℕ} {w : Broken} {m1 m2 m3 m4 : ℕ} {o1 o2 o3 o4 : List ℕ} → Clipped b 0 name m1 o1 → Clipped o1 m1 (bytes_of ": ") m2 o2 → w ≡ why d
-    → Clipped o2 m2 (broken_text d w) m3 o3 → Clipped o3 m3 (bytes_of " (refusal 20)") m4 o4 → Clipped b 0 (refused_disk name d) m4 o4
-refused_put d {name = name} x1 x2 e x3 x4 =
-    three name (bytes_of ": ") (broken_text d (why d) ++ bytes_of " (refusal 20)") x1 x2
-    (clip_both (broken_text d (why d)) (bytes_of " (refusal 20)") (clip_as (ap (broken_text d) e) x3) x4)

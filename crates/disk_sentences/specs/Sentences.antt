@@ -10,7 +10,6 @@ use Rattle.disk_rules.specs.Entries.{name_at}
 use Rattle.disk_names.specs.Names.{name_shown}
 use Rattle.disk_ways.specs.declared.Stop.{Stop}
 use Rattle.disk_ways.specs.declared.Stop.TheVariants.{Ended, Astray, Barred, Again}
-use Rattle.disk_why.specs.Why.{why}
 use Rattle.disk_why.specs.declared.Broken.{Broken}
 use Rattle.disk_why.specs.declared.Broken.TheVariants.{Nothing, Length, Start, Directory, NotClosed, SameName, File, Free, Used, Beyond}
 
@@ -18,22 +17,22 @@ use Rattle.disk_why.specs.declared.Broken.TheVariants.{Nothing, Length, Start, D
 abbrev pub name_told : List ℕ → ℕ → List ℕ
 name_told disk p = cond (leb (p + 30) (length disk)) (name_at disk p) []
 
-abbrev pub track_and_sector : ℕ → ℕ → List ℕ
-track_and_sector t s = decimal t ++ (0x2F ∷ decimal s)
+abbrev pub place_text : ℕ → ℕ → List ℕ
+place_text t s = decimal t ++ (0x2F ∷ decimal s)
 
 abbrev pub about_text : List ℕ → ℕ → ℕ → List ℕ → List ℕ
-about_text before t s after = before ++ (track_and_sector t s ++ after)
+about_text before t s after = before ++ (place_text t s ++ after)
 
 abbrev pub sector_text : List ℕ → ℕ → List ℕ → List ℕ
 sector_text before n after = about_text before (track_of n) (sector_of n) after
 
 abbrev pub entry_text : ℕ → List ℕ
-entry_text p = track_and_sector (track_of (p / 256)) (sector_of (p / 256)) ++ (bytes_of ", " ++ decimal (1 + p % 256 / 32))
+entry_text p = place_text (track_of (p / 256)) (sector_of (p / 256)) ++ (bytes_of ", " ++ decimal (1 + p % 256 / 32))
 
 -- how a chain stops
 abbrev pub stop_text : Stop → List ℕ
 stop_text (Ended n b) = sector_text (bytes_of " ends at ") n (bytes_of " with a second byte of ") ++ decimal b
-stop_text (Astray t s) = bytes_of " leaves the disk at " ++ track_and_sector t s
+stop_text (Astray t s) = bytes_of " leaves the disk at " ++ place_text t s
 stop_text (Barred n) = sector_text (bytes_of " goes to ") n (bytes_of ", where it may not be")
 stop_text (Again n) = sector_text (bytes_of " comes to ") n (bytes_of ", which was met before")
 
@@ -63,7 +62,3 @@ broken_text disk (File p stop) = bytes_of "the chain of " ++ (name_shown (name_t
 broken_text disk (Free t s) = about_text (bytes_of "the map calls ") t s (bytes_of " free, which is in a chain")
 broken_text disk (Used t s) = about_text (bytes_of "the map calls ") t s (bytes_of " used, which is in no chain")
 broken_text disk (Beyond t s) = about_text (bytes_of "the map calls ") t s (bytes_of " free, which does not exist")
-
--- the line that refuses a disk that is not in order, behind its name
-abbrev pub refused_disk : List ℕ → List ℕ → List ℕ
-refused_disk name disk = name ++ (bytes_of ": " ++ (broken_text disk (why disk) ++ bytes_of " (refusal 20)"))

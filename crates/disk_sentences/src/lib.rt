@@ -1,9 +1,11 @@
 // The sentence that says why a disk is not in order.
+#![tactic(auto)]
+
 ghost use Rattle.std.specs.Prelude.{◌≡◌, ◌+◌, ◌≤◌, ◌<◌, length, get_or};
 ghost use Rattle.list_bytes.specs.ByteTexts.{hex_byte};
 ghost use Rattle.disk_rules.specs.Places.{track_of, sector_of};
 ghost use Rattle.say_put.specs.Clipped.{Clipped};
-ghost use Rattle.disk_sentences.specs.Sentences.{name_told, track_and_sector, about_text, entry_text, stop_text, type_text, open_at_text, open_text, twin_text, twins_text, broken_text, refused_disk};
+ghost use Rattle.disk_sentences.specs.Sentences.{name_told, place_text, about_text, entry_text, stop_text, type_text, open_at_text, open_text, twin_text, twins_text, broken_text};
 
 use disk_entries::name_at;
 use disk_names::put_name;
@@ -65,7 +67,7 @@ fn name_told(disk: &[u8], p: usize) -> &[u8]
 // Stores a track and a sector.
 fn put_place(out: &mut [u8], at: usize, track: usize, sector: usize) -> usize
     requires { at ≤ length out.old }
-    ensures { Clipped out.old at (track_and_sector track sector) result out.new }
+    ensures { Clipped out.old at (place_text track sector) result out.new }
 {
     let a = put_decimal(out, at, track);
     let b = put_text(out, a, b"/");
@@ -101,7 +103,7 @@ fn put_entry(out: &mut [u8], at: usize, p: usize) -> usize
 }
 
 // Stores how a chain stops.
-pub fn put_stop(out: &mut [u8], at: usize, stop: Stop) -> usize
+fn put_stop(out: &mut [u8], at: usize, stop: Stop) -> usize
     requires { at ≤ length out.old }
     ensures { Clipped out.old at (stop_text stop) result out.new }
 {
@@ -177,11 +179,10 @@ fn put_open_at(out: &mut [u8], at: usize, disk: &[u8], p: usize) -> usize
     put_type(out, b, disk, p)
 }
 
-fn put_open(out: &mut [u8], at: usize, disk: &[u8], p: usize) -> usize
-    requires { at ≤ length out.old }
-    ensures { Clipped out.old at (open_text disk.now p) result out.new }
+fn put_open(out: &mut [u8], disk: &[u8], p: usize) -> usize
+    ensures { Clipped out.old 0 (open_text disk.now p) result out.new }
 {
-    let a = put_text(out, at, b"the entry ");
+    let a = put_text(out, 0, b"the entry ");
     let b = put_name(out, a, name_told(disk, p));
     put_open_at(out, b, disk, p)
 }
@@ -196,49 +197,47 @@ fn put_twin(out: &mut [u8], at: usize, disk: &[u8], q: usize) -> usize
     put_name(out, c, name_told(disk, q))
 }
 
-fn put_twins(out: &mut [u8], at: usize, disk: &[u8], p: usize, q: usize) -> usize
-    requires { at ≤ length out.old }
-    ensures { Clipped out.old at (twins_text disk.now p q) result out.new }
+fn put_twins(out: &mut [u8], disk: &[u8], p: usize, q: usize) -> usize
+    ensures { Clipped out.old 0 (twins_text disk.now p q) result out.new }
 {
-    let a = put_text(out, at, b"the entries at ");
+    let a = put_text(out, 0, b"the entries at ");
     let b = put_entry(out, a, p);
     put_twin(out, b, disk, q)
 }
 
-// Stores what is broken from a place on, as much of it as fits, and answers the place behind it; nothing where nothing is broken.
-pub fn put_broken(out: &mut [u8], at: usize, disk: &[u8], broken: Broken) -> usize
-    requires { at ≤ length out.old }
-    ensures { Clipped out.old at (broken_text disk.now broken) result out.new }
+// Stores the sentence at the start of a buffer, as much of it as fits, and answers how many bytes that are; nothing where nothing is broken.
+pub fn put_broken(disk: &[u8], broken: Broken, out: &mut [u8]) -> usize
+    ensures { Clipped out.old 0 (broken_text disk.now broken) result out.new }
 {
     match broken {
-        Broken::Nothing => at,
+        Broken::Nothing => 0,
         Broken::Length(bytes) => {
-            let a = put_text(out, at, b"the disk has ");
+            let a = put_text(out, 0, b"the disk has ");
             let b = put_decimal(out, a, bytes);
             put_text(out, b, b" bytes, not 174848")
         }
         Broken::Start(track, sector) => put_about(
             out,
-            at,
+            0,
             b"18/0 links to ",
             wide(track),
             wide(sector),
             b", not to 18/1",
         ),
         Broken::Directory(stop) => {
-            let a = put_text(out, at, b"the directory");
+            let a = put_text(out, 0, b"the directory");
             put_stop(out, a, stop)
         }
-        Broken::NotClosed(p) => put_open(out, at, disk, p),
-        Broken::SameName(p, q) => put_twins(out, at, disk, p, q),
+        Broken::NotClosed(p) => put_open(out, disk, p),
+        Broken::SameName(p, q) => put_twins(out, disk, p, q),
         Broken::File(p, stop) => {
-            let a = put_text(out, at, b"the chain of ");
+            let a = put_text(out, 0, b"the chain of ");
             let b = put_name(out, a, name_told(disk, p));
             put_stop(out, b, stop)
         }
         Broken::Free(track, sector) => put_about(
             out,
-            at,
+            0,
             b"the map calls ",
             track,
             sector,
@@ -246,7 +245,7 @@ pub fn put_broken(out: &mut [u8], at: usize, disk: &[u8], broken: Broken) -> usi
         ),
         Broken::Used(track, sector) => put_about(
             out,
-            at,
+            0,
             b"the map calls ",
             track,
             sector,
@@ -254,21 +253,11 @@ pub fn put_broken(out: &mut [u8], at: usize, disk: &[u8], broken: Broken) -> usi
         ),
         Broken::Beyond(track, sector) => put_about(
             out,
-            at,
+            0,
             b"the map calls ",
             track,
             sector,
             b" free, which does not exist",
         ),
     }
-}
-
-// Stores the line that refuses a disk, behind its name, at the start of a buffer, as much of it as fits, and answers how many bytes that are.
-pub fn put_refused(name: &[u8], disk: &[u8], out: &mut [u8]) -> usize
-    ensures { Clipped out.old 0 (refused_disk name.now disk.now) result out.new }
-{
-    let a = put_text(out, 0, name);
-    let b = put_text(out, a, b": ");
-    let c = put_broken(out, b, disk, disk_why::why(disk));
-    put_text(out, c, b" (refusal 20)")
 }

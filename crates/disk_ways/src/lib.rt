@@ -1,4 +1,6 @@
 // The way of a chain from sector to sector: no sector is met twice, and how it stops is told.
+#![tactic(auto)]
+
 ghost use Rattle.std.specs.Prelude.{◌≡◌, false, ◌+◌, ◌*◌, ◌≤◌, ◌<◌, length, get_or};
 ghost use Rattle.disk_rules.specs.Places.{sectors_before};
 ghost use Rattle.disk_ways.specs.Ways.{tracks_over, sectors_over, may_go, link_on, refused_at, way, way_of, ends_as};
@@ -8,7 +10,7 @@ use disk_rules::Link;
 use disk_sectors::{sectors_before, sectors_on};
 
 // What a way goes over: the directory's sectors, those off track 18, or all of a disk of so many tracks.
-#[derive(Drop)]
+#[derive(Clone, Copy)]
 pub enum Over {
     Directory,
     Files,
@@ -17,7 +19,7 @@ pub enum Over {
 
 // How a way stops: at a last sector, with its second byte; at a track and a sector that do not exist; at a sector that it may not go to;
 // at one that was met before.
-#[derive(Drop)]
+#[derive(Clone, Copy)]
 pub enum Stop {
     Ended(usize, u8),
     Astray(u8, u8),
@@ -26,7 +28,7 @@ pub enum Stop {
 }
 
 // A way that was followed: how many sectors it has in the log, and how it stops.
-#[derive(Drop)]
+#[derive(Clone, Copy)]
 pub struct Followed {
     pub to: usize,
     pub stop: Stop,

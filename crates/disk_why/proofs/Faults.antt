@@ -328,8 +328,8 @@ module _ {f : ℕ → Broken} {goal : Broken} {i : ℕ} (m : Mapping f goal i) w
 -- ---- one rule behind the other
 
 module _ {a : Broken} (b : Broken) {r : Broken} {q : Bool} (e : r ≡ a) (g : q ≡ is_nothing r) where
-  pub or_first_lem : not q ≡ true → r ≡ or_else a b
-  or_first_lem h = let k : is_nothing a ≡ false = sym (rw e at g) ∙ not-true q h in e ∙ rw k
+  pub or_first : not q ≡ true → r ≡ or_else a b
+  or_first h = let k : is_nothing a ≡ false = sym (rw e at g) ∙ not-true q h in e ∙ rw k
 
   pub or_next : not q ≡ false → b ≡ or_else a b
   or_next h = let k : is_nothing a ≡ true = sym (rw e at g) ∙ not-false q h in rw k

@@ -23,24 +23,24 @@ use Rattle.disk_why.specs.Why.{is_nothing, or_else, directory_way, entry_fault, 
 use Rattle.disk_why.specs.BrokenHelpers.{Crossed}
 use Rattle.disk_why.specs.declared.Broken.{Broken}
 use Rattle.disk_why.specs.declared.Broken.TheVariants.{Nothing, Length, Start, Directory}
-use Rattle.disk_why.proofs.Faults.{blank, or_first_lem, or_next}
+use Rattle.disk_why.proofs.Faults.{blank, or_first, or_next}
 
 -- ---- behind the directory
 
 module _ (d ps : List ℕ) {a : Broken} {q : Bool} (e : a ≡ entry_fault d ps) (g : q ≡ is_nothing a) where
   pub listed_entry : not q ≡ true → a ≡ listed_fault d ps
-  listed_entry h = or_first_lem _ e g h
+  listed_entry h = or_first _ e g h
 
   module _ (h : not q ≡ false) {b : Broken} {u : Bool} (f : b ≡ alone_fault d ps) (i : u ≡ is_nothing b) where
     pub listed_alone : not u ≡ true → b ≡ listed_fault d ps
-    listed_alone j = or_first_lem _ f i j ∙ or_next _ e g h
+    listed_alone j = or_first _ f i j ∙ or_next _ e g h
 
     module _ (j : not u ≡ false) {x : Broken} {after : List Bool} {v : Bool} (k : Crossed d ps (replicate 683 false) x after) (l : v ≡ is_nothing x) where
       fault : x ≡ crossed_fault d none_met ps
       fault = rw blank at k.fault
 
       pub listed_crossed : not v ≡ true → x ≡ listed_fault d ps
-      listed_crossed m = or_first_lem _ fault l m ∙ or_next _ f i j ∙ or_next _ e g h
+      listed_crossed m = or_first _ fault l m ∙ or_next _ f i j ∙ or_next _ e g h
 
       pub listed_map : not v ≡ false → {y : Broken} → y ≡ map_fault d (λ n. get_or after n false) → y ≡ listed_fault d ps
       listed_map m {y} n =

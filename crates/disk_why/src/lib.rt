@@ -1,4 +1,6 @@
 // The first rule of the check that a disk breaks, and where.
+#![tactic(auto)]
+
 ghost use Rattle.std.specs.Prelude.{◌≡◌, false, ◌+◌, ◌≤◌, ◌<◌, length, get_or};
 ghost use Rattle.disk_ways.specs.Ways.{way_of};
 ghost use Rattle.disk_ways.specs.declared.Over.TheVariants.{Files};
@@ -11,7 +13,7 @@ use disk_sectors::{bit_at, sectors_before, sectors_on};
 use disk_ways::{Over, Stop, ends_as, follow, follow_entry};
 
 // Which rule is broken, and where. An entry is known by the offset of its type.
-#[derive(Drop)]
+#[derive(Clone, Copy)]
 pub enum Broken {
     Nothing,
     // How many bytes there are.

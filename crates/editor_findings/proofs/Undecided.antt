@@ -15,7 +15,7 @@ use Rattle.text_lines.specs.declared.TextLine.{TextLine}
 use Rattle.text_lines.proofs.Splitting.{line_step, lines_end}
 use Rattle.base_ascii.proofs.Choice.{taken, left}
 use Rattle.guess_evidence.specs.Evidence.{line_evidence}
-use Rattle.guess.specs.Guess.{any_line, evidence}
+use Rattle.guess.specs.Guess.{any_evidence, evidence}
 use Rattle.word_search.specs.Find.{word_in}
 use Rattle.word_search.specs.declared.Match.{Match}
 use Rattle.word_search.specs.declared.Match.TheVariants.{Word, Nothing}
@@ -60,13 +60,13 @@ abbrev pub is_decided : Decided → Bool
 is_decided (ByLine k) = true
 is_decided ByNone = false
 
-any_decided : (k : ℕ) (ls : List (List ℕ)) → is_decided (decided_behind k ls) ≡ any_line line_evidence ls
-unfolding decided_behind any_line
+any_decided : (k : ℕ) (ls : List (List ℕ)) → is_decided (decided_behind k ls) ≡ any_evidence ls
+unfolding decided_behind any_evidence
 any_decided k [] = refl
 any_decided k (l ∷ ls) = go (any_decided (k + 1) ls) (line_evidence l)
   where
-    go : is_decided (decided_behind (k + 1) ls) ≡ any_line line_evidence ls → (x : Bool)
-        → is_decided (elim x [ true ↦ ByLine (k + 1) | false ↦ decided_behind (k + 1) ls ]) ≡ elim x [ true ↦ true | false ↦ any_line line_evidence ls ]
+    go : is_decided (decided_behind (k + 1) ls) ≡ any_evidence ls → (x : Bool)
+        → is_decided (elim x [ true ↦ ByLine (k + 1) | false ↦ decided_behind (k + 1) ls ]) ≡ elim x [ true ↦ true | false ↦ any_evidence ls ]
     go e true = refl
     go e false = e
 

@@ -7,7 +7,7 @@ use base_ascii::search::Kind;
 
 // How many bytes an author has put between braces: up to the }, or, where a quote or the end of the body comes first, up to that. An
 // escape is short: where none of these is near, it is not looked for.
-#[derive(Drop)]
+#[derive(Clone, Copy)]
 pub enum Inside {
     Closed(usize),
     Unclosed(usize),

@@ -15,7 +15,7 @@ use word_search::Match;
 use word_tables::spellings;
 
 // The first text line, from 1, that proves a text to be TSB; or none does.
-#[derive(Drop)]
+#[derive(Clone, Copy)]
 pub enum Decided {
     ByLine(usize),
     ByNone,

@@ -14,14 +14,14 @@ use word_match::sets::Sets;
 use word_tables::spellings;
 
 // A place of a body, and the mode in which it is crunched from there on.
-#[derive(Drop)]
+#[derive(Clone, Copy)]
 pub struct Spot {
     pub mode: Mode,
     pub at: usize,
 }
 
 // A step that is told: it goes from a place to a spot. Or no such step is left.
-#[derive(Drop)]
+#[derive(Clone, Copy)]
 pub enum Sighting {
     Seen {
         finding: Finding,
@@ -32,7 +32,7 @@ pub enum Sighting {
 }
 
 // What is told, and where the walk stands behind it.
-#[derive(Drop)]
+#[derive(Clone, Copy)]
 pub struct Told {
     pub sighting: Sighting,
     pub stand: Stand,

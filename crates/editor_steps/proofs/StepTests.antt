@@ -8,8 +8,7 @@ use borrow.Author.Tests.{eq-eqb, ne_eqb}
 use Rattle.body_rules.specs.declared.Mode.{Mode}
 use Rattle.body_rules.specs.declared.Mode.TheVariants.{String}
 use Rattle.body_rules.specs.declared.Move.{Move}
-use Rattle.say_shown.specs.Shown.{is_control}
-use Rattle.editor_steps.specs.StepFindings.{is_code, is_kept, finding_of}
+use Rattle.editor_steps.specs.StepFindings.{is_code, is_control, is_kept, finding_of}
 use Rattle.editor_steps.specs.declared.Finding.TheVariants.{Usual, TsbWord, Zero, Brace, Control}
 
 -- ---- a { that is kept

@@ -1,7 +1,6 @@
 -- What a step of a body is to an editor, by what crunching makes of it (document 01, "Crunching one body").
 -- Assumes nothing.
-use Rattle.std.specs.Prelude.{ℕ, Bool, true, false, cond, ◌&&◌, eqb}
-use Rattle.say_shown.specs.Shown.{is_control}
+use Rattle.std.specs.Prelude.{ℕ, Bool, true, false, cond, ◌&&◌, ◌||◌, eqb, ltb}
 use Rattle.body_rules.specs.declared.Mode.{Mode}
 use Rattle.body_rules.specs.declared.Mode.TheVariants.{Plain, String, Remark, Data, DataQuote}
 use Rattle.body_rules.specs.declared.Move.{Move}
@@ -15,6 +14,9 @@ is_code String = false
 is_code Remark = false
 is_code Data = true
 is_code DataQuote = false
+
+abbrev pub is_control : ℕ → Bool
+is_control b = ltb b 0x20 || eqb b 0x7F
 
 -- a byte is a { of a string, and its step takes no more than it: no escape begins there
 abbrev pub is_kept : Mode → ℕ → ℕ → Bool

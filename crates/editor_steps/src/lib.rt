@@ -1,12 +1,13 @@
 // What one step of a body is to an editor.
+#![tactic(auto)]
+
 ghost use Rattle.std.specs.Prelude.{◌≡◌};
-ghost use Rattle.editor_steps.specs.StepFindings.{is_code, is_kept, finding_of, is_usual};
+ghost use Rattle.editor_steps.specs.StepFindings.{is_code, is_control, is_kept, finding_of, is_usual};
 
 use body_rules::{Mode, Move};
-use say_shown::is_control;
 
 // What a step is to an editor.
-#[derive(Drop)]
+#[derive(Clone, Copy)]
 pub enum Finding {
     // Nothing is said of it.
     Usual,
@@ -30,6 +31,15 @@ fn is_code(mode: Mode) -> bool
         Mode::Data => true,
         Mode::DataQuote => false,
     }
+}
+
+fn is_control(b: u8) -> bool
+    ensures { result ≡ is_control b }
+{
+    if b < 0x20 {
+        return true;
+    }
+    b == 0x7F
 }
 
 // Whether a byte is a { of a string that gives itself: an escape takes two bytes at least.

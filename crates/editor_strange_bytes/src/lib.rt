@@ -1,11 +1,13 @@
 // Bytes that no text may hold, and what they are: mostly characters of UTF-8 that an author's editor has put in.
+#![tactic(auto)]
+
 ghost use Rattle.std.specs.Prelude.{◌≡◌, get_or};
 ghost use Rattle.editor_strange_bytes.specs.Foreign.{is_inner, inner_behind, inner_asked, width_of, is_utf16, is_mark_of_order, is_curly_quote, is_no_break_space, is_long_dash, kind_of, first_stranger};
 
 use text_domain::TextCheck;
 
 // What stands at a byte outside the domain.
-#[derive(Drop)]
+#[derive(Clone, Copy)]
 pub enum Foreign {
     OrderMark,
     CurlyQuote,
@@ -19,7 +21,7 @@ pub enum Foreign {
 
 // The first bytes from a place on that lie outside the domain: where they stand, what they are, and how many. Or there are none; or the
 // text is longer than one may be.
-#[derive(Drop)]
+#[derive(Clone, Copy)]
 pub enum Stranger {
     There {
         offset: usize,

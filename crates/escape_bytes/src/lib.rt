@@ -1,17 +1,19 @@
 // What an escape gives: the definition of escapes with its laws, and what a key that is held gives with a byte.
+#![tactic(auto)]
+
 ghost use Rattle.std.specs.Prelude.{◌≡◌, ◌<◌, get_or};
 ghost use Rattle.escape_bytes.specs.KeyCodes.{cbm_letters, ctrl_digits};
 ghost use Rattle.escape_bytes.specs.Keys.{control_byte, key_with};
 ghost use Rattle.escape_bytes.specs.declared.Key.TheVariants.{Commodore, Shift};
 
-#[derive(Drop)]
+#[derive(Clone, Copy)]
 pub enum Escape {
     Byte { byte: u8, count: u64 },
     Unknown,
 }
 
 // A key that is held while another is pressed.
-#[derive(Drop)]
+#[derive(Clone, Copy)]
 pub enum Key {
     Control,
     Commodore,

@@ -1,9 +1,11 @@
 // Numbers in an escape. A number that passes its limit is none, however many digits follow.
+#![tactic(auto)]
+
 ghost use Rattle.std.specs.Prelude.{◌≡◌, ◌≤◌, ◌<◌};
 ghost use Rattle.escape_numbers.specs.Numbers.{digit_of, number_of, hex_of, count_of, unsigned};
 ghost use Rattle.escape_numbers.specs.NumbersHelpers.{countable};
 
-#[derive(Drop)]
+#[derive(Clone, Copy)]
 pub enum Number {
     Value(u64),
     Missing,

@@ -1,4 +1,6 @@
 // What stands between braces in a string: a byte and how often it is repeated, or nothing known.
+#![tactic(auto)]
+
 ghost use Rattle.std.specs.Prelude.{◌≡◌, ◌≤◌, ◌<◌, length, take, drop};
 ghost use Rattle.base_ascii.specs.Bytes.{is_space};
 ghost use Rattle.base_ascii.specs.Search.{past};
@@ -16,7 +18,7 @@ use word_tables::spellings;
 mod keys;
 
 // What a text shares with every end of it, so that it is found once for many { in front of one }.
-#[derive(Drop)]
+#[derive(Clone, Copy)]
 pub struct Tail {
     // How many bytes are left without the white space at the end.
     pub end: usize,

@@ -1,5 +1,4 @@
 pub mod Basic35
-pub mod Grounding
 pub mod Table
 pub mod Texts
 pub mod Tight

@@ -13,8 +13,6 @@ use Rattle.word_dialects.specs.declared.Dialect.{Dialect}
 use Rattle.word_dialects.specs.declared.Dialect.TheVariants.{Auto, BasicV2, Tsb}
 use Rattle.text_lines.specs.declared.LineRule.TheVariants.{AsGiven, AfterCr}
 use Rattle.guess.specs.Guess.{evidence, names, resolved, word_sets}
-use Rattle.guess.specs.Grounds.{grounds_of}
-use Rattle.guess.specs.declared.grounds.Grounds.TheVariants.{Variables, Others}
 
 -- the words of a list that a set holds
 unfoldable pub held : List Bool → List Entry → List (List ℕ)
@@ -103,29 +101,3 @@ remark_at_cr = refl
 dir_demoted : demoted_words (bytes_of "10 DIR=5:HIRES 0,1") ≡ bytes_of "DIR" ∷ []
 unfolding demoted_words between upper
 dir_demoted = refl
-
--- ---- what a guess rests on
-
--- MAP, the 49th word of the list counted from 0, is dimensioned, and nothing else proves anything
-rests_on_map : grounds_of Auto (bytes_of "20 dim map(9),door(5)") ≡ Variables 1 7 48
-unfolding grounds_of between upper
-rests_on_map = refl
-
--- another word proves it too, in the same line or in a later one
-hires_too : grounds_of Auto (bytes_of "1DIMMAP(3):HIRES0,1") ≡ Others
-unfolding grounds_of between upper
-hires_too = refl
-
--- a CR ends a line, as in crunching
-map_behind_cr : grounds_of Auto (bytes_of "1?" ++ (0x0D ∷ bytes_of "2DIMMAP(3)")) ≡ Variables 2 4 48
-unfolding grounds_of between upper
-map_behind_cr = refl
-
--- a TSB word that is no variable, and a text that is V2
-no_variables : grounds_of Auto (bytes_of "1HIRES0,1") ≡ Others
-unfolding grounds_of between upper
-no_variables = refl
-
-no_tsb_word : grounds_of Auto (bytes_of "1PRINT") ≡ Others
-unfolding grounds_of between upper
-no_tsb_word = refl

@@ -23,32 +23,16 @@ use Rattle.text_lines.proofs.Splitting.{line_step, lines_end, line_behind_lem}
 use Rattle.base_ascii.proofs.Choice.{taken, left}
 use Rattle.guess_evidence.specs.Evidence.{line_evidence}
 use Rattle.guess_variables.specs.Variables.{line_names}
-use Rattle.guess.specs.Guess.{any_line, evidence, all_names, none_demoted, names, guessed_dialect, resolved, word_sets}
+use Rattle.guess.specs.Guess.{any_evidence, evidence, all_names, none_demoted, names, guessed_dialect, resolved, word_sets}
 use Rattle.guess_evidence.proofs.Steps.{evidence_blank}
-
--- ---- lines that pass a test
-
--- the lines passed do not pass it: what is left answers what the text does, w
-pub record Unproved (test : List ℕ → Bool) (rule : LineRule) (t : List ℕ) (w : Bool) (at : ℕ) : Type 0 where
-  pub gives : any_line test (text_lines rule (drop at t)) ≡ w
-
-module _ {test : List ℕ → Bool} {rule : LineRule} {t : List ℕ} {w : Bool} {at : ℕ} where
-  pub unproved_end : length t ≤ at → Unproved test rule t w at → false ≡ w
-  unfolding any_line
-  unproved_end h k = rw (lines_end rule t at h) at k.gives
-
-  module _ {r : TextLine} {x : Bool} where
-    pub any_found : x ≡ true → x ≡ test (take (r.end - at) (drop at t)) → r ≡ line_from rule t at → at < length t → Unproved test rule t w at → true ≡ w
-    unfolding any_line
-    any_found e p q h k = sym (ap (any_line test) (line_step rule t at h q).lines ∙ taken _ _ (sym p ∙ e)) ∙ k.gives
-
-    pub any_turn : x ≡ false → x ≡ test (take (r.end - at) (drop at t)) → r ≡ line_from rule t at → at < length t → Unproved test rule t w at → Unproved test rule t w r.next
-    unfolding any_line
-    any_turn e p q h k = record { gives = sym (ap (any_line test) (line_step rule t at h q).lines ∙ left _ _ (sym p ∙ e)) ∙ k.gives }
 
 -- ---- evidence
 
-pub unproved_start : (rule : LineRule) (t : List ℕ) → Unproved line_evidence rule t (evidence rule t) 0
+-- the lines passed prove nothing: what is left proves what the text does, w
+pub record Unproved (rule : LineRule) (t : List ℕ) (w : Bool) (at : ℕ) : Type 0 where
+  pub gives : any_evidence (text_lines rule (drop at t)) ≡ w
+
+pub unproved_start : (rule : LineRule) (t : List ℕ) → Unproved rule t (evidence rule t) 0
 unfolding evidence
 unproved_start rule t = record { gives = refl }
 
@@ -56,13 +40,20 @@ told : (rule : LineRule) (t : List ℕ) (at : ℕ) {r : TextLine} {x : Bool} →
     → x ≡ line_evidence (take (r.end - at) (drop at t))
 told rule t at p q = p ∙ line_behind_lem line_evidence evidence_blank rule t at q
 
-module _ {rule : LineRule} {t : List ℕ} {w : Bool} {at : ℕ} {r : TextLine} {x : Bool} where
-  pub unproved_found : x ≡ true → x ≡ line_evidence (take (r.end - r.begin) (drop r.begin t)) → r ≡ line_from rule t at → at < length t → Unproved line_evidence rule t w at → true ≡ w
-  unproved_found e p q h k = any_found e (told rule t at p q) q h k
+module _ {rule : LineRule} {t : List ℕ} {w : Bool} {at : ℕ} where
+  pub unproved_end : length t ≤ at → Unproved rule t w at → false ≡ w
+  unfolding any_evidence
+  unproved_end h k = rw (lines_end rule t at h) at k.gives
 
-  pub unproved_turn : x ≡ false → x ≡ line_evidence (take (r.end - r.begin) (drop r.begin t)) → r ≡ line_from rule t at → at < length t → Unproved line_evidence rule t w at
-      → Unproved line_evidence rule t w r.next
-  unproved_turn e p q h k = any_turn e (told rule t at p q) q h k
+  module _ {r : TextLine} {x : Bool} where
+    pub unproved_found : x ≡ true → x ≡ line_evidence (take (r.end - r.begin) (drop r.begin t)) → r ≡ line_from rule t at → at < length t → Unproved rule t w at → true ≡ w
+    unfolding any_evidence
+    unproved_found e p q h k = sym (ap any_evidence (line_step rule t at h q).lines ∙ taken _ _ (sym (told rule t at p q) ∙ e)) ∙ k.gives
+
+    pub unproved_turn : x ≡ false → x ≡ line_evidence (take (r.end - r.begin) (drop r.begin t)) → r ≡ line_from rule t at → at < length t → Unproved rule t w at → Unproved rule t w r.next
+    unfolding any_evidence
+    unproved_turn e p q h k =
+        record { gives = sym (ap any_evidence (line_step rule t at h q).lines ∙ left _ _ (sym (told rule t at p q) ∙ e)) ∙ k.gives }
 
 -- ---- variables
 
@@ -130,27 +121,27 @@ module _ (d : Dialect) (t : List ℕ) {c : TextCheck} where
 -- ---- the words that are live, and those that are demoted
 
 module _ (t : List ℕ) {d : Dialect} {own : Bool} (o : own ≡ is_basic35 d) where
-  pub sets_v2 : d ≡ BasicV2 → record { tsb = false; demoted = none_demoted; basic35 = own; forms = false; codes = false } ≡ word_sets d t
+  pub sets_v2 : d ≡ BasicV2 → record { tsb = false; demoted = none_demoted; basic35 = own; forms = false } ≡ word_sets d t
   unfolding word_sets
   sets_v2 e = rw (o, e)
 
-  pub sets_tsb : d ≡ Tsb → record { tsb = true; demoted = none_demoted; basic35 = own; forms = false; codes = false } ≡ word_sets d t
+  pub sets_tsb : d ≡ Tsb → record { tsb = true; demoted = none_demoted; basic35 = own; forms = false } ≡ word_sets d t
   unfolding word_sets
   sets_tsb e = rw (o, e)
 
-  pub sets_basic35 : d ≡ Basic35 → record { tsb = false; demoted = none_demoted; basic35 = own; forms = false; codes = false } ≡ word_sets d t
+  pub sets_basic35 : d ≡ Basic35 → record { tsb = false; demoted = none_demoted; basic35 = own; forms = false } ≡ word_sets d t
   unfolding word_sets
   sets_basic35 e = rw (o, e)
 
   module _ {x : Bool} where
-    pub sets_quiet : x ≡ false → x ≡ evidence AfterCr t → d ≡ Auto → record { tsb = false; demoted = none_demoted; basic35 = own; forms = false; codes = false } ≡ word_sets d t
+    pub sets_quiet : x ≡ false → x ≡ evidence AfterCr t → d ≡ Auto → record { tsb = false; demoted = none_demoted; basic35 = own; forms = false } ≡ word_sets d t
     unfolding word_sets
     sets_quiet f r e = rw (o, e) (sym (left _ _ (sym r ∙ f)))
 
     pub sets_guessed : {m : List Bool} → m ≡ all_names (text_lines AfterCr t) none_demoted → x ≡ true → x ≡ evidence AfterCr t → d ≡ Auto
-        → record { tsb = true; demoted = m; basic35 = own; forms = false; codes = false } ≡ word_sets d t
+        → record { tsb = true; demoted = m; basic35 = own; forms = false } ≡ word_sets d t
     unfolding word_sets names
-    sets_guessed q f r e = rw (o, e) (ap (λ (s : List Bool). record { tsb = true; demoted = s; basic35 = false; forms = false; codes = false }) q ∙ sym (taken _ _ (sym r ∙ f)))
+    sets_guessed q f r e = rw (o, e) (ap (λ (s : List Bool). record { tsb = true; demoted = s; basic35 = false; forms = false }) q ∙ sym (taken _ _ (sym r ∙ f)))
 
 -- ---- the lines of a text, one after the other
 

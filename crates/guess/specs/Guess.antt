@@ -17,14 +17,15 @@ use Rattle.guess.specs.declared.resolve.Resolved.TheVariants.{Is, Refused}
 
 -- ---- over the lines of a text
 
--- the first line that passes a test decides
-unfoldable pub any_line : (List ℕ → Bool) → List (List ℕ) → Bool
-any_line test [] = false
-any_line test (l ∷ ls) = elim (test l) [ true ↦ true | false ↦ any_line test ls ]
+-- the first line that proves it decides
+unfoldable pub any_evidence : List (List ℕ) → Bool
+unfolding line_evidence
+any_evidence [] = false
+any_evidence (l ∷ ls) = elim (line_evidence l) [ true ↦ true | false ↦ any_evidence ls ]
 
 unfoldable pub evidence : LineRule → List ℕ → Bool
-unfolding any_line line_evidence text_lines
-evidence rule t = any_line line_evidence (text_lines rule t)
+unfolding any_evidence text_lines
+evidence rule t = any_evidence (text_lines rule t)
 
 -- each line adds to the words found before it
 unfoldable pub all_names : List (List ℕ) → List Bool → List Bool
@@ -63,11 +64,11 @@ resolved_answer (Refused r) = refused (numbered r)
 
 unfoldable pub word_sets : Dialect → List ℕ → Sets
 unfolding evidence names
-word_sets Tsb t = record { tsb = true; demoted = none_demoted; basic35 = false; forms = false; codes = false }
-word_sets BasicV2 t = record { tsb = false; demoted = none_demoted; basic35 = false; forms = false; codes = false }
-word_sets Basic35 t = record { tsb = false; demoted = none_demoted; basic35 = true; forms = false; codes = false }
+word_sets Tsb t = record { tsb = true; demoted = none_demoted; basic35 = false; forms = false }
+word_sets BasicV2 t = record { tsb = false; demoted = none_demoted; basic35 = false; forms = false }
+word_sets Basic35 t = record { tsb = false; demoted = none_demoted; basic35 = true; forms = false }
 word_sets Auto t =
     elim (evidence AfterCr t) [
-      | true ↦ record { tsb = true; demoted = names AfterCr t; basic35 = false; forms = false; codes = false }
-      | false ↦ record { tsb = false; demoted = none_demoted; basic35 = false; forms = false; codes = false }
+      | true ↦ record { tsb = true; demoted = names AfterCr t; basic35 = false; forms = false }
+      | false ↦ record { tsb = false; demoted = none_demoted; basic35 = false; forms = false }
     ]

@@ -1,3 +1,4 @@
-// The dialect guess: whether a text is TSB, which TSB words it uses as variables, and whether the guess rests on those alone.
-pub mod grounds;
+// The dialect guess: whether a text is TSB, and which TSB words it uses as variables.
+#![tactic(auto)]
+
 pub mod resolve;

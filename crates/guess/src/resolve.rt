@@ -11,7 +11,7 @@ use word_dialects::Dialect;
 use word_match::sets::Sets;
 use word_tables::spellings;
 
-#[derive(Drop)]
+#[derive(Clone, Copy)]
 pub enum Resolved {
     Is(Dialect),
     Refused(Refusal),
@@ -37,7 +37,7 @@ pub fn text_evidence(text: &[u8], rule: LineRule, bytes: &[u8], index: &[u16]) -
 }
 
 // Adds the words that the text uses as variables to those that were found.
-pub fn text_names(text: &[u8], rule: LineRule, bytes: &[u8], index: &[u16], found: &mut [bool])
+fn text_names(text: &[u8], rule: LineRule, bytes: &[u8], index: &[u16], found: &mut [bool])
     requires { SpellsWords bytes.now index.now × (123 ≤ length found.old) }
     ensures { found.new ≡ all_names (text_lines rule text.now) found.old }
 {
@@ -97,21 +97,18 @@ pub fn word_sets(text: &[u8], dialect: Dialect, bytes: &[u8], index: &[u16]) -> 
             demoted,
             basic35,
             forms: false,
-            codes: false,
         },
         Dialect::Tsb => Sets {
             tsb: true,
             demoted,
             basic35,
             forms: false,
-            codes: false,
         },
         Dialect::Basic35 => Sets {
             tsb: false,
             demoted,
             basic35,
             forms: false,
-            codes: false,
         },
         Dialect::Auto => {
             if text_evidence(text, LineRule::AfterCr, bytes, index) {
@@ -121,7 +118,6 @@ pub fn word_sets(text: &[u8], dialect: Dialect, bytes: &[u8], index: &[u16]) -> 
                     demoted,
                     basic35,
                     forms: false,
-                    codes: false,
                 };
             }
             Sets {
@@ -129,7 +125,6 @@ pub fn word_sets(text: &[u8], dialect: Dialect, bytes: &[u8], index: &[u16]) -> 
                 demoted,
                 basic35,
                 forms: false,
-                codes: false,
             }
         }
     }

@@ -7,7 +7,7 @@ use mathlib.Core.List.{List, [], ◌∷◌}
 use native.Mathlib.Nat.{add-zero}
 use native.Mathlib.Omega.{arith}
 use lib.Dec.{eqb}
-use lib.ListN.{length, get_or, drop, drop_of_length-le, length-drop, get_or-eq_default}
+use lib.ListN.{length, get_or, drop, drop_of_length-le, length-drop}
 use lib.Seq.{drop-drop, get_or-drop}
 use borrow.Author.Tests.{eq-eqb, ne_eqb, eqb-true}
 use mir.Syntax.{w64}
@@ -28,7 +28,7 @@ use Rattle.word_tables.specs.Tsb.{tsb_words}
 use Rattle.text_lines.proofs.Blanks.{blank_white}
 use Rattle.base_ascii.proofs.Choice.{taken, left, either}
 use Rattle.guess_uses.specs.Proving.{proves}
-use Rattle.guess_evidence.specs.Evidence.{word_proves, word_step, statement_step, evidence_step, evidence_on, evidence_from, number_length, line_evidence, list_place, is_passed, passing_step, deciding_on, deciding_from, deciding_place, deciding_word, decides, line_evidence_but}
+use Rattle.guess_evidence.specs.Evidence.{word_proves, word_step, statement_step, evidence_step, evidence_on, evidence_from, number_length, line_evidence, deciding_on, deciding_from, deciding_place, list_place, deciding_word, decides}
 use Rattle.guess_places.specs.Places.{is_plain, is_start, aside}
 use Rattle.guess_places.specs.PlaceHelpers.{stays}
 use Rattle.guess_places.specs.declared.place.Place.{Place}
@@ -174,48 +174,6 @@ module _ (place : Place) (t : List ℕ) (h : 0 < length t) where
   far_step =
       either (Far (length t)) (is_plain place) _ _ (λ _. far_statement) (λ _. far_one (aside place (get_or t 0 0)))
 
--- ---- words that are passed over
-
-module _ (passed : List Bool) (place : Place) (t : List ℕ) {s : EvidenceStep} where
-  pub passes_word : {x : EvidenceStep} {p : Bool} → x ≡ On 1 Within → p ≡ true → p ≡ is_passed passed t → s ≡ Proved → s ≡ evidence_step place t → x ≡ passing_step passed place t
-  unfolding passing_step
-  passes_word r e q f g = rw (passing_step, sym g ∙ f) (r ∙ sym (taken _ _ (sym q ∙ e)))
-
-  pub heeds_word : {p : Bool} → p ≡ false → p ≡ is_passed passed t → s ≡ Proved → s ≡ evidence_step place t → Proved ≡ passing_step passed place t
-  unfolding passing_step
-  heeds_word e q f g = rw (passing_step, sym g ∙ f) (sym (left _ _ (sym q ∙ e)))
-
-  pub passes_remark : s ≡ Remark → s ≡ evidence_step place t → Remark ≡ passing_step passed place t
-  unfolding passing_step
-  passes_remark f g = rw (passing_step, sym g ∙ f)
-
-  pub passes_on : {x : EvidenceStep} {used : ℕ} {next : Place} → x ≡ On used next → s ≡ On used next → s ≡ evidence_step place t → x ≡ passing_step passed place t
-  unfolding passing_step
-  passes_on r f g = r ∙ rw (passing_step, sym g ∙ f)
-
--- a step that is no proof is the same, whatever is passed over
-pass_on : (passed : List Bool) (place : Place) (t : List ℕ) {used : ℕ} {next : Place} → On used next ≡ evidence_step place t → On used next ≡ passing_step passed place t
-pass_on passed place t q = passes_on passed place t {s = evidence_step place t} refl (sym q) refl
-
-pass_far : (passed : List Bool) (place : Place) (t : List ℕ) → 0 < length t → Far (length t) (passing_step passed place t)
-unfolding passing_step
-pass_far passed place t h = go (evidence_step place t) (far_step place t h)
-  where
-    go : (x : EvidenceStep) → Far (length t) x
-        → Far (length t) (elim x [ Proved ↦ elim (is_passed passed t) [ true ↦ On 1 Within | false ↦ Proved ] | Remark ↦ Remark | On used next ↦ On used next ])
-    go Proved f = either (Far (length t)) (is_passed passed t) _ _ (λ _. far_one place t h Within) (λ _. tt)
-    go Remark f = tt
-    go (On used next) f = f
-
-none_passed : (place : Place) (t : List ℕ) → passing_step [] place t ≡ evidence_step place t
-unfolding passing_step is_passed
-none_passed place t = go (evidence_step place t)
-  where
-    go : (x : EvidenceStep) → elim x [ Proved ↦ elim (get_or {A = Bool} [] (list_place t) false) [ true ↦ On 1 Within | false ↦ Proved ] | Remark ↦ Remark | On used next ↦ On used next ] ≡ x
-    go Proved = refl
-    go Remark = refl
-    go (On used next) = refl
-
 -- ---- the loop over a line
 
 -- where a scan stands: so many bytes into the line, in a place, with what is left
@@ -228,49 +186,48 @@ behind_step more i t Proved = At i
 behind_step more i t Remark = Nowhere
 behind_step more i t (On used next) = more (i + used, next, drop used t)
 
-on_some : (passed : List Bool) (more : Standing → Found) (i : ℕ) (place : Place) (t : List ℕ) → 0 < length t → deciding_on passed more (i, place, t) ≡ behind_step more i t (passing_step passed place t)
+on_some : (more : Standing → Found) (i : ℕ) (place : Place) (t : List ℕ) → 0 < length t → deciding_on more (i, place, t) ≡ behind_step more i t (evidence_step place t)
 unfolding deciding_on
-on_some passed more i place [] h = absurd (omega arith)
-on_some passed more i place (b ∷ s) h = go (passing_step passed place (b ∷ s))
+on_some more i place [] h = absurd (omega arith)
+on_some more i place (b ∷ s) h = go (evidence_step place (b ∷ s))
   where
     go : (x : EvidenceStep) → elim x [ Proved ↦ At i | Remark ↦ Nowhere | On used next ↦ more (i + used, next, drop used (b ∷ s)) ] ≡ behind_step more i (b ∷ s) x
     go Proved = refl
     go Remark = refl
     go (On used next) = refl
 
-near : (passed : List Bool) → Nearer {S = Standing} {R = Found} (λ x. length x.2) (deciding_on passed)
+near : Nearer {S = Standing} {R = Found} (λ x. length x.2) deciding_on
 unfolding deciding_on
-near passed x f g h = go x.0 x.1 x.2 h
+near x f g h = go x.0 x.1 x.2 h
   where
-    go : (i : ℕ) (place : Place) (t : List ℕ) → ((y : Standing) → length y.2 < length t → f y ≡ g y) → deciding_on passed f (i, place, t) ≡ deciding_on passed g (i, place, t)
+    go : (i : ℕ) (place : Place) (t : List ℕ) → ((y : Standing) → length y.2 < length t → f y ≡ g y) → deciding_on f (i, place, t) ≡ deciding_on g (i, place, t)
     go i place [] k = refl
-    go i place (b ∷ s) k = on_some passed f i place (b ∷ s) (omega arith) ∙ same (passing_step passed place (b ∷ s)) (pass_far passed place (b ∷ s) (omega arith)) ∙ sym (on_some passed g i place (b ∷ s) (omega arith))
+    go i place (b ∷ s) k = on_some f i place (b ∷ s) (omega arith) ∙ same (evidence_step place (b ∷ s)) (far_step place (b ∷ s) (omega arith)) ∙ sym (on_some g i place (b ∷ s) (omega arith))
       where
         same : (y : EvidenceStep) → Far (suc (length s)) y → behind_step f i (b ∷ s) y ≡ behind_step g i (b ∷ s) y
         same Proved q = refl
         same Remark q = refl
         same (On used next) q = k (i + used, next, drop used (b ∷ s)) (omega (arith, q.0, length-drop used (b ∷ s)))
 
-abbrev from : List Bool → Standing → Found
-from passed y = deciding_from passed y.0 y.1 y.2
+abbrev from : Standing → Found
+from y = deciding_from y.0 y.1 y.2
 
-once : (passed : List Bool) (i : ℕ) (place : Place) (t : List ℕ) → deciding_from passed i place t ≡ deciding_on passed (from passed) (i, place, t)
+once : (i : ℕ) (place : Place) (t : List ℕ) → deciding_from i place t ≡ deciding_on from (i, place, t)
 unfolding deciding_from
-once passed i place t = again_on (near passed) Nowhere (λ y. suc (length y.2)) (λ y. omega arith) (i, place, t)
+once i place t = again_on near Nowhere (λ y. suc (length y.2)) (λ y. omega arith) (i, place, t)
 
-none_left : (passed : List Bool) (i : ℕ) (place : Place) → deciding_from passed i place [] ≡ Nowhere
+none_left : (i : ℕ) (place : Place) → deciding_from i place [] ≡ Nowhere
 unfolding deciding_on
-none_left passed i place = once passed i place []
+none_left i place = once i place []
 
 -- a step that is known, and what it comes to
-stepped : (passed : List Bool) (i : ℕ) (place : Place) (t : List ℕ) {s x : EvidenceStep} → s ≡ x → s ≡ passing_step passed place t → 0 < length t
-    → deciding_from passed i place t ≡ behind_step (from passed) i t x
-stepped passed i place t e q h = once passed i place t ∙ on_some passed (from passed) i place t h ∙ ap (behind_step (from passed) i t) (sym q ∙ e)
+stepped : (i : ℕ) (place : Place) (t : List ℕ) {s x : EvidenceStep} → s ≡ x → s ≡ evidence_step place t → 0 < length t → deciding_from i place t ≡ behind_step from i t x
+stepped i place t e q h = once i place t ∙ on_some from i place t h ∙ ap (behind_step from i t) (sym q ∙ e)
 
 -- what is left of the line answers what the line does, w
-pub record Scanned (passed : List Bool) (line : List ℕ) (w : Found) (place : Place) (i : ℕ) : Type 0 where
+pub record Scanned (line : List ℕ) (w : Found) (place : Place) (i : ℕ) : Type 0 where
   pub within : i ≤ length line
-  pub gives : deciding_from passed i place (drop i line) ≡ w
+  pub gives : deciding_from i place (drop i line) ≡ w
 
 number_le : (l : List ℕ) → number_length l ≤ length l
 unfolding number_length
@@ -285,39 +242,39 @@ number_is l {a} {n} q p =
 pub number_fits : (l : List ℕ) {a n : ℕ} → n ≡ front is_digit (rest l a) → a ≡ front is_white l → Fits w64 (length l) → Fits w64 (a + n)
 number_fits l q p f = record { fits = omega (arith, f.fits, number_is l q p, number_le l) }
 
-pub scanned_start : (passed : List Bool) (l : List ℕ) {i : ℕ} → i ≡ number_length l → Scanned passed l (deciding_place passed l) Start i
+pub scanned_start : (l : List ℕ) {i : ℕ} → i ≡ number_length l → Scanned l (deciding_place l) Start i
 unfolding deciding_place
-scanned_start passed l {i} e = record { within = omega (arith, number_le l); gives = ap (λ (n : ℕ). deciding_from passed n Start (drop n l)) e }
+scanned_start l {i} e = record { within = omega (arith, number_le l); gives = ap (λ (n : ℕ). deciding_from n Start (drop n l)) e }
 
-pub scanned_end : {passed : List Bool} {line : List ℕ} {w : Found} {place : Place} {i : ℕ} → length line ≤ i → Scanned passed line w place i → Nowhere ≡ w
-scanned_end {passed} {line} {w} {place} {i} h k = sym (none_left passed i place) ∙ (rw (drop_of_length-le line h) at k.gives)
+pub scanned_end : {line : List ℕ} {w : Found} {place : Place} {i : ℕ} → length line ≤ i → Scanned line w place i → Nowhere ≡ w
+scanned_end {line} {w} {place} {i} h k = sym (none_left i place) ∙ (rw (drop_of_length-le line h) at k.gives)
 
-pub empty_nowhere : (passed : List Bool) (line : List ℕ) → length line ≡ 0 → Nowhere ≡ deciding_place passed line
-empty_nowhere passed line h = scanned_end {i = number_length line} (omega arith) (scanned_start passed line refl)
+pub empty_nowhere : (line : List ℕ) → length line ≡ 0 → Nowhere ≡ deciding_place line
+empty_nowhere line h = scanned_end {i = number_length line} (omega arith) (scanned_start line refl)
 
-module _ (passed : List Bool) (line : List ℕ) (place : Place) (i : ℕ) {s : EvidenceStep} where
-  there : {x : EvidenceStep} → s ≡ x → s ≡ passing_step passed place (rest line i) → i < length line → deciding_from passed i place (drop i line) ≡ behind_step (from passed) i (drop i line) x
-  there e q h = stepped passed i place (drop i line) e (q ∙ ap (passing_step passed place) (tail line i)) (omega (arith, length-drop i line))
+module _ (line : List ℕ) (place : Place) (i : ℕ) {s : EvidenceStep} where
+  there : {x : EvidenceStep} → s ≡ x → s ≡ evidence_step place (rest line i) → i < length line → deciding_from i place (drop i line) ≡ behind_step from i (drop i line) x
+  there e q h = stepped i place (drop i line) e (q ∙ ap (evidence_step place) (tail line i)) (omega (arith, length-drop i line))
 
-  pub scanned_proved : {w : Found} → s ≡ Proved → s ≡ passing_step passed place (rest line i) → i < length line → Scanned passed line w place i → At i ≡ w
+  pub scanned_proved : {w : Found} → s ≡ Proved → s ≡ evidence_step place (rest line i) → i < length line → Scanned line w place i → At i ≡ w
   scanned_proved e q h k = sym (there e q h) ∙ k.gives
 
-  pub scanned_remark : {w : Found} → s ≡ Remark → s ≡ passing_step passed place (rest line i) → i < length line → Scanned passed line w place i → Nowhere ≡ w
+  pub scanned_remark : {w : Found} → s ≡ Remark → s ≡ evidence_step place (rest line i) → i < length line → Scanned line w place i → Nowhere ≡ w
   scanned_remark e q h k = sym (there e q h) ∙ k.gives
 
-  module _ {used : ℕ} {next : Place} (e : s ≡ On used next) (q : s ≡ passing_step passed place (rest line i)) (h : i < length line) where
+  module _ {used : ℕ} {next : Place} (e : s ≡ On used next) (q : s ≡ evidence_step place (rest line i)) (h : i < length line) where
     far : (0 < used) × (i + used ≤ length line)
     far =
-        let f : Far (length (rest line i)) (passing_step passed place (rest line i)) = pass_far passed place (rest line i) (omega (arith, rest_long line i)) in
+        let f : Far (length (rest line i)) (evidence_step place (rest line i)) = far_step place (rest line i) (omega (arith, rest_long line i)) in
         let g : Far (length (rest line i)) (On used next) = subst (Far (length (rest line i))) (sym q ∙ e) f in
         (g.0, omega (arith, g.1, rest_long line i))
 
     pub on_fits : Fits w64 (length line) → Fits w64 (i + used)
     on_fits f = record { fits = omega (arith, f.fits, far.1) }
 
-    scanned_turn : {w : Found} → Scanned passed line w place i → Scanned passed line w next (i + used)
+    scanned_turn : {w : Found} → Scanned line w place i → Scanned line w next (i + used)
     scanned_turn k =
-        record { within = far.1; gives = ap (deciding_from passed (i + used) next) (sym (drop-drop used i line)) ∙ sym (there e q h) ∙ k.gives }
+        record { within = far.1; gives = ap (deciding_from (i + used) next) (sym (drop-drop used i line)) ∙ sym (there e q h) ∙ k.gives }
 
 first_there : (line : List ℕ) (j : ℕ) → get_or (rest line j) 0 0 ≡ get_or line j 0
 first_there line j = ap (λ (t : List ℕ). get_or t 0 0) (tail line j) ∙ get_or-drop j line 0 0 ∙ ap (λ (n : ℕ). get_or line n 0) (add-zero j)
@@ -330,37 +287,36 @@ module _ (place : Place) (b : ℕ) where
   pub gap : {r : Bool} → r ≡ is_plain place → b ≡ 0x20 → r ≡ (eqb b 0x20 && is_plain place)
   gap p e = p ∙ simp (eq-eqb _ _ e)
 
-pub gap_turn : (passed : List Bool) (line : List ℕ) (place : Place) (i : ℕ) {w : Found} {r : Bool} → r ≡ true → r ≡ (eqb (get_or line i 0) 0x20 && is_plain place) → i < length line
-    → Scanned passed line w place i → Scanned passed line w place (i + 1)
+pub gap_turn : (line : List ℕ) (place : Place) (i : ℕ) {w : Found} {r : Bool} → r ≡ true → r ≡ (eqb (get_or line i 0) 0x20 && is_plain place) → i < length line
+    → Scanned line w place i → Scanned line w place (i + 1)
 unfolding evidence_step
-gap_turn passed line place i {w} {r} e g h k = go (eqb (get_or line i 0) 0x20) refl (is_plain place) refl (sym g ∙ e)
+gap_turn line place i {w} {r} e g h k = go (eqb (get_or line i 0) 0x20) refl (is_plain place) refl (sym g ∙ e)
   where
-    go : (a : Bool) → eqb (get_or line i 0) 0x20 ≡ a → (b : Bool) → is_plain place ≡ b → (a && b) ≡ true → Scanned passed line w place (i + 1)
+    go : (a : Bool) → eqb (get_or line i 0) 0x20 ≡ a → (b : Bool) → is_plain place ≡ b → (a && b) ≡ true → Scanned line w place (i + 1)
     go true p true q f =
         let s : On 1 place ≡ evidence_step place (rest line i) =
         space_step place (rest line i) (first_there line i ∙ eqb-true _ _ p) ∙ sym (taken _ _ q) in
-        scanned_turn passed line place i {s = On 1 place} refl (pass_on passed place (rest line i) s) h k
+        scanned_turn line place i {s = On 1 place} refl s h k
     go true p false q f = absurd (false≢true f)
     go false p b q f = absurd (false≢true f)
 
 -- ---- a step, and the bytes of a string or of DATA behind it
 
-same_turn : (passed : List Bool) (line : List ℕ) (place : Place) (j : ℕ) {w : Found} → j < length line → Same place (get_or line j 0) → Scanned passed line w place j
-    → Scanned passed line w place (j + 1)
+same_turn : (line : List ℕ) (place : Place) (j : ℕ) {w : Found} → j < length line → Same place (get_or line j 0) → Scanned line w place j → Scanned line w place (j + 1)
 unfolding evidence_step
-same_turn passed line place j h s k =
+same_turn line place j h s k =
     let q : On 1 place ≡ evidence_step place (rest line j) = sym (left _ _ s.apart ∙ ap (On 1) (ap (aside place) (first_there line j) ∙ s.same)) in
-    scanned_turn passed line place j {s = On 1 place} refl (pass_on passed place (rest line j) q) h k
+    scanned_turn line place j {s = On 1 place} refl q h k
 
-module _ (passed : List Bool) (line : List ℕ) (place : Place) (i : ℕ) {s : EvidenceStep} {used : ℕ} {next : Place} (e : s ≡ On used next) (q : s ≡ passing_step passed place (rest line i)) (h : i < length line) where
+module _ (line : List ℕ) (place : Place) (i : ℕ) {s : EvidenceStep} {used : ℕ} {next : Place} (e : s ≡ On used next) (q : s ≡ evidence_step place (rest line i)) (h : i < length line) where
   pub behind_some : 0 < used
-  behind_some = (far passed line place i e q h).0
+  behind_some = (far line place i e q h).0
 
   pub behind_within : i + used ≤ length line
-  behind_within = (far passed line place i e q h).1
+  behind_within = (far line place i e q h).1
 
-  pub scanned_stretch : {w : Found} {n : ℕ} → n ≡ front (stays next) (rest line (i + used)) → Scanned passed line w place i → Scanned passed line w next (i + used + n)
-  scanned_stretch {w} p k = stretch line next i used p behind_within (Scanned passed line w next) (λ j g o. same_turn passed line next j g o) (scanned_turn passed line place i e q h k)
+  pub scanned_stretch : {w : Found} {n : ℕ} → n ≡ front (stays next) (rest line (i + used)) → Scanned line w place i → Scanned line w next (i + used + n)
+  scanned_stretch {w} p k = stretch line next i used p behind_within (Scanned line w next) (λ j g o. same_turn line next j g o) (scanned_turn line place i e q h k)
 
 -- ---- a word decides exactly where there is evidence, and stands within the line
 
@@ -368,83 +324,63 @@ abbrev is_at : Found → Bool
 is_at (At i) = true
 is_at Nowhere = false
 
-same_walk : (k i : ℕ) (place : Place) (t : List ℕ) → is_at (again Nowhere (deciding_on []) k (i, place, t)) ≡ again false evidence_on k (place, t)
+same_walk : (k i : ℕ) (place : Place) (t : List ℕ) → is_at (again Nowhere deciding_on k (i, place, t)) ≡ again false evidence_on k (place, t)
 unfolding again deciding_on evidence_on
 same_walk zero i place t = refl
 same_walk (suc k) i place [] = refl
-same_walk (suc k) i place (b ∷ s) =
-    ap (λ (x : EvidenceStep). is_at (elim x [ Proved ↦ At i | Remark ↦ Nowhere | On used next ↦ again Nowhere (deciding_on []) k (i + used, next, drop used (b ∷ s)) ])) (none_passed place (b ∷ s))
-    ∙ go (evidence_step place (b ∷ s)) (λ j next u. same_walk k j next u)
+same_walk (suc k) i place (b ∷ s) = go (evidence_step place (b ∷ s)) (λ j next u. same_walk k j next u)
   where
-    go : (x : EvidenceStep) → ((j : ℕ) (next : Place) (u : List ℕ) → is_at (again Nowhere (deciding_on []) k (j, next, u)) ≡ again false evidence_on k (next, u))
-        → is_at (elim x [ Proved ↦ At i | Remark ↦ Nowhere | On used next ↦ again Nowhere (deciding_on []) k (i + used, next, drop used (b ∷ s)) ])
+    go : (x : EvidenceStep) → ((j : ℕ) (next : Place) (u : List ℕ) → is_at (again Nowhere deciding_on k (j, next, u)) ≡ again false evidence_on k (next, u))
+        → is_at (elim x [ Proved ↦ At i | Remark ↦ Nowhere | On used next ↦ again Nowhere deciding_on k (i + used, next, drop used (b ∷ s)) ])
         ≡ elim x [ Proved ↦ true | Remark ↦ false | On used next ↦ again false evidence_on k (next, drop used (b ∷ s)) ]
     go Proved f = refl
     go Remark f = refl
     go (On used next) f = f (i + used) next (drop used (b ∷ s))
 
-place_by_evidence : (l : List ℕ) → is_at (deciding_place [] l) ≡ line_evidence l
+place_by_evidence : (l : List ℕ) → is_at (deciding_place l) ≡ line_evidence l
 unfolding deciding_place deciding_from line_evidence evidence_from
 place_by_evidence l = same_walk (suc (length (drop (number_length l) l))) (number_length l) Start (drop (number_length l) l)
 
 pub word_by_evidence : (l : List ℕ) → decides (deciding_word l) ≡ line_evidence l
 unfolding deciding_word decides
-word_by_evidence l = go (deciding_place [] l) ∙ place_by_evidence l
+word_by_evidence l = go (deciding_place l) ∙ place_by_evidence l
   where
     go : (f : Found) → decides (elim f [ At i ↦ Decides i (list_place (drop i l)) | Nowhere ↦ NoneDecides ]) ≡ is_at f
     go (At i) = refl
     go Nowhere = refl
 
-walk_within : (passed : List Bool) (k i : ℕ) (place : Place) (t : List ℕ) {j : ℕ} → again Nowhere (deciding_on passed) k (i, place, t) ≡ At j → j ≤ i + length t
+walk_within : (k i : ℕ) (place : Place) (t : List ℕ) {j : ℕ} → again Nowhere deciding_on k (i, place, t) ≡ At j → j ≤ i + length t
 unfolding again deciding_on
-walk_within passed zero i place t {j} e = let z : ◌≡◌ {A = ℕ} 0 1 = cc in absurd (omega arith)
-walk_within passed (suc k) i place [] {j} e = let z : ◌≡◌ {A = ℕ} 0 1 = cc in absurd (omega arith)
-walk_within passed (suc k) i place (b ∷ s) {j} e = go (passing_step passed place (b ∷ s)) (pass_far passed place (b ∷ s) (omega arith)) (λ n next u q. walk_within passed k n next u q) e
+walk_within zero i place t {j} e = let z : ◌≡◌ {A = ℕ} 0 1 = cc in absurd (omega arith)
+walk_within (suc k) i place [] {j} e = let z : ◌≡◌ {A = ℕ} 0 1 = cc in absurd (omega arith)
+walk_within (suc k) i place (b ∷ s) {j} e = go (evidence_step place (b ∷ s)) (far_step place (b ∷ s) (omega arith)) (λ n next u q. walk_within k n next u q) e
   where
-    go : (x : EvidenceStep) → Far (suc (length s)) x → ((n : ℕ) (next : Place) (u : List ℕ) → again Nowhere (deciding_on passed) k (n, next, u) ≡ At j → j ≤ n + length u)
-        → elim x [ Proved ↦ At i | Remark ↦ Nowhere | On used next ↦ again Nowhere (deciding_on passed) k (i + used, next, drop used (b ∷ s)) ] ≡ At j
+    go : (x : EvidenceStep) → Far (suc (length s)) x → ((n : ℕ) (next : Place) (u : List ℕ) → again Nowhere deciding_on k (n, next, u) ≡ At j → j ≤ n + length u)
+        → elim x [ Proved ↦ At i | Remark ↦ Nowhere | On used next ↦ again Nowhere deciding_on k (i + used, next, drop used (b ∷ s)) ] ≡ At j
         → j ≤ i + suc (length s)
     go Proved d f q = let p : i ≡ j = cc in omega arith
     go Remark d f q = let z : ◌≡◌ {A = ℕ} 0 1 = cc in absurd (omega arith)
     go (On used next) d f q = omega (arith, f (i + used) next (drop used (b ∷ s)) q, length-drop used (b ∷ s), d.1)
 
 module _ (l : List ℕ) {f : Found} where
-  pub evidence_somewhere : {i : ℕ} → f ≡ At i → f ≡ deciding_place [] l → true ≡ line_evidence l
+  pub evidence_somewhere : {i : ℕ} → f ≡ At i → f ≡ deciding_place l → true ≡ line_evidence l
   evidence_somewhere e q = sym (ap is_at (sym q ∙ e)) ∙ place_by_evidence l
 
-  pub evidence_nowhere : f ≡ Nowhere → f ≡ deciding_place [] l → false ≡ line_evidence l
+  pub evidence_nowhere : f ≡ Nowhere → f ≡ deciding_place l → false ≡ line_evidence l
   evidence_nowhere e q = sym (ap is_at (sym q ∙ e)) ∙ place_by_evidence l
 
-  pub place_within : {i : ℕ} → f ≡ At i → f ≡ deciding_place [] l → i ≤ length l
+  pub place_within : {i : ℕ} → f ≡ At i → f ≡ deciding_place l → i ≤ length l
   unfolding deciding_place deciding_from
   place_within e q =
-      omega (arith, walk_within [] (suc (length (drop (number_length l) l))) (number_length l) Start (drop (number_length l) l) (sym q ∙ e), length-drop (number_length l) l, number_le l)
+      omega (arith, walk_within (suc (length (drop (number_length l) l))) (number_length l) Start (drop (number_length l) l) (sym q ∙ e), length-drop (number_length l) l, number_le l)
 
-  pub word_told : {i n : ℕ} → n ≡ list_place (rest l i) → f ≡ At i → f ≡ deciding_place [] l → Decides i n ≡ deciding_word l
+  pub word_told : {i n : ℕ} → n ≡ list_place (rest l i) → f ≡ At i → f ≡ deciding_place l → Decides i n ≡ deciding_word l
   unfolding deciding_word
   word_told {i} p e q = rw (deciding_word, sym q ∙ e) (ap (Decides i) (p ∙ ap list_place (tail l i)))
 
-  pub no_word_told : f ≡ Nowhere → f ≡ deciding_place [] l → NoneDecides ≡ deciding_word l
+  pub no_word_told : f ≡ Nowhere → f ≡ deciding_place l → NoneDecides ≡ deciding_word l
   unfolding deciding_word
   no_word_told e q = rw (deciding_word, sym q ∙ e)
-
--- a line proves it by a word that is not passed over
-module _ (passed : List Bool) (l : List ℕ) {f : Found} where
-  pub but_somewhere : {i : ℕ} → f ≡ At i → f ≡ deciding_place passed l → true ≡ line_evidence_but passed l
-  unfolding line_evidence_but
-  but_somewhere e q = rw (line_evidence_but, sym q ∙ e)
-
-  pub but_nowhere : f ≡ Nowhere → f ≡ deciding_place passed l → false ≡ line_evidence_but passed l
-  unfolding line_evidence_but
-  but_nowhere e q = rw (line_evidence_but, sym q ∙ e)
-
-module _ (passed : List Bool) (t : List ℕ) {n : ℕ} where
-  pub passed_there : n ≡ list_place t → get_or passed n false ≡ is_passed passed t
-  unfolding is_passed
-  passed_there q = ap (λ (k : ℕ). get_or passed k false) q
-
-  pub passed_beyond : length passed ≤ n → n ≡ list_place t → false ≡ is_passed passed t
-  passed_beyond h q = sym (get_or-eq_default passed false h) ∙ passed_there q
 
 module _ (t : List ℕ) {m : Match} where
   pub place_listed : {index used token : ℕ} → m ≡ Word index used token → m ≡ word_in tsb_words t → index ≡ list_place t

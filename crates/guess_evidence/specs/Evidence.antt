@@ -78,56 +78,35 @@ unfoldable pub line_evidence : List ℕ → Bool
 unfolding evidence_from number_length
 line_evidence l = evidence_from Start (drop (number_length l) l)
 
--- ---- the same walk, which answers where the word that proves it stands; it may pass words over, as words that prove nothing
+-- ---- the same walk, which answers where the word that proves it stands
+
+-- a step so many bytes into the line; then on from behind it
+unfoldable pub deciding_on : (ℕ × Place × List ℕ → Found) → ℕ × Place × List ℕ → Found
+unfolding evidence_step
+deciding_on more x =
+    elim x.2 [
+      | [] ↦ Nowhere
+      | b ∷ s ↦ elim (evidence_step x.1 x.2) [ Proved ↦ At x.0 | Remark ↦ Nowhere | On used next ↦ more (x.0 + used, next, drop used x.2) ]
+    ]
+
+unfoldable pub deciding_from : ℕ → Place → List ℕ → Found
+unfolding again deciding_on
+deciding_from i place t = again Nowhere deciding_on (suc (length t)) (i, place, t)
+
+unfoldable pub deciding_place : List ℕ → Found
+unfolding deciding_from number_length
+deciding_place l = deciding_from (number_length l) Start (drop (number_length l) l)
 
 -- the place in the list of the TSB word that a text begins with; 0 where there is none
 unfoldable pub list_place : List ℕ → ℕ
 unfolding word_in tsb_words
 list_place t = elim (word_in tsb_words t) [ Word index used token ↦ index | Nothing ↦ 0 ]
 
--- the word that a text begins with is one of those that are passed over
-unfoldable pub is_passed : List Bool → List ℕ → Bool
-unfolding list_place
-is_passed passed t = get_or passed (list_place t) false
-
--- a step of this walk: behind a word that is passed over the scan goes on as behind one that proves nothing
-unfoldable pub passing_step : List Bool → Place → List ℕ → EvidenceStep
-unfolding evidence_step is_passed
-passing_step passed place t =
-    elim (evidence_step place t) [
-      | Proved ↦ elim (is_passed passed t) [ true ↦ On 1 Within | false ↦ Proved ]
-      | Remark ↦ Remark
-      | On used next ↦ On used next
-    ]
-
--- a step so many bytes into the line; then on from behind it
-unfoldable pub deciding_on : List Bool → (ℕ × Place × List ℕ → Found) → ℕ × Place × List ℕ → Found
-unfolding passing_step
-deciding_on passed more x =
-    elim x.2 [
-      | [] ↦ Nowhere
-      | b ∷ s ↦ elim (passing_step passed x.1 x.2) [ Proved ↦ At x.0 | Remark ↦ Nowhere | On used next ↦ more (x.0 + used, next, drop used x.2) ]
-    ]
-
-unfoldable pub deciding_from : List Bool → ℕ → Place → List ℕ → Found
-unfolding again deciding_on
-deciding_from passed i place t = again Nowhere (deciding_on passed) (suc (length t)) (i, place, t)
-
-unfoldable pub deciding_place : List Bool → List ℕ → Found
-unfolding deciding_from number_length
-deciding_place passed l = deciding_from passed (number_length l) Start (drop (number_length l) l)
-
--- the first word that proves it, where none is passed over
 unfoldable pub deciding_word : List ℕ → DecidingWord
 unfolding deciding_place list_place
-deciding_word l = elim (deciding_place [] l) [ At i ↦ Decides i (list_place (drop i l)) | Nowhere ↦ NoneDecides ]
+deciding_word l = elim (deciding_place l) [ At i ↦ Decides i (list_place (drop i l)) | Nowhere ↦ NoneDecides ]
 
 -- a word decides
 unfoldable pub decides : DecidingWord → Bool
 decides (Decides offset word) = true
 decides NoneDecides = false
-
--- a line proves it by a word that is not passed over
-unfoldable pub line_evidence_but : List Bool → List ℕ → Bool
-unfolding deciding_place
-line_evidence_but passed l = elim (deciding_place passed l) [ At i ↦ true | Nowhere ↦ false ]

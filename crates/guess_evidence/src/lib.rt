@@ -1,9 +1,11 @@
 // Whether a line uses a TSB word as a statement, as a function or as ELSE; and where.
+#![tactic(auto)]
+
 ghost use Rattle.std.specs.Prelude.{◌≡◌, ◌≤◌, ◌<◌, true, false, ◌&&◌, eqb, length, get_or};
 ghost use Rattle.base_ascii.specs.Bytes.{is_letter};
 ghost use Rattle.base_ascii.specs.declared.search.Kind.TheVariants.{White};
 ghost use Rattle.word_tables.specs.WordsHelpers.{SpellsWords};
-ghost use Rattle.guess_evidence.specs.Evidence.{word_proves, statement_step, evidence_step, number_length, line_evidence, list_place, is_passed, passing_step, deciding_place, deciding_word, line_evidence_but};
+ghost use Rattle.guess_evidence.specs.Evidence.{word_proves, statement_step, evidence_step, number_length, line_evidence, list_place, deciding_place, deciding_word};
 ghost use Rattle.guess_places.specs.Places.{is_plain};
 ghost use Rattle.guess_uses.specs.MarkHelpers.{MarksOf};
 
@@ -16,14 +18,14 @@ use word_search::Match;
 use word_tables::spellings;
 
 // The first word of a line that proves that a text is TSB.
-#[derive(Drop)]
+#[derive(Clone, Copy)]
 pub enum DecidingWord {
     // Where it stands in the line, and its place in the TSB list.
     Decides { offset: usize, word: usize },
     NoneDecides,
 }
 
-#[derive(Drop)]
+#[derive(Clone, Copy)]
 pub enum EvidenceStep {
     // A TSB word that proves it.
     Proved,
@@ -31,9 +33,6 @@ pub enum EvidenceStep {
     Remark,
     On { used: usize, place: Place },
 }
-
-// No word of the list is passed over.
-const NO_WORDS: [bool; 0] = [];
 
 // Whether a TSB word stands in front of a text, and proves that the text is TSB.
 fn word_proves(place: Place, text: &[u8], marks: &[u8], bytes: &[u8], index: &[u16]) -> bool
@@ -147,42 +146,6 @@ fn list_place(text: &[u8], bytes: &[u8], index: &[u16]) -> usize
     }
 }
 
-// Whether the TSB word that a text begins with is one of those that are passed over.
-fn is_passed(text: &[u8], passed: &[bool], bytes: &[u8], index: &[u16]) -> bool
-    requires { SpellsWords bytes.now index.now }
-    ensures { result ≡ is_passed passed.now text.now }
-{
-    let word = list_place(text, bytes, index);
-    if word < passed.len() {
-        return passed[word];
-    }
-    false
-}
-
-// The same, where a word that is passed over proves nothing.
-fn passing_step(
-    place: Place,
-    text: &[u8],
-    passed: &[bool],
-    marks: &[u8],
-    bytes: &[u8],
-    index: &[u16],
-) -> EvidenceStep
-    requires { SpellsWords bytes.now index.now × (0 < length text.now) × MarksOf White text.now marks.now }
-    ensures { result ≡ passing_step passed.now place text.now }
-{
-    match evidence_step(place, text, marks, bytes, index) {
-        EvidenceStep::Proved => {
-            if is_passed(text, passed, bytes, index) {
-                return on(1, Place::Within);
-            }
-            EvidenceStep::Proved
-        }
-        EvidenceStep::Remark => EvidenceStep::Remark,
-        EvidenceStep::On { used, place: next } => on(used, next),
-    }
-}
-
 // Whether a byte is a space outside strings and DATA, which leaves the place as it is.
 fn is_gap(place: Place, b: u8) -> bool
     ensures { result ≡ (eqb b 0x20 && is_plain place) }
@@ -194,9 +157,9 @@ fn is_gap(place: Place, b: u8) -> bool
 }
 
 // A space is passed without a step, since no byte is more frequent.
-fn marked_place(line: &[u8], passed: &[bool], marks: &[u8], bytes: &[u8], index: &[u16]) -> Found
+fn marked_place(line: &[u8], marks: &[u8], bytes: &[u8], index: &[u16]) -> Found
     requires { SpellsWords bytes.now index.now × MarksOf White line.now marks.now }
-    ensures { result ≡ deciding_place passed.now line.now }
+    ensures { result ≡ deciding_place line.now }
 {
     let mut i = number_length(line);
     let mut place = Place::Start;
@@ -204,7 +167,7 @@ fn marked_place(line: &[u8], passed: &[bool], marks: &[u8], bytes: &[u8], index:
         if is_gap(place, line[i]) {
             i += 1;
         } else {
-            match passing_step(place, &line[i..], passed, marks, bytes, index) {
+            match evidence_step(place, &line[i..], marks, bytes, index) {
                 EvidenceStep::Proved => {
                     return Found::At(i);
                 }
@@ -222,31 +185,31 @@ fn marked_place(line: &[u8], passed: &[bool], marks: &[u8], bytes: &[u8], index:
     Found::Nowhere
 }
 
-fn long_place(line: &[u8], passed: &[bool], bytes: &[u8], index: &[u16]) -> Found
+fn long_place(line: &[u8], bytes: &[u8], index: &[u16]) -> Found
     requires { SpellsWords bytes.now index.now × (length line.now ≤ 16384) }
-    ensures { result ≡ deciding_place passed.now line.now }
+    ensures { result ≡ deciding_place line.now }
 {
     let mut marks = [0u8; 2048];
     let mut levels = [0u8; 2048];
     lists::mark_long(line, Kind::White, &mut marks, &mut levels);
-    marked_place(line, passed, &marks, bytes, index)
+    marked_place(line, &marks, bytes, index)
 }
 
-fn longest_place(line: &[u8], passed: &[bool], bytes: &[u8], index: &[u16]) -> Found
+fn longest_place(line: &[u8], bytes: &[u8], index: &[u16]) -> Found
     requires { SpellsWords bytes.now index.now × (length line.now ≤ 1048576) }
-    ensures { result ≡ deciding_place passed.now line.now }
+    ensures { result ≡ deciding_place line.now }
 {
     let mut marks = [0u8; 131072];
     let mut levels = [0u8; 131072];
     lists::mark_longest(line, Kind::White, &mut marks, &mut levels);
-    marked_place(line, passed, &marks, bytes, index)
+    marked_place(line, &marks, bytes, index)
 }
 
-// Where the first word that proves it stands, of those that are not passed over. A short line needs no room for marks, a longer one 4 KB or
-// 256 KB; no text has a line that is longer still.
-fn deciding_place(line: &[u8], passed: &[bool], bytes: &[u8], index: &[u16]) -> Found
+// Where the first word that proves it stands. A short line needs no room for marks, a longer one 4 KB or 256 KB; no text has a line that is
+// longer still.
+fn deciding_place(line: &[u8], bytes: &[u8], index: &[u16]) -> Found
     requires { SpellsWords bytes.now index.now }
-    ensures { result ≡ deciding_place passed.now line.now }
+    ensures { result ≡ deciding_place line.now }
 {
     let n = line.len();
     // Of a line of blanks nothing is left.
@@ -255,13 +218,13 @@ fn deciding_place(line: &[u8], passed: &[bool], bytes: &[u8], index: &[u16]) -> 
     }
     if n > 256 {
         if n <= 16384 {
-            return long_place(line, passed, bytes, index);
+            return long_place(line, bytes, index);
         }
         if n <= 1048576 {
-            return longest_place(line, passed, bytes, index);
+            return longest_place(line, bytes, index);
         }
     }
-    marked_place(line, passed, b"", bytes, index)
+    marked_place(line, b"", bytes, index)
 }
 
 // Whether a line proves that a text is TSB.
@@ -269,18 +232,7 @@ pub fn line_evidence(line: &[u8], bytes: &[u8], index: &[u16]) -> bool
     requires { SpellsWords bytes.now index.now }
     ensures { result ≡ line_evidence line.now }
 {
-    match deciding_place(line, &NO_WORDS, bytes, index) {
-        Found::At(_) => true,
-        Found::Nowhere => false,
-    }
-}
-
-// The same by the words that are not passed over.
-pub fn line_evidence_but(line: &[u8], passed: &[bool], bytes: &[u8], index: &[u16]) -> bool
-    requires { SpellsWords bytes.now index.now }
-    ensures { result ≡ line_evidence_but passed.now line.now }
-{
-    match deciding_place(line, passed, bytes, index) {
+    match deciding_place(line, bytes, index) {
         Found::At(_) => true,
         Found::Nowhere => false,
     }
@@ -291,7 +243,7 @@ fn word_with(line: &[u8], bytes: &[u8], index: &[u16]) -> DecidingWord
     requires { SpellsWords bytes.now index.now }
     ensures { result ≡ deciding_word line.now }
 {
-    match deciding_place(line, &NO_WORDS, bytes, index) {
+    match deciding_place(line, bytes, index) {
         Found::At(offset) => DecidingWord::Decides {
             offset,
             word: list_place(&line[offset..], bytes, index),

@@ -7,7 +7,7 @@ ghost use Rattle.guess_places.specs.PlaceHelpers.{stays};
 use base_ascii::search;
 use base_ascii::search::Kind;
 
-#[derive(Drop)]
+#[derive(Clone, Copy)]
 pub enum Place {
     // At the start of a statement.
     Start,

@@ -81,13 +81,13 @@ module _ {s : List ℕ} {depth i : ℕ} where
       ap (closing depth) (here s i h) ∙ open_one _ _ depth (λ f. omega arith) e ∙ ap (λ (x : ℕ). suc (closing x (drop (i + 1) s))) (sym d) in
       record { within = omega arith; shallow = omega arith; gives = omega arith }
 
-  pub listed_on_lem : (get_or s i 0 ≡ 0x29 → ⊥) → (get_or s i 0 ≡ 0x28 → ⊥) → i < length s → Listed s depth i → Listed s depth (i + 1)
-  listed_on_lem n m h k =
+  pub listed_on : (get_or s i 0 ≡ 0x29 → ⊥) → (get_or s i 0 ≡ 0x28 → ⊥) → i < length s → Listed s depth i → Listed s depth (i + 1)
+  listed_on n m h k =
       let c : closing depth (drop i s) ≡ suc (closing depth (drop (i + 1) s)) = ap (closing depth) (here s i h) ∙ keep _ _ depth n m in
       record { within = omega arith; shallow = omega arith; gives = omega arith }
 
   pub listed_above : 0x29 < get_or s i 0 → i < length s → Listed s depth i → Listed s depth (i + 1)
-  listed_above a h k = listed_on_lem (λ e. omega arith) (λ e. omega arith) h k
+  listed_above a h k = listed_on (λ e. omega arith) (λ e. omega arith) h k
 
 closing_le : (s : List ℕ) (d : ℕ) → closing d s ≤ length s
 unfolding closing

@@ -1,4 +1,6 @@
 // Which TSB words a line uses as variables.
+#![tactic(auto)]
+
 ghost use Rattle.std.specs.Prelude.{◌≡◌, reverse, ◌+◌, ◌≤◌, ◌<◌, true, length, get_or, take, drop};
 ghost use Rattle.base_ascii.specs.Bytes.{is_letter};
 ghost use Rattle.base_ascii.specs.declared.search.Kind.TheVariants.{Space};
@@ -13,7 +15,7 @@ use guess_places::{beginnings, place};
 use guess_uses::{ahead, lists};
 use word_search::Match;
 
-#[derive(Drop)]
+#[derive(Clone, Copy)]
 pub enum Pass {
     // A remark: the rest of the line counts for nothing.
     Remark,

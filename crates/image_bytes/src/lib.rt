@@ -1,5 +1,7 @@
 // What stands in an image's bytes, before any line is known: numbers of two bytes, addresses, where a link leads, the next 00. Both
 // readers are made of these.
+#![tactic(auto)]
+
 ghost use Rattle.std.specs.Prelude.{◌≡◌, ◌+◌, ◌*◌, ◌≤◌, ◌<◌, length};
 ghost use Rattle.image_bytes.specs.ImageBytes.{low_first_at, address_at, target_at, before_zero, body_end};
 

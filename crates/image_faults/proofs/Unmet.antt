@@ -9,28 +9,27 @@ use Rattle.image_marks.specs.Marks.{has_mark}
 use Rattle.image_jumps.specs.declared.Cursor.{Cursor}
 use Rattle.image_jumps.specs.declared.Next.{Next}
 use Rattle.image_jumps.specs.declared.Next.TheVariants.{Jump, None}
-use Rattle.image_jumps.specs.Jumps.{check_words}
 use Rattle.image_jumps.specs.JumpHelpers.{left_of, distance, JumpsTo, NextIs}
 use Rattle.image_faults.specs.Faults.{unmet}
 use Rattle.image_faults.specs.ToldHelpers.{UnmetIs}
 
 -- the targets up to a place are met
 pub record UnmetAhead (marked body : List ℕ) (c₀ c : Cursor) : Type 0 where
-  pub gives : unmet (has_mark marked) (left_of check_words body c) ≡ unmet (has_mark marked) (left_of check_words body c₀)
+  pub gives : unmet (has_mark marked) (left_of body c) ≡ unmet (has_mark marked) (left_of body c₀)
 
 pub unmet_start : (marked body : List ℕ) (c : Cursor) → UnmetAhead marked body c c
 unmet_start marked body c = record { gives = refl }
 
-module _ {marked body : List ℕ} {c₀ c : Cursor} (k : UnmetAhead marked body c₀ c) {r : Next} (next : NextIs check_words body c r) where
+module _ {marked body : List ℕ} {c₀ c : Cursor} (k : UnmetAhead marked body c₀ c) {r : Next} (next : NextIs body c r) where
   module _ {target : ℕ} {d : Cursor} (is : r ≡ Jump target d) where
-    jumped : JumpsTo check_words body c target d
-    jumped = subst (NextIs check_words body c) is next
+    jumped : JumpsTo body c target d
+    jumped = subst (NextIs body c) is next
 
     pub unmet_less : distance body d < distance body c
     unmet_less = jumped.nearer
 
     module _ {b : Bool} (e : b ≡ has_mark marked target) where
-      here : unmet (has_mark marked) (left_of check_words body c₀) ≡ unmet (has_mark marked) (target ∷ left_of check_words body d)
+      here : unmet (has_mark marked) (left_of body c₀) ≡ unmet (has_mark marked) (target ∷ left_of body d)
       here = sym k.gives ∙ ap (unmet (has_mark marked)) jumped.same
 
       pub unmet_told : not b ≡ true → UnmetIs (has_mark marked) body c₀ (Jump target d)
@@ -43,4 +42,4 @@ module _ {marked body : List ℕ} {c₀ c : Cursor} (k : UnmetAhead marked body 
 
   pub unmet_end : r ≡ None → UnmetIs (has_mark marked) body c₀ None
   unfolding unmet
-  unmet_end is = let w : left_of check_words body c ≡ [] = subst (NextIs check_words body c) is next in sym k.gives ∙ ap (unmet (has_mark marked)) w
+  unmet_end is = let w : left_of body c ≡ [] = subst (NextIs body c) is next in sym k.gives ∙ ap (unmet (has_mark marked)) w

@@ -1,5 +1,5 @@
 -- The faults that make a program unfit for the master disk: by document 01's reader by links, the machine's limits (document 02, No. 1) and its
--- BASIC memory, the jumps of No. 13 and those behind RUN, and the machine's relinking.
+-- BASIC memory, the jumps of No. 13, and the machine's relinking.
 -- Assumes nothing.
 use Rattle.std.specs.Prelude.{ℕ, ◌+◌, Bool, true, false, cond, not, ◌&&◌, List, [], ◌∷◌, ◌++◌, map, ltb, length, drop}
 use Rattle.base_refusals.specs.Answer.{Answer, done, refused, map_done}
@@ -10,7 +10,7 @@ use Rattle.image_bytes.specs.ImageBytes.{low_first_at, address_at, before_zero}
 use Rattle.image_readers.specs.IndexLines.{index_line, has_line}
 use Rattle.image_readers.specs.Lines.{lines_from, lines_of}
 use Rattle.image_readers.specs.Links.{link_step}
-use Rattle.image_jumps.specs.Jumps.{jumps_from, jumps_of, check_words, low}
+use Rattle.image_jumps.specs.Jumps.{jumps_from, jumps_of, low}
 use Rattle.image_relink.specs.Relinking.{Relinking, same, changed, leaves, endless, relinking}
 use Rattle.image_faults.specs.declared.Fault.{Fault}
 use Rattle.image_faults.specs.declared.Fault.TheVariants.{OutsideMemory, NumberTooHigh, NotAscending, ZeroInBody, BodyLength, NoTarget, LinkChanges, LinksLeave, LinksEndless}
@@ -64,7 +64,7 @@ unmet has (t ∷ ts) = elim (has t) [ true ↦ unmet has ts | false ↦ t ∷ un
 -- targets above 65535 are told as 65536
 unfoldable pub jump_faults : (ℕ → Bool) → List ℕ → Line → List Fault
 unfolding jumps_from unmet
-jump_faults has s l = map (NoTarget l.number) (unmet has (map low (jumps_of check_words (body_of s l))))
+jump_faults has s l = map (NoTarget l.number) (unmet has (map low (jumps_of (body_of s l))))
 
 unfoldable pub line_faults : (ℕ → Bool) → List ℕ → ℕ → Line → List Fault
 unfolding number_faults order_faults zero_faults length_faults jump_faults

@@ -8,7 +8,6 @@ use Rattle.image_readers.specs.Links.{link_step}
 use Rattle.image_jumps.specs.declared.Cursor.{Cursor}
 use Rattle.image_jumps.specs.declared.Next.{Next}
 use Rattle.image_jumps.specs.declared.Next.TheVariants.{Jump, None}
-use Rattle.image_jumps.specs.Jumps.{check_words}
 use Rattle.image_jumps.specs.JumpHelpers.{left_of}
 use Rattle.image_faults.specs.declared.Fault.{Fault}
 use Rattle.image_faults.specs.declared.Told.{Told}
@@ -25,5 +24,5 @@ LineIs s p l = link_step s p ≡ done (line l)
 
 -- the next target that is not met, and what is left behind it
 abbrev pub UnmetIs : (ℕ → Bool) → List ℕ → Cursor → Next → Type 0
-UnmetIs has body c (Jump t d) = unmet has (left_of check_words body c) ≡ t ∷ unmet has (left_of check_words body d)
-UnmetIs has body c None = unmet has (left_of check_words body c) ≡ []
+UnmetIs has body c (Jump t d) = unmet has (left_of body c) ≡ t ∷ unmet has (left_of body d)
+UnmetIs has body c None = unmet has (left_of body c) ≡ []

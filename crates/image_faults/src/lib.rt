@@ -1,4 +1,6 @@
 // The faults that make a program unfit for the master disk: of the whole image, of a line, of a jump.
+#![tactic(auto)]
+
 ghost use Rattle.std.specs.Prelude.{◌≡◌, ◌+◌, ◌≤◌, get_or};
 ghost use Rattle.image_bytes.specs.ImageBytes.{low_first_at};
 ghost use Rattle.image_marks.specs.Marks.{has_mark};
@@ -10,7 +12,7 @@ use image_readers::{Line, terminators};
 use image_relink::Relinked;
 
 // What makes a program unfit. A number is that of the line.
-#[derive(Drop)]
+#[derive(Clone, Copy)]
 pub enum Fault {
     // It does not lie in the machine's BASIC memory, 0801 to 9FFF.
     OutsideMemory { load: u16, length: usize },
@@ -30,7 +32,7 @@ pub enum Fault {
 }
 
 // A fault, or none.
-#[derive(Drop)]
+#[derive(Clone, Copy)]
 pub enum Told {
     Fault(Fault),
     Nothing,
@@ -99,7 +101,7 @@ pub fn unmet_jump(body: &[u8], marked: &[u8], cursor: Cursor) -> Next
 {
     let mut cursor = cursor;
     loop {
-        match image_jumps::next_jump(body, image_jumps::CHECK_WORDS, cursor) {
+        match image_jumps::next_jump(body, cursor) {
             Next::Jump {
                 target,
                 cursor: behind,

@@ -1,4 +1,6 @@
 // A line by its number: links are followed up to the first line that has it.
+#![tactic(auto)]
+
 ghost use Rattle.std.specs.Prelude.{◌≡◌};
 ghost use Rattle.image_find.specs.Sought.{sought_answer, line_sought, body_in};
 
@@ -9,7 +11,7 @@ use image_readers::{Line, Step, links};
 const LONGEST: usize = 1048576;
 
 // What a search for a line answers.
-#[derive(Drop)]
+#[derive(Clone, Copy)]
 pub enum Sought {
     // The first line with the number, and the headers visited, its own among them.
     Found { visited: usize, line: Line },

@@ -80,9 +80,9 @@ module _ (s : List ℕ) (p : ℕ) {l : Line} (is : LineIs s p l) where
       let low_end : t - 1 ≤ p + 4 + before_zero (drop (p + 4) s) = rw (← to_is, ← from_is) low in
       let ends : body_end s p ≡ t - 1 = omega (arith, k.forward) in
       let next : min (body_end s p + 1) (length s) ≡ t = omega (arith, k.forward, k.inside) in
-      let same_line_lem : l ≡ terminated_line s p = k.is ∙ rw (next, ends) in
+      let same_line : l ≡ terminated_line s p = k.is ∙ rw (next, ends) in
       sym (terminator_line s p (link_sound.not_too_long s p is) (link_sound.long_enough s p is) (omega (arith, k.forward, k.inside))
-      (omega (arith, k.forward, k.inside)) k.no_end (omega (arith, k.forward, k.inside)) same_line_lem)
+      (omega (arith, k.forward, k.inside)) k.no_end (omega (arith, k.forward, k.inside)) same_line)
 
 -- ---- the end
 

@@ -24,7 +24,6 @@ use Rattle.image_jumps.specs.declared.Part.TheVariants.{Empty}
 use Rattle.image_jumps.specs.declared.Cursor.{Cursor}
 use Rattle.image_jumps.specs.declared.Next.{Next}
 use Rattle.image_jumps.specs.declared.Next.TheVariants.{Jump, None}
-use Rattle.image_jumps.specs.Jumps.{check_words}
 use Rattle.image_jumps.specs.JumpHelpers.{left_of}
 use Rattle.image_jumps.proofs.Stepping.{left_text}
 use Rattle.image_faults.specs.declared.Fault.{Fault}
@@ -76,9 +75,9 @@ module _ (has : ℕ → Bool) (s : List ℕ) (p : ℕ) where
 
     module _ {l : Line} (is : LineIs s p l) where
       -- what is left at a check of a line
-      at_line_lem : (c : Check) → stage_faults has s (LineStage c) p least ≡ check_faults has s least c l ++ rest_from has s (l.number + 1) l.next
+      at_line : (c : Check) → stage_faults has s (LineStage c) p least ≡ check_faults has s least c l ++ rest_from has s (l.number + 1) l.next
       unfolding stage_faults
-      at_line_lem c = ap (faults_by has s (check_faults has s least c)) is
+      at_line c = ap (faults_by has s (check_faults has s least c)) is
 
 -- a fault is told, or not, and the walk goes on at a place that is nearer to the end
 moves : (has : ℕ → Bool) (s : List ℕ) (x q : Place) {X : List Fault} (t : Told) → faults_at has s x ≡ X ++ faults_at has s q → place_ahead s q < place_ahead s x
@@ -98,8 +97,8 @@ module _ (marked s : List ℕ) (p least : ℕ) {l : Line} (here : LineIs s p l) 
   leads : (c d : Check) (X : List Fault) → check_faults (has_mark marked) s least c l ≡ X ++ check_faults (has_mark marked) s least d l
       → stage_faults (has_mark marked) s (LineStage c) p least ≡ X ++ stage_faults (has_mark marked) s (LineStage d) p least
   leads c d X e =
-      at_line_lem (has_mark marked) s p least here c ∙ ap (λ (fs : List Fault). fs ++ rest_from (has_mark marked) s (l.number + 1) l.next) e ∙ append_assoc X (check_faults (has_mark marked) s least d l) (rest_from (has_mark marked) s (l.number + 1) l.next)
-      ∙ ap (λ (fs : List Fault). X ++ fs) (sym (at_line_lem (has_mark marked) s p least here d))
+      at_line (has_mark marked) s p least here c ∙ ap (λ (fs : List Fault). fs ++ rest_from (has_mark marked) s (l.number + 1) l.next) e ∙ append_assoc X (check_faults (has_mark marked) s least d l) (rest_from (has_mark marked) s (l.number + 1) l.next)
+      ∙ ap (λ (fs : List Fault). X ++ fs) (sym (at_line (has_mark marked) s p least here d))
 
   module _ (t : Told) {q : Place} (r : Moved) {check : Check} where
     pub in_number : check ≡ Number → told_fault t ≡ number_faults l → q ≡ place_in (LineStage Order) p least → r ≡ moved_by t q
@@ -124,7 +123,7 @@ module _ (marked s : List ℕ) (p least : ℕ) {l : Line} (here : LineIs s p l) 
         rw is (moved (has_mark marked) s (place_in (LineStage Length) p least) t f at
         (leads Length (Jumps c) (length_faults s l)
         (ap (λ (ts : List ℕ). length_faults s l ++ map (NoTarget l.number) (unmet (has_mark marked) ts))
-        (sym (ap (left_of check_words (body_of s l)) first ∙ left_text check_words (body_of s l) (record { at = 0; mode = Plain; listed = false; part = Empty }) refl)))) (omega arith) e)
+        (sym (ap (left_of (body_of s l)) first ∙ left_text (body_of s l) (record { at = 0; mode = Plain; listed = false; part = Empty }) refl)))) (omega arith) e)
 
   pub in_jumps : (r : Moved) {check : Check} {c : Cursor} → check ≡ Jumps c → MovedIs (has_mark marked) s (place_in (LineStage (Jumps c)) p least) r → MovedIs (has_mark marked) s (place_in (LineStage check) p least) r
   in_jumps r is m = rw is m
@@ -134,17 +133,17 @@ module _ (marked s : List ℕ) (p least : ℕ) {l : Line} (here : LineIs s p l) 
         → MovedIs (has_mark marked) s (place_in (LineStage (Jumps c)) p least) (MovedTold (NoTarget l.number t) q)
     unfolding check_faults
     jumps_told {t} {d} is at =
-        let w : unmet (has_mark marked) (left_of check_words (body_of s l) c) ≡ t ∷ unmet (has_mark marked) (left_of check_words (body_of s l) d) = subst (UnmetIs (has_mark marked) (body_of s l) c) is u in
+        let w : unmet (has_mark marked) (left_of (body_of s l) c) ≡ t ∷ unmet (has_mark marked) (left_of (body_of s l) d) = subst (UnmetIs (has_mark marked) (body_of s l) c) is u in
         rw at (leads (Jumps c) (Jumps d) (NoTarget l.number t ∷ []) (ap (map (NoTarget l.number)) w))
 
     pub jumps_on_lem : {q : Place} → n ≡ None → q ≡ place_in (LineStage Number) l.next (l.number + 1)
         → MovedIs (has_mark marked) s (place_in (LineStage (Jumps c)) p least) (On q)
     unfolding check_faults
     jumps_on_lem is at =
-        let w : unmet (has_mark marked) (left_of check_words (body_of s l) c) ≡ [] = subst (UnmetIs (has_mark marked) (body_of s l) c) is u in
+        let w : unmet (has_mark marked) (left_of (body_of s l) c) ≡ [] = subst (UnmetIs (has_mark marked) (body_of s l) c) is u in
         rw at (record {
           same =
-              at_line_lem (has_mark marked) s p least here (Jumps c) ∙ ap (λ (ts : List ℕ). map (NoTarget l.number) ts ++ rest_from (has_mark marked) s (l.number + 1) l.next) w
+              at_line (has_mark marked) s p least here (Jumps c) ∙ ap (λ (ts : List ℕ). map (NoTarget l.number) ts ++ rest_from (has_mark marked) s (l.number + 1) l.next) w
               ∙ sym (rest_line (has_mark marked) s l.next (l.number + 1));
           nearer = omega (arith, next_nearer link_sound s p here);
         })

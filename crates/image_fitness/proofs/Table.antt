@@ -8,4 +8,4 @@ use Rattle.image_fitness.specs.FitnessTable.{FitnessTable}
 
 pub fitness_table : FitnessTable
 unfolding fitness relinking relink_from relink_step stored zero_sought in_memory image_of
-fitness_table = (refl, refl, refl, refl, refl, refl, refl, refl, refl)
+fitness_table = (refl, refl, refl, refl, refl, refl, refl)

@@ -16,7 +16,7 @@ use Rattle.image_readers.proofs.ByLinks.{link_sound}
 use Rattle.image_readers.proofs.Lined.{accepted}
 use Rattle.image_marks.specs.Marks.{line_marks, has_mark}
 use Rattle.image_marks.proofs.Numbers.{numbers_marked}
-use Rattle.image_jumps.specs.Jumps.{jumps_of, check_words, low}
+use Rattle.image_jumps.specs.Jumps.{jumps_of, low}
 use Rattle.image_faults.specs.declared.Fault.{Fault}
 use Rattle.image_faults.specs.declared.Fault.TheVariants.{NoTarget}
 use Rattle.image_fitness.specs.declared.Stage.TheVariants.{Memory}
@@ -48,7 +48,7 @@ module _ (f g : ℕ → Bool) (alike : (t : ℕ) → f t ≡ g t) where
   unfolding line_faults jump_faults
   line_alike s least l =
       ap (λ (ts : List ℕ). number_faults l ++ (order_faults least l ++ (zero_faults s l ++ (length_faults s l ++ map (NoTarget l.number) ts))))
-      (unmet_alike (map low (jumps_of check_words (body_of s l))))
+      (unmet_alike (map low (jumps_of (body_of s l))))
 
   lines_alike : (s : List ℕ) (least : ℕ) (ls : List Line) → lines_faults f s least ls ≡ lines_faults g s least ls
   unfolding lines_faults

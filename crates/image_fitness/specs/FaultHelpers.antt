@@ -7,7 +7,6 @@ use Rattle.image_readers.specs.Bodies.{body_of}
 use Rattle.image_readers.specs.Image.{Found, line, end}
 use Rattle.image_readers.specs.Links.{link_step}
 use Rattle.image_readers.specs.Lined.{lined_from}
-use Rattle.image_jumps.specs.Jumps.{check_words}
 use Rattle.image_jumps.specs.JumpHelpers.{left_of}
 use Rattle.image_faults.specs.declared.Fault.{Fault}
 use Rattle.image_faults.specs.declared.Fault.TheVariants.{NoTarget}
@@ -44,7 +43,7 @@ check_faults has s least Number l = line_faults has s least l
 check_faults has s least Order l = order_faults least l ++ (zero_faults s l ++ (length_faults s l ++ jump_faults has s l))
 check_faults has s least Zero l = zero_faults s l ++ (length_faults s l ++ jump_faults has s l)
 check_faults has s least Length l = length_faults s l ++ jump_faults has s l
-check_faults has s least (Jumps c) l = map (NoTarget l.number) (unmet has (left_of check_words (body_of s l) c))
+check_faults has s least (Jumps c) l = map (NoTarget l.number) (unmet has (left_of (body_of s l) c))
 
 unfoldable pub stage_faults : (ℕ → Bool) → List ℕ → Stage → ℕ → ℕ → List Fault
 unfolding memory_faults rest_from check_faults link_step relink_faults

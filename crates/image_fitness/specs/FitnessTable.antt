@@ -28,8 +28,5 @@ FitnessTable =
     × FaultsAre 0x0801 (short_line 10 [] ∷ []) (BodyLength 10 0 ∷ LinkChanges 10 0x0807 ∷ [])
     -- 10 GOTO 2
     × FaultsAre 0x0801 (short_line 10 (0x89 ∷ 0x32 ∷ []) ∷ []) (NoTarget 10 2 ∷ [])
-    -- 10 RUN 2: to a line that is not there; 10 RUN
-    × FaultsAre 0x0801 (short_line 10 (0x8A ∷ 0x32 ∷ []) ∷ []) (NoTarget 10 2 ∷ [])
-    × FaultsAre 0x0801 (short_line 10 (0x8A ∷ []) ∷ []) []
     -- at 0800
     × FaultsAre 0x0800 (short_line 10 (0x99 ∷ []) ∷ []) (OutsideMemory 0x0800 10 ∷ [])

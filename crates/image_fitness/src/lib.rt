@@ -1,4 +1,6 @@
 // Whether a program is fit for the master disk: its faults, one after the other.
+#![tactic(auto)]
+
 ghost use Rattle.std.specs.Prelude.{◌≡◌};
 ghost use Rattle.image_marks.specs.Marks.{has_mark};
 ghost use Rattle.image_faults.specs.ToldHelpers.{LineIs};
@@ -9,7 +11,7 @@ use image_jumps::{Cursor, Next};
 use image_readers::{Line, Step, links};
 
 // What is looked at in a line, in this order.
-#[derive(Drop)]
+#[derive(Clone, Copy)]
 pub enum Check {
     Number,
     Order,
@@ -19,7 +21,7 @@ pub enum Check {
 }
 
 // What is looked at in an image, in this order.
-#[derive(Drop)]
+#[derive(Clone, Copy)]
 pub enum Stage {
     Memory,
     Line(Check),
@@ -28,7 +30,7 @@ pub enum Stage {
 }
 
 // A place of the walk: what is looked at next, the line's offset, and the least number that the line may have.
-#[derive(Drop)]
+#[derive(Clone, Copy)]
 pub struct Place {
     pub stage: Stage,
     pub offset: usize,
@@ -36,13 +38,13 @@ pub struct Place {
 }
 
 // What follows a place: a fault and the place behind it, or no fault.
-#[derive(Drop)]
+#[derive(Clone, Copy)]
 pub enum Found {
     Fault { fault: Fault, place: Place },
     None,
 }
 
-#[derive(Drop)]
+#[derive(Clone, Copy)]
 enum Moved {
     Told { fault: Fault, place: Place },
     On(Place),

@@ -22,7 +22,6 @@ use Rattle.image_jumps.specs.declared.Part.TheVariants.{Empty}
 use Rattle.image_jumps.specs.declared.Cursor.{Cursor}
 use Rattle.image_jumps.specs.declared.Next.{Next}
 use Rattle.image_jumps.specs.declared.Next.TheVariants.{Jump, None}
-use Rattle.image_jumps.specs.Jumps.{index_words}
 use Rattle.image_jumps.specs.JumpHelpers.{left_of, distance, JumpsTo, NextIs}
 use Rattle.image_jumps.proofs.Stepping.{left_text}
 use Rattle.image_index.specs.declared.Counted.{Counted}
@@ -66,31 +65,31 @@ counted_both marked (t ∷ ts) us n = go (ltb 65535 t) (counted_both marked ts u
 -- ---- the loop over a body
 
 pub record CountingBody (marked body : List ℕ) (n₀ n : ℕ) (c : Cursor) : Type 0 where
-  pub same : targets_counted marked n (left_of index_words body c) ≡ targets_counted marked n₀ (low_jumps body)
+  pub same : targets_counted marked n (left_of body c) ≡ targets_counted marked n₀ (low_jumps body)
   pub few : n + distance body c ≤ n₀ + 2 * length body
 
 pub counting_start : (marked body : List ℕ) (n : ℕ) {c : Cursor} → c ≡ record { at = 0; mode = Plain; listed = false; part = Empty } → CountingBody marked body n n c
 counting_start marked body n e =
     rw e (record {
-      same = ap (targets_counted marked n) (left_text index_words body (record { at = 0; mode = Plain; listed = false; part = Empty }) refl);
+      same = ap (targets_counted marked n) (left_text body (record { at = 0; mode = Plain; listed = false; part = Empty }) refl);
       few = omega arith;
     })
 
-module _ {marked body : List ℕ} {n₀ n : ℕ} {c : Cursor} (k : CountingBody marked body n₀ n c) {r : Next} (next : NextIs index_words body c r) where
+module _ {marked body : List ℕ} {n₀ n : ℕ} {c : Cursor} (k : CountingBody marked body n₀ n c) {r : Next} (next : NextIs body c r) where
   module _ {target : ℕ} {d : Cursor} (is : r ≡ Jump target d) where
-    jumped : JumpsTo index_words body c target d
-    jumped = subst (NextIs index_words body c) is next
+    jumped : JumpsTo body c target d
+    jumped = subst (NextIs body c) is next
 
     pub counting_high : 65535 < target → CountedIs marked n₀ (low_jumps body) (n₀ + 2 * length body) TooHigh
     counting_high h =
         record {
-          is = sym (counted_high marked n target (left_of index_words body d) h) ∙ ap (targets_counted marked n) (sym jumped.same) ∙ k.same;
+          is = sym (counted_high marked n target (left_of body d) h) ∙ ap (targets_counted marked n) (sym jumped.same) ∙ k.same;
           few = tt;
         }
 
     module _ (h : target ≤ 65535) {b : Bool} (e : b ≡ has_mark marked target) where
-      turned : targets_counted marked (cond b n (n + 1)) (left_of index_words body d) ≡ targets_counted marked n₀ (low_jumps body)
-      turned = rw e (sym (counted_more marked n target (left_of index_words body d) h) ∙ ap (targets_counted marked n) (sym jumped.same) ∙ k.same)
+      turned : targets_counted marked (cond b n (n + 1)) (left_of body d) ≡ targets_counted marked n₀ (low_jumps body)
+      turned = rw e (sym (counted_more marked n target (left_of body d) h) ∙ ap (targets_counted marked n) (sym jumped.same) ∙ k.same)
 
       -- a target that is not marked counts
       pub counting_turn : not b ≡ true → CountingBody marked body n₀ (n + 1) d
@@ -105,7 +104,7 @@ module _ {marked body : List ℕ} {n₀ n : ℕ} {c : Cursor} (k : CountingBody 
   pub counting_end : r ≡ None → CountedIs marked n₀ (low_jumps body) (n₀ + 2 * length body) (Jumps n)
   counting_end is =
       record {
-        is = sym (counted_none marked n) ∙ ap (targets_counted marked n) (sym (subst (NextIs index_words body c) is next)) ∙ k.same;
+        is = sym (counted_none marked n) ∙ ap (targets_counted marked n) (sym (subst (NextIs body c) is next)) ∙ k.same;
         few = omega (arith, k.few);
       }
 

@@ -21,7 +21,6 @@ use Rattle.image_jumps.specs.declared.Part.TheVariants.{Empty}
 use Rattle.image_jumps.specs.declared.Cursor.{Cursor}
 use Rattle.image_jumps.specs.declared.Next.{Next}
 use Rattle.image_jumps.specs.declared.Next.TheVariants.{Jump, None}
-use Rattle.image_jumps.specs.Jumps.{index_words}
 use Rattle.image_jumps.specs.JumpHelpers.{left_of, distance, JumpsTo, NextIs}
 use Rattle.image_jumps.proofs.Stepping.{left_text}
 use Rattle.base_lent.specs.Stores.{Room, Put}
@@ -104,12 +103,12 @@ module _ (marked : List ℕ) (place target : ℕ) where
 -- ---- the loop over a body
 
 pub record PuttingBody (marked : List ℕ) (place : ℕ) (body out₀ : List ℕ) (pen₀ : Pen) (out : List ℕ) (pen : Pen) (c : Cursor) : Type 0 where
-  pub owed : Owed out₀ pen₀ (target_bits marked place (low_jumps body)) out pen (target_bits marked place (left_of index_words body c))
+  pub owed : Owed out₀ pen₀ (target_bits marked place (low_jumps body)) out pen (target_bits marked place (left_of body c))
 
 pub body_start : {marked : List ℕ} {place : ℕ} {body out : List ℕ} {pen : Pen} {c : Cursor} → c ≡ record { at = 0; mode = Plain; listed = false; part = Empty }
     → Ready out pen (target_bits marked place (low_jumps body)) → PuttingBody marked place body out pen out pen c
 body_start {marked} {place} {body} e r =
-    record { owed = owed_start (ap (λ (x : Cursor). target_bits marked place (left_of index_words body x)) e ∙ ap (target_bits marked place) (left_text index_words body (record { at = 0; mode = Plain; listed = false; part = Empty }) refl)) r }
+    record { owed = owed_start (ap (λ (x : Cursor). target_bits marked place (left_of body x)) e ∙ ap (target_bits marked place) (left_text body (record { at = 0; mode = Plain; listed = false; part = Empty }) refl)) r }
 
 targets_more : (marked : List ℕ) (place t : ℕ) (ts : List ℕ) → target_bits marked place (t ∷ ts) ≡ target_bit marked place t ++ target_bits marked place ts
 unfolding target_bits
@@ -120,25 +119,25 @@ unfolding target_bits
 targets_none marked place = refl
 
 module _ {marked : List ℕ} {place : ℕ} {body out₀ : List ℕ} {pen₀ : Pen} {out : List ℕ} {pen : Pen} {c : Cursor}
-    (k : PuttingBody marked place body out₀ pen₀ out pen c) {r : Next} (next : NextIs index_words body c r) where
+    (k : PuttingBody marked place body out₀ pen₀ out pen c) {r : Next} (next : NextIs body c r) where
   module _ {target : ℕ} {d : Cursor} (is : r ≡ Jump target d) where
-    jumped : JumpsTo index_words body c target d
-    jumped = subst (NextIs index_words body c) is next
+    jumped : JumpsTo body c target d
+    jumped = subst (NextIs body c) is next
 
     pub body_less : distance body d < distance body c
     body_less = jumped.nearer
 
-    here : target_bits marked place (left_of index_words body c) ≡ target_bit marked place target ++ target_bits marked place (left_of index_words body d)
-    here = ap (target_bits marked place) jumped.same ∙ targets_more marked place target (left_of index_words body d)
+    here : target_bits marked place (left_of body c) ≡ target_bit marked place target ++ target_bits marked place (left_of body d)
+    here = ap (target_bits marked place) jumped.same ∙ targets_more marked place target (left_of body d)
 
     pub body_ready : Ready out pen (target_bit marked place target)
-    body_ready = owed_first k.owed (target_bit marked place target) (target_bits marked place (left_of index_words body d)) here
+    body_ready = owed_first k.owed (target_bit marked place target) (target_bits marked place (left_of body d)) here
 
     pub body_turn : {q : Pen} {after : List ℕ} → record { pen = q; out = after } ≡ drawn out pen (target_bit marked place target) → PuttingBody marked place body out₀ pen₀ after q d
-    body_turn g = record { owed = owed_turn k.owed (target_bit marked place target) (target_bits marked place (left_of index_words body d)) here (target_are marked place target) g }
+    body_turn g = record { owed = owed_turn k.owed (target_bit marked place target) (target_bits marked place (left_of body d)) here (target_are marked place target) g }
 
   pub body_end_lem : r ≡ None → record { pen = pen; out = out } ≡ drawn out₀ pen₀ (target_bits marked place (low_jumps body))
-  body_end_lem is = owed_end k.owed (ap (target_bits marked place) (subst (NextIs index_words body c) is next) ∙ targets_none marked place)
+  body_end_lem is = owed_end k.owed (ap (target_bits marked place) (subst (NextIs body c) is next) ∙ targets_none marked place)
 
 pub targets_are : (marked : List ℕ) (place : ℕ) (ts : List ℕ) → AreBits (target_bits marked place ts)
 unfolding target_bits

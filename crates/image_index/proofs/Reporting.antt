@@ -34,7 +34,7 @@ use Rattle.image_index.specs.declared.Counted.TheVariants.{TooHigh, Jumps}
 use Rattle.image_index.specs.Index.{LineIndex, indexed, jump_fields, without_line, jump_report}
 use Rattle.image_index.specs.IndexHelpers.{found_from, low_targets, CountedIs, jump_bits, Faultless, NumbersMarked}
 use Rattle.image_index.proofs.Putting.{jumps_are}
-use Rattle.image_index.proofs.Whole.{too_many, too_high_lem, indexed_is, check_faultless, checked_refused}
+use Rattle.image_index.proofs.Whole.{too_many, too_high, indexed_is, check_faultless, checked_refused}
 
 -- ---- all of a report
 
@@ -78,7 +78,7 @@ module _ (out : List ℕ) {s : List ℕ} {n : ℕ} (k : Faultless s n) where
   module _ {marked : List ℕ} (h : n ≤ 8191) (marks : NumbersMarked (map index_line (found_from s 2)) marked)
       {r : Counted} (c : CountedIs marked 0 (low_targets s (found_from s 2)) 2097152 r) where
     pub report_high : r ≡ TooHigh → ◌≡◌ {A = Lent} (record { answer = refused target_too_high; buffer = out }) (into_buffer (jump_report s) out)
-    report_high e = into_refused out (jump_report s) (ap (map_done length) (sym (report_refused s (too_high_lem k c marks h e))))
+    report_high e = into_refused out (jump_report s) (ap (map_done length) (sym (report_refused s (too_high k c marks h e))))
 
     module _ {m : ℕ} (e : r ≡ Jumps m) where
       report_is : ReportIs s marked m

@@ -28,7 +28,7 @@ use Rattle.image_readers.proofs.ByLinks.{link_sound}
 use Rattle.image_readers.proofs.Finding.{told_checked}
 use Rattle.image_readers.proofs.Reading.{lines_lead, overview_lines, overview_refused}
 use Rattle.image_marks.specs.Marks.{has_mark}
-use Rattle.image_jumps.specs.Jumps.{jumps_of, index_words, low}
+use Rattle.image_jumps.specs.Jumps.{jumps_of, low}
 use Rattle.base_bits.specs.Bits.{Field, bits_of, field_bits, pack_from, packed}
 use Rattle.base_bits.proofs.Bytes.{length_bits, pack_length}
 use Rattle.image_index.specs.declared.Counted.{Counted}
@@ -53,8 +53,8 @@ unfolding low_targets jumps_in
 all_low_lem s v [] = refl
 all_low_lem s v (l ∷ ls) =
     ap (λ (x : List ℕ). low_jumps (body_of s l) ++ x) (all_low_lem s (v + 1) ls)
-    ∙ ap (λ (x : List ℕ). x ++ map target_low (jumps_in s (v + 1) ls)) (sym (line_low (v + 1) (jumps_of index_words (body_of s l))))
-    ∙ sym (map-append target_low (map (jump_to (v + 1)) (jumps_of index_words (body_of s l))) (jumps_in s (v + 1) ls))
+    ∙ ap (λ (x : List ℕ). x ++ map target_low (jumps_in s (v + 1) ls)) (sym (line_low (v + 1) (jumps_of (body_of s l))))
+    ∙ sym (map-append target_low (map (jump_to (v + 1)) (jumps_of (body_of s l))) (jumps_in s (v + 1) ls))
 
 -- how many there are to numbers that no line has, and whether one is too high
 counts : {lines : List IndexLine} {marked : List ℕ} → NumbersMarked lines marked → (n : ℕ) (js : List IndexJump)
@@ -120,7 +120,7 @@ unfolding jump_bits jumps_in
 all_bits marked s v [] = unfold each_bits in refl
 all_bits marked s v (l ∷ ls) =
     ap (λ (x : List ℕ). target_bits marked (v + 1) (low_jumps (body_of s l)) ++ x) (all_bits marked s (v + 1) ls)
-    ∙ line_bits_lem marked (v + 1) (jumps_of index_words (body_of s l)) (jumps_in s (v + 1) ls)
+    ∙ line_bits_lem marked (v + 1) (jumps_of (body_of s l)) (jumps_in s (v + 1) ls)
 
 -- where no target is too high, none is cut
 each_bits_lem : {lines : List IndexLine} {marked : List ℕ} → NumbersMarked lines marked → (js : List IndexJump) → any_too_high js ≡ false
@@ -224,8 +224,8 @@ module _ {s : List ℕ} {n : ℕ} (k : Faultless s n) where
       told_count : r ≡ cond (any_too_high (jumps_in s 0 (found_from s 2))) TooHigh (Jumps (0 + length (without_line lines (jumps_in s 0 (found_from s 2)))))
       told_count = c.is ∙ ap (targets_counted marked 0) (all_low_lem s 0 (found_from s 2)) ∙ counts marks 0 (jumps_in s 0 (found_from s 2))
 
-      pub too_high_lem : n ≤ 8191 → r ≡ TooHigh → indexed s ≡ refused target_too_high
-      too_high_lem h e =
+      pub too_high : n ≤ 8191 → r ≡ TooHigh → indexed s ≡ refused target_too_high
+      too_high h e =
           let g : length (found_from s 2) ≤ 8191 = omega (arith, k.count) in
           let high : index_lines s (found_from s 2) ≡ refused target_too_high = simp (le-ltb _ _ g) (go (any_too_high (jumps_in s 0 (found_from s 2))) _ _ (sym e ∙ told_count)) in
           read ∙ high
@@ -275,7 +275,7 @@ module _ (out : List ℕ) {s : List ℕ} {n : ℕ} (k : Faultless s n) where
 
   module _ (h : n ≤ 8191) {r : Counted} (c : CountedIs [] 0 (low_targets s (found_from s 2)) 2097152 r) where
     pub answer_high : r ≡ TooHigh → ◌≡◌ {A = Lent} (record { answer = refused target_too_high; buffer = out }) (into_buffer (line_index s) out)
-    answer_high e = into_refused out (line_index s) (ap (map_done length) (sym (index_refused s (too_high_lem k c none_marked h e))))
+    answer_high e = into_refused out (line_index s) (ap (map_done length) (sym (index_refused s (too_high k c none_marked h e))))
 
     module _ {m : ℕ} (e : r ≡ Jumps m) where
       needed : done ((23 + 32 * n + 29 * m) / 8) ≡ map_done length (line_index s)

@@ -10,7 +10,7 @@ use Rattle.image_readers.specs.Bodies.{body_of}
 use Rattle.image_readers.specs.IndexLines.{IndexLine, index_line, has_line}
 use Rattle.image_readers.specs.Lines.{lines_from, lines_of}
 use Rattle.image_readers.specs.Links.{link_step}
-use Rattle.image_jumps.specs.Jumps.{jumps_from, jumps_of, index_words}
+use Rattle.image_jumps.specs.Jumps.{jumps_from, jumps_of}
 use Rattle.base_bits.specs.Bits.{Field, field, packed}
 
 -- a jump: its line's place from 1, and its target
@@ -29,7 +29,7 @@ jump_to place target = record { place = place; target = target }
 unfoldable pub jumps_in : List ℕ → ℕ → List Line → List IndexJump
 unfolding jumps_from
 jumps_in s v [] = []
-jumps_in s v (l ∷ ls) = map (jump_to (v + 1)) (jumps_of index_words (body_of s l)) ++ jumps_in s (v + 1) ls
+jumps_in s v (l ∷ ls) = map (jump_to (v + 1)) (jumps_of (body_of s l)) ++ jumps_in s (v + 1) ls
 
 -- a target is above 65535
 unfoldable pub any_too_high : List IndexJump → Bool

@@ -8,7 +8,7 @@ use Rattle.image_readers.specs.Bodies.{body_of}
 use Rattle.image_readers.specs.Lines.{lines_from}
 use Rattle.image_readers.specs.Links.{link_step}
 use Rattle.image_marks.specs.Marks.{has_mark}
-use Rattle.image_jumps.specs.Jumps.{jumps_from, jumps_of, index_words, low}
+use Rattle.image_jumps.specs.Jumps.{jumps_from, jumps_of, low}
 use Rattle.base_bits.specs.Bits.{bits_of}
 use Rattle.image_readers.specs.IndexLines.{IndexLine, has_line}
 use Rattle.image_index.specs.declared.Counted.{Counted}
@@ -28,7 +28,7 @@ Sound s p = lines_from link_step s p ≡ done (found_from s p)
 
 -- the targets of a body, cut
 abbrev pub low_jumps : List ℕ → List ℕ
-low_jumps body = map low (jumps_of index_words body)
+low_jumps body = map low (jumps_of body)
 
 -- those of lines
 unfoldable pub low_targets : List ℕ → List Line → List ℕ

@@ -1,4 +1,6 @@
 // A line index beside an image, and a report of its jumps with no target.
+#![tactic(auto)]
+
 ghost use Rattle.std.specs.Prelude.{◌≡◌, ◌+◌, ◌*◌, ◌≤◌, length, map};
 ghost use Rattle.base_lent.specs.Lent.{into_buffer, left};
 ghost use Rattle.base_lent.specs.Stores.{Room, Put};
@@ -15,7 +17,7 @@ use image_jumps::Next;
 use image_readers::{Checked, Step, links};
 
 // How many jumps there are, unless a target is above 65535.
-#[derive(Drop)]
+#[derive(Clone, Copy)]
 pub enum Counted {
     TooHigh,
     Jumps(usize),
@@ -113,7 +115,7 @@ fn count_body(body: &[u8], marked: &[u8], n: usize) -> Counted
     let mut cursor = image_jumps::first();
     let mut n = n;
     loop {
-        match image_jumps::next_jump(body, image_jumps::INDEX_WORDS, cursor) {
+        match image_jumps::next_jump(body, cursor) {
             Next::Jump {
                 target,
                 cursor: behind,
@@ -220,7 +222,7 @@ fn put_body(out: &mut [u8], pen: Pen, place: usize, body: &[u8], marked: &[u8]) 
     let mut pen = pen;
     let mut cursor = image_jumps::first();
     loop {
-        match image_jumps::next_jump(body, image_jumps::INDEX_WORDS, cursor) {
+        match image_jumps::next_jump(body, cursor) {
             Next::Jump {
                 target,
                 cursor: behind,

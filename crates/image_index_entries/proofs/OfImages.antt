@@ -17,7 +17,7 @@ use Rattle.image_readers.specs.Lines.{lines_from, lines_of}
 use Rattle.image_readers.specs.Links.{link_step}
 use Rattle.image_readers.proofs.ByLinks.{link_sound}
 use Rattle.image_readers.proofs.Reading.{lines_lead}
-use Rattle.image_jumps.specs.Jumps.{jumps_of, index_words}
+use Rattle.image_jumps.specs.Jumps.{jumps_of}
 use Rattle.base_bits.specs.Bits.{packed}
 use Rattle.image_readers.specs.IndexLines.{IndexLine, index_line}
 use Rattle.image_index.specs.Index.{IndexJump, LineIndex, jump_to, jumps_in, any_too_high, index_lines, indexed, index_fields}
@@ -53,7 +53,7 @@ body_fits place (t ∷ ts) js h e f =
 jumps_fit : (s : List ℕ) (v : ℕ) (ls : List Line) → v + length ls ≤ 8191 → any_too_high (jumps_in s v ls) ≡ false → Fit 13 (map jump_two (jumps_in s v ls))
 unfolding jumps_in Fit
 jumps_fit s v [] h e = tt
-jumps_fit s v (l ∷ ls) h e = body_fits (v + 1) (jumps_of index_words (body_of s l)) (jumps_in s (v + 1) ls) (omega arith) e (jumps_fit s (v + 1) ls (omega arith))
+jumps_fit s v (l ∷ ls) h e = body_fits (v + 1) (jumps_of (body_of s l)) (jumps_in s (v + 1) ls) (omega arith) e (jumps_fit s (v + 1) ls (omega arith))
 
 -- ---- the image
 

@@ -1,16 +1,18 @@
 // Any bytes as a line index: an entry at a place, and the first line with a number.
+#![tactic(auto)]
+
 ghost use Rattle.std.specs.Prelude.{◌≡◌, ◌+◌, ◌-◌, ◌*◌, ◌/◌, ◌≤◌, ◌<◌, min, length};
 ghost use Rattle.base_bits.specs.Bits.{field_at};
 ghost use Rattle.image_index_entries.specs.Entries.{count_held, pairs_read, line_pairs, jump_pairs, entry_in, entry_of, look_up};
 
 // An entry of an index, or the place of a line and its link's offset.
-#[derive(Drop)]
+#[derive(Clone, Copy)]
 pub enum Held {
     Nothing,
     Numbers { first: usize, second: usize },
 }
 
-#[derive(Drop)]
+#[derive(Clone, Copy)]
 pub enum Kind {
     Line,
     Jump,

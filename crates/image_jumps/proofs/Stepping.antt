@@ -18,7 +18,6 @@ use Rattle.image_units.specs.declared.Rules.{Rules}
 use Rattle.image_units.specs.declared.Taken.{Taken}
 use Rattle.image_units.specs.Units.{unit_at}
 use Rattle.image_units.proofs.Walking.{unit_some, unit_within}
-use Rattle.image_jumps.specs.declared.JumpWords.{JumpWords}
 use Rattle.image_jumps.specs.declared.Part.{Part}
 use Rattle.image_jumps.specs.declared.Part.TheVariants.{Empty, Worth}
 use Rattle.image_jumps.specs.declared.Cursor.{Cursor}
@@ -59,16 +58,16 @@ told_then : (p : Part) (ts us : List ℕ) → jump_told p ts ++ us ≡ jump_told
 told_then Empty ts us = refl
 told_then (Worth v) ts us = refl
 
-module _ (w : JumpWords) (body : List ℕ) (c : Cursor) where
-  pub left_text : c.listed ≡ false → left_of w body c ≡ cut (jumps_from w c.mode (drop c.at body))
+module _ (body : List ℕ) (c : Cursor) where
+  pub left_text : c.listed ≡ false → left_of body c ≡ cut (jumps_from c.mode (drop c.at body))
   unfolding left_of
-  left_text e = ap (λ (t : Bool). cut (left_from w t c.part c.mode (drop c.at body))) e
+  left_text e = ap (λ (t : Bool). cut (left_from t c.part c.mode (drop c.at body))) e
 
-  pub left_list : c.listed ≡ true → left_of w body c ≡ cut (targets_from c.part (drop c.at body)) ++ cut (jumps_from w c.mode (drop c.at body))
+  pub left_list : c.listed ≡ true → left_of body c ≡ cut (targets_from c.part (drop c.at body)) ++ cut (jumps_from c.mode (drop c.at body))
   unfolding left_of
   left_list e =
-      ap (λ (t : Bool). cut (left_from w t c.part c.mode (drop c.at body))) e
-      ∙ map-append low (targets_from c.part (drop c.at body)) (jumps_from w c.mode (drop c.at body))
+      ap (λ (t : Bool). cut (left_from t c.part c.mode (drop c.at body))) e
+      ∙ map-append low (targets_from c.part (drop c.at body)) (jumps_from c.mode (drop c.at body))
 
 -- ---- a byte of a list
 
@@ -76,7 +75,7 @@ module _ (w : JumpWords) (body : List ℕ) (c : Cursor) where
 abbrev byte_at : List ℕ → Cursor → ℕ
 byte_at body c = get_or body c.at 0
 
-module _ (w : JumpWords) (body : List ℕ) (c : Cursor) (listed : c.listed ≡ true) (h : c.at < length body) where
+module _ (body : List ℕ) (c : Cursor) (listed : c.listed ≡ true) (h : c.at < length body) where
   one : ◌≡◌ {A = ℕ} (cond c.listed 1 0) 1
   one = ap (λ (t : Bool). cond t 1 0) listed
 
@@ -88,19 +87,19 @@ module _ (w : JumpWords) (body : List ℕ) (c : Cursor) (listed : c.listed ≡ t
   byte = here body c.at h
 
   jumps : List ℕ → List ℕ
-  jumps x = cut (jumps_from w c.mode x)
+  jumps x = cut (jumps_from c.mode x)
 
-  split : left_of w body c ≡ cut (targets_from c.part (byte_at body c ∷ s)) ++ jumps (byte_at body c ∷ s)
+  split : left_of body c ≡ cut (targets_from c.part (byte_at body c ∷ s)) ++ jumps (byte_at body c ∷ s)
   unfolding jumps
-  split = left_list w body c listed ∙ ap (λ (x : List ℕ). cut (targets_from c.part x) ++ cut (jumps_from w c.mode x)) byte
+  split = left_list body c listed ∙ ap (λ (x : List ℕ). cut (targets_from c.part x) ++ cut (jumps_from c.mode x)) byte
 
   -- a digit, a space or a comma is passed by the text
   pass : Inert (byte_at body c) → jumps (byte_at body c ∷ s) ≡ jumps s
   unfolding jumps
-  pass i = ap cut (jumps_pass (byte_at body c) s i w c.mode)
+  pass i = ap cut (jumps_pass (byte_at body c) s i c.mode)
 
   pub list_digit : {t : Bool} {q : Part} {r : Moved} → t ≡ is_digit (byte_at body c) → t ≡ true → q ≡ low_part (with_digit c.part (byte_at body c - 48))
-      → r ≡ record { told = Empty; cursor = record { at = c.at + 1; mode = c.mode; listed = true; part = q } } → Moves w body c r
+      → r ≡ record { told = Empty; cursor = record { at = c.at + 1; mode = c.mode; listed = true; part = q } } → Moves body c r
   unfolding jumps s
   list_digit {t} {q} {r} u v f g =
       let e : is_digit (byte_at body c) ≡ true = sym u ∙ v in
@@ -112,7 +111,7 @@ module _ (w : JumpWords) (body : List ℕ) (c : Cursor) (listed : c.listed ≡ t
             ∙ ap (λ (x : List ℕ). cut (targets_from (with_digit c.part (byte_at body c - 48)) s) ++ x) (pass i)
             ∙ ap (λ (x : List ℕ). x ++ jumps s) (sym (low_early s (with_digit c.part (byte_at body c - 48))))
             ∙ ap (λ (x : Part). cut (targets_from x s) ++ jumps s) (sym f)
-            ∙ sym (left_list w body d refl);
+            ∙ sym (left_list body d refl);
         nearer = omega (arith, one);
       })
 
@@ -120,7 +119,7 @@ module _ (w : JumpWords) (body : List ℕ) (c : Cursor) (listed : c.listed ≡ t
     e : is_digit (byte_at body c) ≡ false
     e = sym u ∙ v
 
-    pub list_space : {r : Moved} → byte_at body c ≡ 0x20 → r ≡ record { told = Empty; cursor = record { at = c.at + 1; mode = c.mode; listed = true; part = c.part } } → Moves w body c r
+    pub list_space : {r : Moved} → byte_at body c ≡ 0x20 → r ≡ record { told = Empty; cursor = record { at = c.at + 1; mode = c.mode; listed = true; part = c.part } } → Moves body c r
     unfolding jumps s
     list_space f g =
         let d : Cursor = record { at = c.at + 1; mode = c.mode; listed = true; part = c.part } in
@@ -128,11 +127,11 @@ module _ (w : JumpWords) (body : List ℕ) (c : Cursor) (listed : c.listed ≡ t
           same =
               split ∙ ap (λ (x : List ℕ). cut x ++ jumps (byte_at body c ∷ s)) (targets_space c.part (byte_at body c) s e f)
               ∙ ap (λ (x : List ℕ). cut (targets_from c.part s) ++ x) (pass (omega arith))
-              ∙ sym (left_list w body d refl);
+              ∙ sym (left_list body d refl);
           nearer = omega (arith, one);
         })
 
-    pub list_comma : {r : Moved} → byte_at body c ≡ 0x2C → r ≡ record { told = c.part; cursor = record { at = c.at + 1; mode = c.mode; listed = true; part = Empty } } → Moves w body c r
+    pub list_comma : {r : Moved} → byte_at body c ≡ 0x2C → r ≡ record { told = c.part; cursor = record { at = c.at + 1; mode = c.mode; listed = true; part = Empty } } → Moves body c r
     unfolding jumps s
     list_comma f g =
         let d : Cursor = record { at = c.at + 1; mode = c.mode; listed = true; part = Empty } in
@@ -142,11 +141,11 @@ module _ (w : JumpWords) (body : List ℕ) (c : Cursor) (listed : c.listed ≡ t
               ∙ ap (λ (x : List ℕ). cut (jump_told c.part (targets_from Empty s)) ++ x) (pass (omega arith))
               ∙ ap (λ (x : List ℕ). x ++ jumps s) (low_told c.part (targets_from Empty s))
               ∙ told_then (low_part c.part) (cut (targets_from Empty s)) (jumps s)
-              ∙ ap (jump_told (low_part c.part)) (sym (left_list w body d refl));
+              ∙ ap (jump_told (low_part c.part)) (sym (left_list body d refl));
           nearer = omega (arith, one);
         })
 
-    pub list_other : {r : Moved} → (byte_at body c ≡ 0x20 → ⊥) → (byte_at body c ≡ 0x2C → ⊥) → r ≡ record { told = c.part; cursor = record { at = c.at; mode = c.mode; listed = false; part = Empty } } → Moves w body c r
+    pub list_other : {r : Moved} → (byte_at body c ≡ 0x20 → ⊥) → (byte_at body c ≡ 0x2C → ⊥) → r ≡ record { told = c.part; cursor = record { at = c.at; mode = c.mode; listed = false; part = Empty } } → Moves body c r
     unfolding jumps s
     list_other f k g =
         let d : Cursor = record { at = c.at; mode = c.mode; listed = false; part = Empty } in
@@ -155,8 +154,8 @@ module _ (w : JumpWords) (body : List ℕ) (c : Cursor) (listed : c.listed ≡ t
               split ∙ ap (λ (x : List ℕ). cut x ++ jumps (byte_at body c ∷ s)) (targets_other c.part (byte_at body c) s e f k)
               ∙ ap (λ (x : List ℕ). x ++ jumps (byte_at body c ∷ s)) (low_told c.part [])
               ∙ told_then (low_part c.part) [] (jumps (byte_at body c ∷ s))
-              ∙ ap (λ (x : List ℕ). jump_told (low_part c.part) (cut (jumps_from w c.mode x))) (sym byte)
-              ∙ ap (jump_told (low_part c.part)) (sym (left_text w body d refl));
+              ∙ ap (λ (x : List ℕ). jump_told (low_part c.part) (cut (jumps_from c.mode x))) (sym byte)
+              ∙ ap (jump_told (low_part c.part)) (sym (left_text body d refl));
           nearer = omega (arith, one);
         })
 
@@ -166,98 +165,98 @@ pub unit_fits : (body : List ℕ) (at : ℕ) (mode : Mode) {t : Taken} (rules : 
     → Fits w64 (length body) → Fits w64 (at + t.used)
 unit_fits body at mode {t} rules h e f = record { fits = omega (arith, unit_within rules mode body at h e, f.fits) }
 
-pub unit_moves : (w : JumpWords) {body : List ℕ} {at : ℕ} {mode : Mode} {t : Taken} {r : Moved} {rules : Rules} → at < length body → rules ≡ heeded
+pub unit_moves : {body : List ℕ} {at : ℕ} {mode : Mode} {t : Taken} {r : Moved} {rules : Rules} → at < length body → rules ≡ heeded
     → t ≡ unit_at rules mode (get_or body at 0) (drop (at + 1) body)
-    → targets_from Empty (opened_list w mode (get_or body at 0) (drop (at + 1) body)) ≡ []
+    → targets_from Empty (opened_list mode (get_or body at 0) (drop (at + 1) body)) ≡ []
     → r ≡ record { told = Empty; cursor = record { at = at + t.used; mode = t.mode; listed = false; part = Empty } }
-    → Moves w body (record { at = at; mode = mode; listed = false; part = Empty }) r
-unit_moves w {body} {at} {mode} {t} {r} {rules} h u e none g =
+    → Moves body (record { at = at; mode = mode; listed = false; part = Empty }) r
+unit_moves {body} {at} {mode} {t} {r} {rules} h u e none g =
     let b = get_or body at 0 in
     let s = drop (at + 1) body in
     let is : t ≡ unit_at heeded mode b s = e ∙ ap (λ (x : Rules). unit_at x mode b s) u in
     let d : Cursor = record { at = at + t.used; mode = t.mode; listed = false; part = Empty } in
     rw g (record {
       same =
-          left_text w body (record { at = at; mode = mode; listed = false; part = Empty }) refl
-          ∙ ap (λ (x : List ℕ). cut (jumps_from w mode x)) (here body at h) ∙ ap cut (jumps_more w mode b s)
-          ∙ ap (λ (x : List ℕ). cut (x ++ jumps_from w (unit_at heeded mode b s).mode (drop (unit_at heeded mode b s).used (b ∷ s)))) none
-          ∙ ap (λ (x : Taken). cut (jumps_from w x.mode (drop x.used (b ∷ s)))) (sym is)
-          ∙ ap (λ (x : List ℕ). cut (jumps_from w t.mode (drop t.used x))) (sym (here body at h))
-          ∙ ap (λ (x : List ℕ). cut (jumps_from w t.mode x)) (drop-drop t.used at body)
-          ∙ sym (left_text w body d refl);
+          left_text body (record { at = at; mode = mode; listed = false; part = Empty }) refl
+          ∙ ap (λ (x : List ℕ). cut (jumps_from mode x)) (here body at h) ∙ ap cut (jumps_more mode b s)
+          ∙ ap (λ (x : List ℕ). cut (x ++ jumps_from (unit_at heeded mode b s).mode (drop (unit_at heeded mode b s).used (b ∷ s)))) none
+          ∙ ap (λ (x : Taken). cut (jumps_from x.mode (drop x.used (b ∷ s)))) (sym is)
+          ∙ ap (λ (x : List ℕ). cut (jumps_from t.mode (drop t.used x))) (sym (here body at h))
+          ∙ ap (λ (x : List ℕ). cut (jumps_from t.mode x)) (drop-drop t.used at body)
+          ∙ sym (left_text body d refl);
       nearer = omega (arith, unit_some heeded mode body at h is, unit_within heeded mode body at h is);
     })
 
-module _ (w : JumpWords) (body : List ℕ) (c : Cursor) (text : c.listed ≡ false) where
+module _ (body : List ℕ) (c : Cursor) (text : c.listed ≡ false) where
   none_more : ◌≡◌ {A = ℕ} (cond c.listed 1 0) 0
   none_more = ap (λ (t : Bool). cond t 1 0) text
 
-  pub text_unit : {r : Moved} → Moves w body (record { at = c.at; mode = c.mode; listed = false; part = Empty }) r → Moves w body c r
+  pub text_unit : {r : Moved} → Moves body (record { at = c.at; mode = c.mode; listed = false; part = Empty }) r → Moves body c r
   text_unit m =
       record {
-        same = left_text w body c text ∙ sym (left_text w body (record { at = c.at; mode = c.mode; listed = false; part = Empty }) refl) ∙ m.same;
+        same = left_text body c text ∙ sym (left_text body (record { at = c.at; mode = c.mode; listed = false; part = Empty }) refl) ∙ m.same;
         nearer = omega (arith, none_more, m.nearer);
       }
 
-  pub text_list : {from : ℕ} {r : Moved} → c.at < length body → Begins w body c.at c.mode from
-      → r ≡ record { told = Empty; cursor = record { at = from; mode = Plain; listed = true; part = Empty } } → Moves w body c r
+  pub text_list : {from : ℕ} {r : Moved} → c.at < length body → Begins body c.at c.mode from
+      → r ≡ record { told = Empty; cursor = record { at = from; mode = Plain; listed = true; part = Empty } } → Moves body c r
   text_list {from} h k g =
       rw g (record {
         same =
-            left_text w body c text ∙ ap (λ (m : Mode). cut (jumps_from w m (drop c.at body))) k.plain ∙ ap cut k.gives
-            ∙ map-append low (targets_from Empty (drop from body)) (jumps_from w Plain (drop from body))
-            ∙ sym (left_list w body (record { at = from; mode = Plain; listed = true; part = Empty }) refl);
+            left_text body c text ∙ ap (λ (m : Mode). cut (jumps_from m (drop c.at body))) k.plain ∙ ap cut k.gives
+            ∙ map-append low (targets_from Empty (drop from body)) (jumps_from Plain (drop from body))
+            ∙ sym (left_list body (record { at = from; mode = Plain; listed = true; part = Empty }) refl);
         nearer = omega (arith, none_more, k.behind);
       })
 
 -- ---- the loop over a body
 
 -- what is left now is what was left
-pub record Onwards (w : JumpWords) (body : List ℕ) (c₀ c : Cursor) : Type 0 where
-  pub same : left_of w body c₀ ≡ left_of w body c
+pub record Onwards (body : List ℕ) (c₀ c : Cursor) : Type 0 where
+  pub same : left_of body c₀ ≡ left_of body c
   pub near : distance body c ≤ distance body c₀
 
-pub onwards_start : (w : JumpWords) (body : List ℕ) (c : Cursor) → Onwards w body c c
-onwards_start w body c = record { same = refl; near = omega arith }
+pub onwards_start : (body : List ℕ) (c : Cursor) → Onwards body c c
+onwards_start body c = record { same = refl; near = omega arith }
 
-module _ {w : JumpWords} {body : List ℕ} {c₀ c : Cursor} (o : Onwards w body c₀ c) {m : Moved} (k : Moves w body c m) where
-  pub onwards_turn : m.told ≡ Empty → Onwards w body c₀ m.cursor
+module _ {body : List ℕ} {c₀ c : Cursor} (o : Onwards body c₀ c) {m : Moved} (k : Moves body c m) where
+  pub onwards_turn : m.told ≡ Empty → Onwards body c₀ m.cursor
   onwards_turn e =
-      record { same = o.same ∙ k.same ∙ ap (λ (p : Part). jump_told (low_part p) (left_of w body m.cursor)) e; near = omega (arith, o.near, k.nearer) }
+      record { same = o.same ∙ k.same ∙ ap (λ (p : Part). jump_told (low_part p) (left_of body m.cursor)) e; near = omega (arith, o.near, k.nearer) }
 
-  pub next_told : {target t : ℕ} → m.told ≡ Worth target → t ≡ low target → JumpsTo w body c₀ t m.cursor
+  pub next_told : {target t : ℕ} → m.told ≡ Worth target → t ≡ low target → JumpsTo body c₀ t m.cursor
   next_told e is =
       record {
-        same = o.same ∙ k.same ∙ ap (λ (p : Part). jump_told (low_part p) (left_of w body m.cursor)) e ∙ rw is;
+        same = o.same ∙ k.same ∙ ap (λ (p : Part). jump_told (low_part p) (left_of body m.cursor)) e ∙ rw is;
         nearer = omega (arith, o.near, k.nearer);
       }
 
-pub next_last : {w : JumpWords} {body : List ℕ} {c₀ c : Cursor} → Onwards w body c₀ c → (r : Next) → NextIs w body c r → NextIs w body c₀ r
+pub next_last : {body : List ℕ} {c₀ c : Cursor} → Onwards body c₀ c → (r : Next) → NextIs body c r → NextIs body c₀ r
 next_last o (Jump target d) k = record { same = o.same ∙ k.same; nearer = omega (arith, o.near, k.nearer) }
 next_last o None k = o.same ∙ k
 
 -- at the end
-module _ (w : JumpWords) (body : List ℕ) (c : Cursor) (h : length body ≤ c.at) where
-  pub last_text : c.listed ≡ false → left_of w body c ≡ []
-  last_text e = left_text w body c e ∙ ap (λ (x : List ℕ). cut (jumps_from w c.mode x)) (drop_of_length-le body h) ∙ ap cut (jumps_none w c.mode)
+module _ (body : List ℕ) (c : Cursor) (h : length body ≤ c.at) where
+  pub last_text : c.listed ≡ false → left_of body c ≡ []
+  last_text e = left_text body c e ∙ ap (λ (x : List ℕ). cut (jumps_from c.mode x)) (drop_of_length-le body h) ∙ ap cut (jumps_none c.mode)
 
-  last_list : c.listed ≡ true → left_of w body c ≡ jump_told (low_part c.part) []
+  last_list : c.listed ≡ true → left_of body c ≡ jump_told (low_part c.part) []
   last_list e =
-      left_list w body c e ∙ ap (λ (x : List ℕ). cut (targets_from c.part x) ++ cut (jumps_from w c.mode x)) (drop_of_length-le body h)
-      ∙ ap (λ (x : List ℕ). cut x ++ cut (jumps_from w c.mode [])) (targets_none c.part)
-      ∙ ap (λ (x : List ℕ). cut (jump_told c.part []) ++ cut x) (jumps_none w c.mode)
+      left_list body c e ∙ ap (λ (x : List ℕ). cut (targets_from c.part x) ++ cut (jumps_from c.mode x)) (drop_of_length-le body h)
+      ∙ ap (λ (x : List ℕ). cut x ++ cut (jumps_from c.mode [])) (targets_none c.part)
+      ∙ ap (λ (x : List ℕ). cut (jump_told c.part []) ++ cut x) (jumps_none c.mode)
       ∙ append-nil (cut (jump_told c.part [])) ∙ low_told c.part []
 
-  pub last_empty : c.listed ≡ true → c.part ≡ Empty → left_of w body c ≡ []
+  pub last_empty : c.listed ≡ true → c.part ≡ Empty → left_of body c ≡ []
   last_empty e f = last_list e ∙ ap (λ (p : Part). jump_told (low_part p) []) f
 
   pub last_worth : c.listed ≡ true → {target t : ℕ} → c.part ≡ Worth target → t ≡ low target
-      → JumpsTo w body c t (record { at = c.at; mode = c.mode; listed = false; part = Empty })
+      → JumpsTo body c t (record { at = c.at; mode = c.mode; listed = false; part = Empty })
   last_worth e {t = t} f is =
       record {
         same =
             last_list e ∙ ap (λ (p : Part). jump_told (low_part p) []) f ∙ ap (λ (n : ℕ). n ∷ []) (sym is)
-            ∙ ap (λ (x : List ℕ). t ∷ x) (sym (left_text w body d refl ∙ ap (λ (x : List ℕ). cut (jumps_from w c.mode x)) (drop_of_length-le body h) ∙ ap cut (jumps_none w c.mode)));
+            ∙ ap (λ (x : List ℕ). t ∷ x) (sym (left_text body d refl ∙ ap (λ (x : List ℕ). cut (jumps_from c.mode x)) (drop_of_length-le body h) ∙ ap cut (jumps_none c.mode)));
         nearer = let z : ◌≡◌ {A = ℕ} (cond c.listed 1 0) 1 = ap (λ (t : Bool). cond t 1 0) e in omega arith;
       }
     where

@@ -3,11 +3,11 @@
 use Prim.Native.Nat.{ℕ}
 use mathlib.Core.Path.{◌≡◌, refl}
 use mathlib.Core.List.{List, [], ◌∷◌}
-use Rattle.image_jumps.specs.Jumps.{jumps_from, jumps_of, index_words, check_words}
+use Rattle.image_jumps.specs.Jumps.{jumps_from, jumps_of}
 
 infix 60 ◌jumps◌
 abbrev pub ◌jumps◌ : List ℕ → List ℕ → Type 0
-body jumps targets = jumps_of index_words body ≡ targets
+body jumps targets = jumps_of body ≡ targets
 
 pub jump-table :
     -- GOTO 1 0,,20: spaces are skipped in a number, and an empty place gives none
@@ -23,8 +23,5 @@ pub jump-table :
     × ((0x22 ∷ 0x89 ∷ 0x31 ∷ 0x22 ∷ 0x64 ∷ 0x89 ∷ 0x31 ∷ 0x8F ∷ 0x89 ∷ 0x31 ∷ []) jumps [])
     -- DATA up to a colon, a REM in it being none, and then GOTO 2
     × ((0x83 ∷ 0x89 ∷ 0x31 ∷ 0x8F ∷ 0x3A ∷ 0x89 ∷ 0x32 ∷ []) jumps (2 ∷ []))
-    -- RUN 5 is none for the index, and one for the check; RUN alone is none
-    × ((0x8A ∷ 0x20 ∷ 0x35 ∷ []) jumps [])
-    × (jumps_of check_words (0x8A ∷ 0x20 ∷ 0x35 ∷ 0x3A ∷ 0x8A ∷ 0x3A ∷ 0x89 ∷ 0x32 ∷ []) ≡ 5 ∷ 2 ∷ [])
 unfolding jumps_from
-jump-table = (refl, refl, refl, refl, refl, refl, refl, refl, refl)
+jump-table = (refl, refl, refl, refl, refl, refl, refl)

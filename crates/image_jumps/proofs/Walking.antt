@@ -3,7 +3,7 @@
 -- Assumes nothing.
 use Prim.Native.Nat.{ℕ, suc, ◌+◌, ◌-◌, ◌≤◌, ◌<◌}
 use mathlib.Core.Path.{◌≡◌, refl, sym, ap, ◌∙◌}
-use mathlib.Core.Bool.{Bool, true, false, cond, ◌&&◌}
+use mathlib.Core.Bool.{Bool, true, false, cond}
 use mathlib.Core.List.{List, [], ◌∷◌, ◌++◌}
 use native.Mathlib.Omega.{arith}
 use lib.Dec.{eqb}
@@ -18,28 +18,27 @@ use Rattle.image_units.specs.declared.Taken.{Taken}
 use Rattle.image_units.specs.Units.{mode_behind, unquoted_unit, quoted_unit, unit_at}
 use Rattle.image_units.proofs.Walking.{unit_takes}
 use Rattle.image_jumps.specs.declared.Part.TheVariants.{Empty}
-use Rattle.image_jumps.specs.declared.JumpWords.{JumpWords}
-use Rattle.image_jumps.specs.Jumps.{targets_from, is_jump_word, list_behind, opened_list, heeded, jumps_on, jumps_from}
+use Rattle.image_jumps.specs.Jumps.{targets_from, list_behind, opened_list, heeded, jumps_on, jumps_from}
 use Rattle.image_jumps.proofs.Targets.{targets_none}
 
-nearer : (w : JumpWords) → Nearer (λ (x : Mode × List ℕ). length x.1) (λ f x. jumps_on w f x.0 x.1)
-nearer w x f g alike = go x.1 alike
+nearer : Nearer (λ (x : Mode × List ℕ). length x.1) (λ f x. jumps_on f x.0 x.1)
+nearer x f g alike = go x.1 alike
   where
-    go : (s : List ℕ) → ((y : Mode × List ℕ) → length y.1 < length s → f y ≡ g y) → jumps_on w f x.0 s ≡ jumps_on w g x.0 s
+    go : (s : List ℕ) → ((y : Mode × List ℕ) → length y.1 < length s → f y ≡ g y) → jumps_on f x.0 s ≡ jumps_on g x.0 s
     go [] h = refl
     go (b ∷ rest) h =
         let t = unit_at heeded x.0 b rest in
-        ap (λ (js : List ℕ). targets_from Empty (opened_list w x.0 b rest) ++ js)
+        ap (λ (js : List ℕ). targets_from Empty (opened_list x.0 b rest) ++ js)
         (h (t.mode, drop t.used (b ∷ rest)) (omega (arith, length-drop t.used (b ∷ rest), (unit_takes heeded x.0 b rest).0)))
 
-pub jumps_none : (w : JumpWords) (mode : Mode) → jumps_from w mode [] ≡ []
+pub jumps_none : (mode : Mode) → jumps_from mode [] ≡ []
 unfolding jumps_from
-jumps_none w mode = refl
+jumps_none mode = refl
 
-pub jumps_more : (w : JumpWords) (mode : Mode) (b : ℕ) (rest : List ℕ)
-    → jumps_from w mode (b ∷ rest) ≡ targets_from Empty (opened_list w mode b rest) ++ jumps_from w (unit_at heeded mode b rest).mode (drop (unit_at heeded mode b rest).used (b ∷ rest))
+pub jumps_more : (mode : Mode) (b : ℕ) (rest : List ℕ)
+    → jumps_from mode (b ∷ rest) ≡ targets_from Empty (opened_list mode b rest) ++ jumps_from (unit_at heeded mode b rest).mode (drop (unit_at heeded mode b rest).used (b ∷ rest))
 unfolding jumps_from
-jumps_more w mode b rest = again_on (nearer w) [] (λ x. suc (length x.1)) (λ y. omega arith) (mode, b ∷ rest)
+jumps_more mode b rest = again_on nearer [] (λ x. suc (length x.1)) (λ y. omega arith) (mode, b ∷ rest)
 
 -- ---- bytes that may be passed
 
@@ -53,12 +52,7 @@ pub record Inert (b : ℕ) : Type 0 where
   pub goto : b ≡ 0x89 → ⊥
   pub gosub : b ≡ 0x8D → ⊥
   pub then : b ≡ 0xA7 → ⊥
-  pub run : b ≡ 0x8A → ⊥
   pub go : b ≡ 0xCB → ⊥
-
-and_false : (x : Bool) → (x && false) ≡ false
-and_false true = refl
-and_false false = refl
 
 -- a unit of one byte that leaves the mode as it is
 record Stays (mode : Mode) (t : Taken) : Type 0 where
@@ -82,34 +76,29 @@ module _ (b : ℕ) (s : List ℕ) (i : Inert b) where
       }
   stays QuotedData = record { one = refl; same = simp (ne_eqb b 0x22 i.quote) }
 
-  module _ (w : JumpWords) where
-    no_word : is_jump_word w b ≡ false
-    unfolding is_jump_word
-    no_word = simp (ne_eqb b 0x89 i.goto, ne_eqb b 0x8D i.gosub, ne_eqb b 0xA7 i.then, ne_eqb b 0x8A i.run) (and_false w.run)
+  opens_none : (mode : Mode) → opened_list mode b s ≡ []
+  unfolding opened_list
+  opens_none Plain = simp (ne_eqb b 0x89 i.goto, ne_eqb b 0x8D i.gosub, ne_eqb b 0xA7 i.then, ne_eqb b 0xCB i.go)
+  opens_none Quoted = refl
+  opens_none Remark = refl
+  opens_none Data = refl
+  opens_none QuotedData = refl
 
-    opens_none_lem : (mode : Mode) → opened_list w mode b s ≡ []
-    unfolding opened_list
-    opens_none_lem Plain = simp (no_word, ne_eqb b 0xCB i.go)
-    opens_none_lem Quoted = refl
-    opens_none_lem Remark = refl
-    opens_none_lem Data = refl
-    opens_none_lem QuotedData = refl
-
-    pub jumps_pass : (mode : Mode) → jumps_from w mode (b ∷ s) ≡ jumps_from w mode s
-    jumps_pass mode =
-        let k = stays mode in
-        jumps_more w mode b s ∙ ap (λ (ts : List ℕ). targets_from Empty ts ++ jumps_from w (unit_at heeded mode b s).mode (drop (unit_at heeded mode b s).used (b ∷ s))) (opens_none_lem mode)
-        ∙ ap (λ (ts : List ℕ). ts ++ jumps_from w (unit_at heeded mode b s).mode (drop (unit_at heeded mode b s).used (b ∷ s))) (targets_none Empty)
-        ∙ ap (λ (m : Mode). jumps_from w m (drop (unit_at heeded mode b s).used (b ∷ s))) k.same ∙ ap (λ (n : ℕ). jumps_from w mode (drop n (b ∷ s))) k.one
+  pub jumps_pass : (mode : Mode) → jumps_from mode (b ∷ s) ≡ jumps_from mode s
+  jumps_pass mode =
+      let k = stays mode in
+      jumps_more mode b s ∙ ap (λ (ts : List ℕ). targets_from Empty ts ++ jumps_from (unit_at heeded mode b s).mode (drop (unit_at heeded mode b s).used (b ∷ s))) (opens_none mode)
+      ∙ ap (λ (ts : List ℕ). ts ++ jumps_from (unit_at heeded mode b s).mode (drop (unit_at heeded mode b s).used (b ∷ s))) (targets_none Empty)
+      ∙ ap (λ (m : Mode). jumps_from m (drop (unit_at heeded mode b s).used (b ∷ s))) k.same ∙ ap (λ (n : ℕ). jumps_from mode (drop n (b ∷ s))) k.one
 
 -- spaces are passed
-pub jumps_spaces : (w : JumpWords) (mode : Mode) (s : List ℕ) → jumps_from w mode s ≡ jumps_from w mode (past (equals 0x20) s)
+pub jumps_spaces : (mode : Mode) (s : List ℕ) → jumps_from mode s ≡ jumps_from mode (past (equals 0x20) s)
 unfolding front
-jumps_spaces w mode [] = refl
-jumps_spaces w mode (b ∷ s) = go (eqb b 0x20) refl (jumps_spaces w mode s)
+jumps_spaces mode [] = refl
+jumps_spaces mode (b ∷ s) = go (eqb b 0x20) refl (jumps_spaces mode s)
   where
-    go : (t : Bool) → eqb b 0x20 ≡ t → jumps_from w mode s ≡ jumps_from w mode (past (equals 0x20) s) → jumps_from w mode (b ∷ s) ≡ jumps_from w mode (past (equals 0x20) (b ∷ s))
+    go : (t : Bool) → eqb b 0x20 ≡ t → jumps_from mode s ≡ jumps_from mode (past (equals 0x20) s) → jumps_from mode (b ∷ s) ≡ jumps_from mode (past (equals 0x20) (b ∷ s))
     go true e ih =
         let z : b ≡ 0x20 = eqb-true b 0x20 e in
-        jumps_pass b s (omega arith) w mode ∙ ih ∙ ap (λ (n : ℕ). jumps_from w mode (drop n (b ∷ s))) (sym (front_more (equals 0x20) b s e))
-    go false e ih = ap (λ (n : ℕ). jumps_from w mode (drop n (b ∷ s))) (sym (front_none (equals 0x20) b s e))
+        jumps_pass b s (omega arith) mode ∙ ih ∙ ap (λ (n : ℕ). jumps_from mode (drop n (b ∷ s))) (sym (front_more (equals 0x20) b s e))
+    go false e ih = ap (λ (n : ℕ). jumps_from mode (drop n (b ∷ s))) (sym (front_none (equals 0x20) b s e))

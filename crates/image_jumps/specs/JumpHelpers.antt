@@ -3,7 +3,6 @@
 use Rattle.std.specs.Prelude.{ℕ, ◌+◌, ◌*◌, ◌-◌, ◌<◌, ◌≡◌, Bool, true, false, cond, List, [], ◌∷◌, ◌++◌, map, length, get_or, drop}
 use Rattle.image_units.specs.declared.Mode.{Mode}
 use Rattle.image_units.specs.declared.Mode.TheVariants.{Plain}
-use Rattle.image_jumps.specs.declared.JumpWords.{JumpWords}
 use Rattle.image_jumps.specs.declared.Part.{Part}
 use Rattle.image_jumps.specs.declared.Part.TheVariants.{Empty, Worth}
 use Rattle.image_jumps.specs.declared.Cursor.{Cursor}
@@ -20,50 +19,50 @@ low_part Empty = Empty
 low_part (Worth v) = Worth (low v)
 
 -- the rest of a list that bytes stand in, and the jumps behind it
-abbrev pub left_from : JumpWords → Bool → Part → Mode → List ℕ → List ℕ
-left_from w true part mode s = targets_from part s ++ jumps_from w mode s
-left_from w false part mode s = jumps_from w mode s
+abbrev pub left_from : Bool → Part → Mode → List ℕ → List ℕ
+left_from true part mode s = targets_from part s ++ jumps_from mode s
+left_from false part mode s = jumps_from mode s
 
 -- the jumps that are left of a body at a place
-unfoldable pub left_of : JumpWords → List ℕ → Cursor → List ℕ
+unfoldable pub left_of : List ℕ → Cursor → List ℕ
 unfolding targets_from jumps_from
-left_of w body c = map low (left_from w c.listed c.part c.mode (drop c.at body))
+left_of body c = map low (left_from c.listed c.part c.mode (drop c.at body))
 
 -- how far a place is from a body's end; leaving a list counts
 abbrev pub distance : List ℕ → Cursor → ℕ
 distance body c = 2 * (length body - c.at) + cond c.listed 1 0
 
 -- a step tells a target or none, and is nearer to the end
-pub record Moves (w : JumpWords) (body : List ℕ) (c : Cursor) (r : Moved) : Type 0 where
-  pub same : left_of w body c ≡ jump_told (low_part r.told) (left_of w body r.cursor)
+pub record Moves (body : List ℕ) (c : Cursor) (r : Moved) : Type 0 where
+  pub same : left_of body c ≡ jump_told (low_part r.told) (left_of body r.cursor)
   pub nearer : distance body r.cursor < distance body c
 
 -- a jump, and what is left behind it, nearer to the end
-pub record JumpsTo (w : JumpWords) (body : List ℕ) (c : Cursor) (target : ℕ) (d : Cursor) : Type 0 where
-  pub same : left_of w body c ≡ target ∷ left_of w body d
+pub record JumpsTo (body : List ℕ) (c : Cursor) (target : ℕ) (d : Cursor) : Type 0 where
+  pub same : left_of body c ≡ target ∷ left_of body d
   pub nearer : distance body d < distance body c
 
 -- the next jump
-abbrev pub NextIs : JumpWords → List ℕ → Cursor → Next → Type 0
-NextIs w body c (Jump target d) = JumpsTo w body c target d
-NextIs w body c None = left_of w body c ≡ []
+abbrev pub NextIs : List ℕ → Cursor → Next → Type 0
+NextIs body c (Jump target d) = JumpsTo body c target d
+NextIs body c None = left_of body c ≡ []
 
 -- the byte at a place of plain text opens a list that begins at a place behind it, and no other jump stands between
-pub record Begins (w : JumpWords) (body : List ℕ) (i : ℕ) (mode : Mode) (from : ℕ) : Type 0 where
+pub record Begins (body : List ℕ) (i : ℕ) (mode : Mode) (from : ℕ) : Type 0 where
   pub plain : mode ≡ Plain
   pub behind : i < from
-  pub gives : jumps_from w Plain (drop i body) ≡ targets_from Empty (drop from body) ++ jumps_from w Plain (drop from body)
+  pub gives : jumps_from Plain (drop i body) ≡ targets_from Empty (drop from body) ++ jumps_from Plain (drop from body)
 
-abbrev pub Opens : JumpWords → List ℕ → ℕ → Mode → Opened → Type 0
-Opens w body i mode (ListAt from) = Begins w body i mode from
-Opens w body i mode Nothing = targets_from Empty (opened_list w mode (get_or body i 0) (drop (i + 1) body)) ≡ []
+abbrev pub Opens : List ℕ → ℕ → Mode → Opened → Type 0
+Opens body i mode (ListAt from) = Begins body i mode from
+Opens body i mode Nothing = targets_from Empty (opened_list mode (get_or body i 0) (drop (i + 1) body)) ≡ []
 
 -- spaces and TO, and no jump between
-pub record GoesTo (w : JumpWords) (body : List ℕ) (i from : ℕ) : Type 0 where
+pub record GoesTo (body : List ℕ) (i from : ℕ) : Type 0 where
   pub behind : i < from
   pub list : behind_to (past (equals 0x20) (drop i body)) ≡ drop from body
-  pub none : jumps_from w Plain (drop i body) ≡ jumps_from w Plain (drop from body)
+  pub none : jumps_from Plain (drop i body) ≡ jumps_from Plain (drop from body)
 
-abbrev pub BehindGo : JumpWords → List ℕ → ℕ → Opened → Type 0
-BehindGo w body i (ListAt from) = GoesTo w body i from
-BehindGo w body i Nothing = behind_to (past (equals 0x20) (drop i body)) ≡ []
+abbrev pub BehindGo : List ℕ → ℕ → Opened → Type 0
+BehindGo body i (ListAt from) = GoesTo body i from
+BehindGo body i Nothing = behind_to (past (equals 0x20) (drop i body)) ≡ []

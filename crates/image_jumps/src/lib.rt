@@ -1,33 +1,23 @@
 // The jumps of a body, one after the other.
+#![tactic(auto)]
+
 ghost use Rattle.std.specs.Prelude.{◌≡◌, true, false, [], ◌+◌, ◌≤◌, ◌<◌, length, get_or, drop};
-ghost use Rattle.image_jumps.specs.Jumps.{heeded, is_jump_word, with_digit, targets_from, opened_list, low};
+ghost use Rattle.image_jumps.specs.Jumps.{heeded, with_digit, targets_from, opened_list, low};
 ghost use Rattle.image_jumps.specs.JumpHelpers.{low_part, Opens, BehindGo, Moves, NextIs};
 
 use base_ascii::search;
 use base_ascii::search::Kind;
 use image_units::{Mode, Rules};
 
-// The words behind which a list of line numbers stands, besides GOTO, GOSUB, THEN and GO TO.
-#[derive(Drop)]
-pub struct JumpWords {
-    pub run: bool,
-}
-
-// The words of the index.
-pub const INDEX_WORDS: JumpWords = JumpWords { run: false };
-
-// The words of the check: RUN with a number goes to a line, too.
-pub const CHECK_WORDS: JumpWords = JumpWords { run: true };
-
 // A number of a list, as far as it was read: no digit yet, or digits of a value.
-#[derive(Drop)]
+#[derive(Clone, Copy)]
 pub enum Part {
     Empty,
     Worth(usize),
 }
 
 // A place of a body: the byte there, its mode, whether it stands in a list, and the list's number so far.
-#[derive(Drop)]
+#[derive(Clone, Copy)]
 pub struct Cursor {
     pub at: usize,
     pub mode: Mode,
@@ -36,21 +26,21 @@ pub struct Cursor {
 }
 
 // What follows a place: a jump and the place behind it, or no jump. A target above 65535 is told as 65536.
-#[derive(Drop)]
+#[derive(Clone, Copy)]
 pub enum Next {
     Jump { target: usize, cursor: Cursor },
     None,
 }
 
 // What a step told, and where it led.
-#[derive(Drop)]
+#[derive(Clone, Copy)]
 struct Moved {
     told: Part,
     cursor: Cursor,
 }
 
 // Where a list begins, if one is opened.
-#[derive(Drop)]
+#[derive(Clone, Copy)]
 enum Opened {
     List(usize),
     Nothing,
@@ -69,12 +59,12 @@ pub fn first() -> Cursor
 }
 
 // The next jump from a place on.
-pub fn next_jump(body: &[u8], words: JumpWords, cursor: Cursor) -> Next
-    ensures { NextIs words body.now cursor result }
+pub fn next_jump(body: &[u8], cursor: Cursor) -> Next
+    ensures { NextIs body.now cursor result }
 {
     let mut cursor = cursor;
     while cursor.at < body.len() {
-        let moved = step(body, words, cursor);
+        let moved = step(body, cursor);
         let told = moved.told;
         cursor = moved.cursor;
         match told {
@@ -87,13 +77,13 @@ pub fn next_jump(body: &[u8], words: JumpWords, cursor: Cursor) -> Next
             Part::Empty => {}
         }
     }
-    last(body, words, cursor)
+    last(body, cursor)
 }
 
 // At a body's end: the list's last number, if there is one.
-fn last(body: &[u8], words: JumpWords, cursor: Cursor) -> Next
+fn last(body: &[u8], cursor: Cursor) -> Next
     requires { length body.now ≤ cursor.at }
-    ensures { NextIs words body.now cursor result }
+    ensures { NextIs body.now cursor result }
 {
     let at = cursor.at;
     let mode = cursor.mode;
@@ -118,20 +108,20 @@ fn last(body: &[u8], words: JumpWords, cursor: Cursor) -> Next
 }
 
 // One unit of the text, or one byte of a list.
-fn step(body: &[u8], words: JumpWords, cursor: Cursor) -> Moved
+fn step(body: &[u8], cursor: Cursor) -> Moved
     requires { cursor.at < length body.now }
-    ensures { Moves words body.now cursor result }
+    ensures { Moves body.now cursor result }
 {
     if cursor.listed {
-        return list_step(body, words, cursor);
+        return list_step(body, cursor);
     }
-    text_step(body, words, cursor)
+    text_step(body, cursor)
 }
 
 // One byte of a list, or the first byte behind it, which is left to be read as any other.
-fn list_step(body: &[u8], words: JumpWords, cursor: Cursor) -> Moved
+fn list_step(body: &[u8], cursor: Cursor) -> Moved
     requires { (cursor.at < length body.now) × (cursor.listed ≡ true) }
-    ensures { Moves words body.now cursor result }
+    ensures { Moves body.now cursor result }
 {
     let at = cursor.at;
     let mode = cursor.mode;
@@ -186,22 +176,22 @@ fn cut(target: usize) -> usize
 }
 
 // One unit of the text, or all that opens a list.
-fn text_step(body: &[u8], words: JumpWords, cursor: Cursor) -> Moved
+fn text_step(body: &[u8], cursor: Cursor) -> Moved
     requires { (cursor.at < length body.now) × (cursor.listed ≡ false) }
-    ensures { Moves words body.now cursor result }
+    ensures { Moves body.now cursor result }
 {
     let at = cursor.at;
     let mode = cursor.mode;
-    match list_at(body, words, at, mode) {
+    match list_at(body, at, mode) {
         Opened::List(from) => lead(Part::Empty, from, Mode::Plain, true, Part::Empty),
-        Opened::Nothing => unit_step(body, words, at, mode),
+        Opened::Nothing => unit_step(body, at, mode),
     }
 }
 
 // One unit that opens no list.
-fn unit_step(body: &[u8], words: JumpWords, at: usize, mode: Mode) -> Moved
-    requires { (at < length body.now) × (targets_from Part.Empty (opened_list words mode (get_or body.now at 0) (drop (at + 1) body.now)) ≡ []) }
-    ensures { Moves words body.now (record { at = at; mode = mode; listed = false; part = Part.Empty }) result }
+fn unit_step(body: &[u8], at: usize, mode: Mode) -> Moved
+    requires { (at < length body.now) × (targets_from Part.Empty (opened_list mode (get_or body.now at 0) (drop (at + 1) body.now)) ≡ []) }
+    ensures { Moves body.now (record { at = at; mode = mode; listed = false; part = Part.Empty }) result }
 {
     let taken = image_units::unit_at(body, at, mode, heed());
     let used = taken.used;
@@ -221,12 +211,12 @@ fn heed() -> Rules
 }
 
 // The list that the byte at a place opens, which must be plain text.
-fn list_at(body: &[u8], words: JumpWords, at: usize, mode: Mode) -> Opened
+fn list_at(body: &[u8], at: usize, mode: Mode) -> Opened
     requires { at < length body.now }
-    ensures { Opens words body.now at mode result }
+    ensures { Opens body.now at mode result }
 {
     match mode {
-        Mode::Plain => plain_list(body, words, at),
+        Mode::Plain => plain_list(body, at),
         Mode::Quoted => Opened::Nothing,
         Mode::Remark => Opened::Nothing,
         Mode::Data => Opened::Nothing,
@@ -234,44 +224,31 @@ fn list_at(body: &[u8], words: JumpWords, at: usize, mode: Mode) -> Opened
     }
 }
 
-// Whether a token is a word behind which a list stands.
-fn is_jump_word(words: JumpWords, b: u8) -> bool
-    ensures { result ≡ is_jump_word words b }
-{
-    if b == 0x89 {
-        return true;
-    }
-    if b == 0x8D {
-        return true;
-    }
-    if b == 0xA7 {
-        return true;
-    }
-    if words.run {
-        return b == 0x8A;
-    }
-    false
-}
-
-// Such a word opens a list, and GO with TO behind it.
-fn plain_list(body: &[u8], words: JumpWords, at: usize) -> Opened
+// GOTO, GOSUB and THEN open a list, and GO with TO behind it.
+fn plain_list(body: &[u8], at: usize) -> Opened
     requires { at < length body.now }
-    ensures { Opens words body.now at Mode.Plain result }
+    ensures { Opens body.now at Mode.Plain result }
 {
     let b = body[at];
-    if is_jump_word(words, b) {
+    if b == 0x89 {
+        return Opened::List(at + 1);
+    }
+    if b == 0x8D {
+        return Opened::List(at + 1);
+    }
+    if b == 0xA7 {
         return Opened::List(at + 1);
     }
     if b == 0xCB {
-        return behind_go(body, words, at + 1);
+        return behind_go(body, at + 1);
     }
     Opened::Nothing
 }
 
 // Behind GO: spaces, and then TO.
-fn behind_go(body: &[u8], words: JumpWords, from: usize) -> Opened
+fn behind_go(body: &[u8], from: usize) -> Opened
     requires { from ≤ length body.now }
-    ensures { BehindGo words body.now from result }
+    ensures { BehindGo body.now from result }
 {
     let to = from + search::front(&body[from..], Kind::Space);
     if to < body.len() {

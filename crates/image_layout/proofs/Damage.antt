@@ -213,8 +213,8 @@ split (a ∷ x) (b ∷ y) u v h e =
     let heads : a ≡ b = ap (λ (s : List ℕ). get_or s 0 0) e in
     (rw (heads, tails.0), tails.1)
 
-same_line_lem : (l m : NumberedBody) → l.number ≡ m.number → l.body ≡ m.body → l ≡ m
-same_line_lem l m e f = ap (λ (n : ℕ). record { number = n; body = l.body }) e ∙ ap (λ (b : List ℕ). record { number = m.number; body = b }) f
+same_line : (l m : NumberedBody) → l.number ≡ m.number → l.body ≡ m.body → l ≡ m
+same_line l m e f = ap (λ (n : ℕ). record { number = n; body = l.body }) e ∙ ap (λ (b : List ℕ). record { number = m.number; body = b }) f
 
 regrouped : (body rest : List ℕ) → ((body ++ 0 ∷ []) ++ rest) ++ 0 ∷ 0 ∷ [] ≡ body ++ (0 ∷ (rest ++ 0 ∷ 0 ∷ []))
 regrouped body rest = simp append_assoc
@@ -235,7 +235,7 @@ lines_same a (l ∷ ls) (m ∷ ms) h k e =
     let rest = lines_bytes (link_of a l.body) ls in
     let rest' = lines_bytes (link_of a m.body) ms in
     let parts = split l.body m.body (0 ∷ rest ++ 0 ∷ 0 ∷ []) (0 ∷ rest' ++ 0 ∷ 0 ∷ []) long (sym (regrouped l.body rest) ∙ ap (drop 4) e ∙ regrouped m.body rest') in
-    let same : l ≡ m = same_line_lem l m number parts.0 in
+    let same : l ≡ m = same_line l m number parts.0 in
     let more : ls ≡ ms =
     lines_same (link_of a l.body) ls ms (record { fits = h.fits; numbers = h.numbers.1 }) (rw long (record { fits = k.fits; numbers = k.numbers.1 }))
     (ap (drop 1) parts.1 ∙ ap (λ (n : ℕ). lines_bytes (a + 5 + n) ms ++ 0 ∷ 0 ∷ []) (sym long)) in

@@ -1,1 +1,2 @@
 // Laws alone: the bytes of an image, and that both readers read them back.
+#![tactic(auto)]

@@ -1,9 +1,11 @@
 // What a machine takes: line numbers, bodies, and images that fit its BASIC memory.
+#![tactic(auto)]
+
 ghost use Rattle.std.specs.Prelude.{◌≡◌};
 ghost use Rattle.image_limits.specs.Limits.{c64, is_too_high, is_not_ascending, is_bad_length, in_basic_memory};
 
 // The limits of a machine: its highest line number, its longest body, and the first and the last address of its BASIC memory.
-#[derive(Drop)]
+#[derive(Clone, Copy)]
 pub struct Limits {
     pub highest: u16,
     pub longest: usize,

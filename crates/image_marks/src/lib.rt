@@ -1,4 +1,6 @@
 // The numbers that an image's lines have, marked in lent bytes, so that a target is looked up in one step.
+#![tactic(auto)]
+
 ghost use Rattle.std.specs.Prelude.{◌≡◌};
 ghost use Rattle.image_readers.specs.Lined.{lined_from};
 ghost use Rattle.image_readers.specs.Links.{link_step};

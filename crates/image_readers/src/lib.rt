@@ -1,6 +1,8 @@
 // The two readers of an image: by terminators, as the original reads, and by links.
 // Each has three calls: `check` reads the whole image, `step` the line at an offset, `body` hands out that line's bytes. What both do alike
 // stands here, with the reader as an argument.
+#![tactic(auto)]
+
 ghost use Rattle.std.specs.Prelude.{◌≡◌, ◌+◌, ◌≤◌, length};
 ghost use Rattle.image_readers.specs.Answers.{step_answer, checked_answer};
 ghost use Rattle.image_readers.specs.Bodies.{body_at};
@@ -18,7 +20,7 @@ pub mod terminators;
 const LONGEST: usize = 1048576;
 
 // What says where a line ends: the first 00 behind its number, or its link.
-#[derive(Drop)]
+#[derive(Clone, Copy)]
 pub enum By {
     Terminators,
     Links,
@@ -26,7 +28,7 @@ pub enum By {
 
 // A line of an image: its own address in memory, its link and its number, the offsets of its body's first byte and behind its last, and
 // the offset of what follows the line.
-#[derive(Drop)]
+#[derive(Clone, Copy)]
 pub struct Line {
     pub address: usize,
     pub link: u16,
@@ -37,7 +39,7 @@ pub struct Line {
 }
 
 // What stands at an offset.
-#[derive(Drop)]
+#[derive(Clone, Copy)]
 pub enum Step {
     Found(Line),
     End,
@@ -45,7 +47,7 @@ pub enum Step {
 }
 
 // What a whole image is.
-#[derive(Drop)]
+#[derive(Clone, Copy)]
 pub enum Checked {
     Image { load: u16, lines: usize },
     Refused(Refusal),

@@ -1,4 +1,6 @@
 // What the machine makes of a program's links after loading it: its ROM's routine at A533, over an image that is loaded at its own address.
+#![tactic(auto)]
+
 ghost use Rattle.std.specs.Prelude.{◌≡◌, ◌+◌, ◌≤◌, ◌<◌, length};
 ghost use Rattle.image_relink.specs.Relinking.{come_round, in_memory, zero_sought, stored, relink_step, relinked_answer, relinking};
 
@@ -8,7 +10,7 @@ use base_refusals::Refusal;
 const LONGEST: usize = 1048576;
 
 // What the search for a line's 00 comes to.
-#[derive(Drop)]
+#[derive(Clone, Copy)]
 pub enum Zero {
     // The count of one byte at which the 00 stands.
     At(usize),
@@ -19,7 +21,7 @@ pub enum Zero {
 }
 
 // What becomes of a line.
-#[derive(Drop)]
+#[derive(Clone, Copy)]
 pub enum Passed {
     End,
     // Its link stays, and the routine goes on at an offset.
@@ -32,7 +34,7 @@ pub enum Passed {
 }
 
 // What becomes of a program.
-#[derive(Drop)]
+#[derive(Clone, Copy)]
 pub enum Relinked {
     // Every link is as it was.
     Same,

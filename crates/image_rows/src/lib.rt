@@ -1,4 +1,6 @@
 // What `find`, `where` and `jumps` show of an image, as texts in a lent buffer: the whole text, or the room that it needs.
+#![tactic(auto)]
+
 ghost use Rattle.std.specs.Prelude.{◌≡◌, ◌≤◌, length};
 ghost use Rattle.base_refusals.specs.Answer.{done};
 ghost use Rattle.base_lent.specs.Lent.{into_buffer, left};

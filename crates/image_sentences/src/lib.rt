@@ -1,5 +1,7 @@
 // What makes a program unfit for the master, and whether a program or a disk is fit: each a line for a person, behind the name of what was read.
 // Such a line goes into a lent buffer whole, or the room that it needs is told.
+#![tactic(auto)]
+
 ghost use Rattle.std.specs.Prelude.{◌≡◌, ◌≤◌, length};
 ghost use Rattle.base_refusals.specs.Answer.{done};
 ghost use Rattle.base_lent.specs.Lent.{into_buffer, left};
@@ -11,38 +13,38 @@ use image_faults::Fault;
 use say_put::lend_row;
 
 // The rows. # stands for the next number that the line carries.
-pub const MEMORY: [u8; 82] =
+const MEMORY: [u8; 82] =
     *b": it loads at # and has # bytes, which do not fit into BASIC memory, 2049 to 40959";
 
-pub const TOO_HIGH: [u8; 35] = *b": line #: its number is above 63999";
+const TOO_HIGH: [u8; 35] = *b": line #: its number is above 63999";
 
-pub const NOT_ASCENDING: [u8; 48] = *b": line #: its number is not above the one before";
+const NOT_ASCENDING: [u8; 48] = *b": line #: its number is not above the one before";
 
-pub const ZERO: [u8; 91] =
+const ZERO: [u8; 91] =
     *b": line #: it holds a zero at address #: the machine ends it there, and the two readers part";
 
-pub const LENGTH: [u8; 42] = *b": line #: it has # bytes, and not 1 to 250";
+const LENGTH: [u8; 42] = *b": line #: it has # bytes, and not 1 to 250";
 
-pub const TARGET_TOO_HIGH: [u8; 47] = *b": line #: it jumps to a line number above 65535";
+const TARGET_TOO_HIGH: [u8; 47] = *b": line #: it jumps to a line number above 65535";
 
-pub const NO_TARGET: [u8; 48] = *b": line #: it jumps to line #, which is not there";
+const NO_TARGET: [u8; 48] = *b": line #: it jumps to line #, which is not there";
 
-pub const LINK: [u8; 57] = *b": line #: the machine changes its link to # after loading";
+const LINK: [u8; 57] = *b": line #: the machine changes its link to # after loading";
 
-pub const LINKS_LEAVE: [u8; 78] =
+const LINKS_LEAVE: [u8; 78] =
     *b": the machine runs past the program's end when it sets the links after loading";
 
-pub const LINKS_ENDLESS: [u8; 56] = *b": the machine never ends setting the links after loading";
+const LINKS_ENDLESS: [u8; 56] = *b": the machine never ends setting the links after loading";
 
-pub const FIT_LINE: [u8; 96] =
+const FIT_LINE: [u8; 96] =
     *b": fit for the master: it loads at # and has # line, the same by both readers and for the machine";
 
-pub const FIT_LINES: [u8; 97] =
+const FIT_LINES: [u8; 97] =
     *b": fit for the master: it loads at # and has # lines, the same by both readers and for the machine";
 
-pub const UNFIT_LINE: [u8; 54] = *b": not fit for the master; it loads at # and has # line";
+const UNFIT_LINE: [u8; 54] = *b": not fit for the master; it loads at # and has # line";
 
-pub const UNFIT_LINES: [u8; 55] = *b": not fit for the master; it loads at # and has # lines";
+const UNFIT_LINES: [u8; 55] = *b": not fit for the master; it loads at # and has # lines";
 
 const FIT_FILE: [u8; 28] = *b": fit for the master: # file";
 

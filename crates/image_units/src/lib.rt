@@ -1,9 +1,11 @@
 // What the bytes of a body are, one unit after the other, apart from how they are spelt. No tables are needed.
+#![tactic(auto)]
+
 ghost use Rattle.std.specs.Prelude.{◌≡◌, ◌+◌, ◌<◌, length, get_or, drop, cond};
 ghost use Rattle.image_units.specs.Units.{unit_at, unquoted_unit, prefixed_unit, quoted_unit, toggled_mode, mode_behind};
 
 // Where a place of a body stands.
-#[derive(Drop)]
+#[derive(Clone, Copy)]
 pub enum Mode {
     Plain,
     Quoted,
@@ -15,7 +17,7 @@ pub enum Mode {
 }
 
 // What a walk over a body heeds: 64 as a prefix, 8F as the start of a remark, 83 as the start of the items of DATA, the tokens of BASIC 3.5.
-#[derive(Drop)]
+#[derive(Clone, Copy)]
 pub struct Rules {
     pub prefix: bool,
     pub remarks: bool,
@@ -24,7 +26,7 @@ pub struct Rules {
 }
 
 // What stands at a place of a body.
-#[derive(Drop)]
+#[derive(Clone, Copy)]
 pub enum Unit {
     // A byte as a character: quoted, or below 80.
     Char(u8),
@@ -41,7 +43,7 @@ pub enum Unit {
 }
 
 // A unit, how many bytes of the body it takes, and the mode behind it.
-#[derive(Drop)]
+#[derive(Clone, Copy)]
 pub struct Taken {
     pub unit: Unit,
     pub used: usize,

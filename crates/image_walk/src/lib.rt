@@ -1,5 +1,7 @@
 // The listing walk: an image and a place in it, kept together. It adds nothing to the steps of the reader by terminators.
 // A function over `Walk` takes it apart and calls a function on the image and the offset.
+#![tactic(auto)]
+
 ghost use Rattle.std.specs.Prelude.{◌≡◌};
 ghost use Rattle.image_readers.specs.Answers.{step_answer};
 ghost use Rattle.image_readers.specs.Bodies.{body_at};
@@ -9,7 +11,7 @@ ghost use Rattle.image_walk.specs.Places.{walk_at, behind};
 use image_readers::Step;
 
 // An image, and the offset at which the walk stands.
-#[derive(Drop)]
+#[derive(Clone, Copy)]
 pub struct Walk<'a> {
     image: &'a [u8],
     offset: usize,

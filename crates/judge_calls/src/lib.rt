@@ -1,6 +1,7 @@
 // The calls on texts and images that a frame can ask for: each takes the payload of a request, calls one public function and answers what came
 // back. False where the answer could not be written.
-pub mod compared;
+#![tactic(auto)]
+
 pub mod counted;
 pub mod dialects;
 pub mod found;

@@ -10,7 +10,7 @@ use list_options::ListOptions;
 use texts::Asked;
 use word_dialects::Named;
 
-#[derive(Drop)]
+#[derive(Clone, Copy)]
 pub enum Call {
     Crunch(Options),
     List,
@@ -21,7 +21,7 @@ pub enum Call {
 }
 
 // What a request asks for.
-#[derive(Drop)]
+#[derive(Clone, Copy)]
 pub enum Request {
     Known(Call),
     Unknown,

@@ -5,7 +5,7 @@ use guess::resolve;
 use guess::resolve::Resolved;
 use word_dialects::{Dialect, Named};
 
-#[derive(Drop)]
+#[derive(Clone, Copy)]
 pub enum Asked {
     With(Options),
     Unknown,
@@ -27,9 +27,9 @@ pub fn with_options(payload: &[u8]) -> Asked {
     asked_for(judge_frames::u16_at(payload, 0), payload[2], payload[3])
 }
 
-// Bit 0 of the options: the machine profile; bit 1: short forms; bit 2: codes everywhere. No other bit is known.
+// Bit 0 of the options: the machine profile; bit 1: short forms. No other bit is known.
 fn asked_for(load: u16, dialect: u8, bits: u8) -> Asked {
-    if bits > 7 {
+    if bits > 3 {
         return Asked::Unknown;
     }
     match word_dialects::dialect_by_number(dialect) {
@@ -37,8 +37,7 @@ fn asked_for(load: u16, dialect: u8, bits: u8) -> Asked {
             load,
             dialect,
             profile: bits % 2 == 1,
-            forms: bits / 2 % 2 == 1,
-            codes: bits / 4 == 1,
+            forms: bits / 2 == 1,
         }),
         Named::Refused(_) => Asked::Unknown,
     }

@@ -1,4 +1,6 @@
 // Prints the SHA-256 of standard input as sha256sum does, for oracle/digests: in pieces, two of each read.
+#![tactic(auto)]
+
 use digest_sha256::State;
 use libc::{STDIN_FILENO, STDOUT_FILENO};
 

@@ -1,4 +1,6 @@
 // The frames of the batch driver: the numbers of a request, the answer to it, and the buffers that are lent to a call.
+#![tactic(auto)]
+
 pub mod rooms;
 
 ghost use Rattle.std.specs.Prelude.{◌≡◌, ◌+◌, ◌*◌, ◌^◌, ◌≤◌, length};
@@ -49,7 +51,7 @@ fn u64_of(low: u32, high: u32) -> u64
 }
 
 // An answer while it is put together. Its first four bytes are kept for the length of its body, which is known last.
-#[derive(Drop)]
+#[derive(Clone, Copy)]
 pub struct Answer {
     pub bytes: [u8; 64],
     pub len: usize,

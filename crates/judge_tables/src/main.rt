@@ -2,6 +2,8 @@
 // token that crunching gives the text under BASIC 3.5, in hexadecimal, and the text that listing gives the token there; what this must print are
 // the published tables, facts/rom-words.tsv and facts/basic35-words.tsv. Then the code of each escape that standard input names, a name to a line.
 // Then, for each of the 256 bytes, the listing of a line that holds the byte alone, and of one that holds a quote and the byte.
+#![tactic(auto)]
+
 ghost use Rattle.word_tables.specs.WordsHelpers.{SpellsWords};
 
 use base_lent::Outcome;
@@ -30,7 +32,6 @@ fn token_of(text: &[u8], bytes: &[u8], index: &[u16]) -> u8
         demoted: [false; 123],
         basic35: true,
         forms: false,
-        codes: false,
     };
     match word_match::match_plain(text, bytes, index, sets) {
         Match::Word {

@@ -1,4 +1,6 @@
 // A digest, written into a lent buffer.
+#![tactic(auto)]
+
 ghost use Rattle.std.specs.Prelude.{◌≡◌};
 ghost use Rattle.base_refusals.specs.Answer.{done};
 ghost use Rattle.base_lent.specs.Lent.{into_buffer, left};

@@ -1,3 +1,2 @@
 pub mod Listing
-pub mod TellingMaster
 pub mod Walking

@@ -15,7 +15,7 @@ is_yes n = not (eqb n 0)
 
 -- what a text is crunched with, the dialect known
 abbrev pub crunch_options : CrunchNumbers → Dialect → Options
-crunch_options o d = record { load = o.load; dialect = d; profile = is_yes o.profile; forms = is_yes o.forms; codes = is_yes o.codes }
+crunch_options o d = record { load = o.load; dialect = d; profile = is_yes o.profile; forms = is_yes o.forms }
 
 abbrev pub reader_by : Bool → By
 reader_by links = cond links Links Terminators

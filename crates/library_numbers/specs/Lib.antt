@@ -1,4 +1,3 @@
 pub mod Choices
 pub mod FaultNumbers
-pub mod MasterNumbers
 pub mod Overview

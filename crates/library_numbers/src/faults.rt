@@ -13,7 +13,7 @@ use image_units::Mode;
 // line; any other behind all. The next five are of jumps alone: the mode at a byte of the body (1 in quotes, 2 in a remark, 3 in DATA, 4 in
 // quotes there, any other in none of them), whether it stands in a list, whether a number of that list has begun, the byte, and that number.
 #[repr(C)]
-#[derive(Drop)]
+#[derive(Clone, Copy)]
 pub struct WalkNumbers {
     pub stage: u8,
     pub mode: u8,
@@ -27,7 +27,7 @@ pub struct WalkNumbers {
 
 // A fault by its kind, with what it carries, and the place behind it. Kind 0 is none.
 #[repr(C)]
-#[derive(Drop)]
+#[derive(Clone, Copy)]
 pub struct FaultCode {
     pub kind: u8,
     pub first: usize,
@@ -124,7 +124,7 @@ fn found_code(found: Found) -> FaultCode
     }
 }
 
-pub fn fault_code(fault: Fault, place: WalkNumbers) -> FaultCode
+fn fault_code(fault: Fault, place: WalkNumbers) -> FaultCode
     ensures { result ≡ fault_code fault place }
 {
     match fault {
@@ -177,7 +177,7 @@ fn check_walk(check: Check, offset: usize, least: usize) -> WalkNumbers
     }
 }
 
-pub fn plain_walk(stage: u8, offset: usize, least: usize) -> WalkNumbers
+fn plain_walk(stage: u8, offset: usize, least: usize) -> WalkNumbers
     ensures { result ≡ plain_walk stage offset least }
 {
     WalkNumbers {

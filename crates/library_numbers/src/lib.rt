@@ -1,7 +1,8 @@
-// Numbers of the library for C and Rust (crates/moldthatch): the options that a caller gives in them, what an image's check is told in, the walk
-// over a program's faults, and the master disk.
+// Numbers of the library for C and Rust (crates/moldthatch): the options that a caller gives in them, what an image's check is told in, and the
+// walk over a program's faults.
+#![tactic(auto)]
+
 pub mod faults;
-pub mod masters;
 
 ghost use Rattle.std.specs.Prelude.{◌≡◌};
 ghost use Rattle.image_readers.specs.Answers.{checked_answer};
@@ -14,21 +15,19 @@ use image_readers::{By, Checked};
 use list_options::ListOptions;
 use word_dialects::Dialect;
 
-// What a text is crunched with: where its image begins, its dialect, whether the machine profile is asked, and whether short forms
-// and codes everywhere are taken.
+// What a text is crunched with: where its image begins, its dialect, whether the machine profile is asked, and whether short forms are taken.
 #[repr(C)]
-#[derive(Drop)]
+#[derive(Clone, Copy)]
 pub struct CrunchNumbers {
     pub load: u16,
     pub dialect: u8,
     pub profile: u8,
     pub forms: u8,
-    pub codes: u8,
 }
 
 // How an image is listed: under a dialect, with remarks as text or not, by links or by terminators.
 #[repr(C)]
-#[derive(Drop)]
+#[derive(Clone, Copy)]
 pub struct ListNumbers {
     pub dialect: u8,
     pub remarks: u8,
@@ -44,7 +43,6 @@ pub fn crunch_options(given: CrunchNumbers, dialect: Dialect) -> Options
         dialect,
         profile: given.profile != 0,
         forms: given.forms != 0,
-        codes: given.codes != 0,
     }
 }
 

@@ -1,5 +1,7 @@
 // Lists an image: standard input to standard output, or the files that it was given. The listing is written line by line, a long line in
 // stretches. Behind the names ./moldthatch puts the dialect's word and two flags: remarks as text, and the reader by links.
+#![tactic(auto)]
+
 use base_refusals::Refusal;
 use desk::options::AskedDialect;
 use desk::{input, options, output, result};

@@ -1,10 +1,12 @@
 // The text of one PETSCII byte.
+#![tactic(auto)]
+
 ghost use Rattle.std.specs.Prelude.{◌≡◌, [], ◌∷◌, ◌%◌, get_or};
 ghost use Rattle.list_bytes.specs.ByteTexts.{hex_digits, byte_text, remark_text};
 ghost use Rattle.list_bytes.specs.HeldHelpers.{held};
 
 // A text of at most six bytes: the first len of them, and zeros behind.
-#[derive(Drop)]
+#[derive(Clone, Copy)]
 pub struct ByteText {
     pub bytes: [u8; 6],
     pub len: usize,

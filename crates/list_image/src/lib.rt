@@ -1,4 +1,6 @@
 // The listing of an image.
+#![tactic(auto)]
+
 ghost use Rattle.std.specs.Prelude.{◌≡◌, ◌/◌, ◌≤◌, length};
 ghost use Rattle.base_lent.specs.Lent.{into_buffer, room_for, outcome_answer, left};
 ghost use Rattle.list_texts.specs.TextsHelpers.{SpellsTexts};

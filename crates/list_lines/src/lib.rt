@@ -1,4 +1,6 @@
 // The listing of one body and of one line.
+#![tactic(auto)]
+
 ghost use Rattle.std.specs.Prelude.{◌≡◌, ◌≤◌, length};
 ghost use Rattle.base_lent.specs.Stores.{Room, Put};
 ghost use Rattle.list_texts.specs.TextsHelpers.{SpellsTexts};

@@ -1,4 +1,6 @@
 // How an image is listed, and what a walk over a body then heeds.
+#![tactic(auto)]
+
 ghost use Rattle.std.specs.Prelude.{◌≡◌};
 ghost use Rattle.list_options.specs.Modes.{heeds_prefix, rules_under, original_options};
 
@@ -6,7 +8,7 @@ use image_readers::By;
 use image_units::Rules;
 use word_dialects::Dialect;
 
-#[derive(Drop)]
+#[derive(Clone, Copy)]
 pub struct ListOptions {
     pub dialect: Dialect,
     // Whether a remark is listed as text, up to its line's end: the second mode.

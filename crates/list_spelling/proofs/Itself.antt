@@ -97,13 +97,13 @@ module _ (rules : Rules) (b : ℕ) (rest : List ℕ) (k : Known b) where
   unfolding unit_text
   as_char mode e = rw e (record { used = refl; stays = refl; text = char_itself })
 
-  in_mode_lem : (mode : Mode) → ListsItself mode b (unit_at rules mode b rest)
+  in_mode : (mode : Mode) → ListsItself mode b (unit_at rules mode b rest)
   unfolding unit_at unit_text
-  in_mode_lem Plain = as_char Plain (unquoted_itself Plain plain_stays)
-  in_mode_lem Quoted = as_char Quoted (quoted_itself Quoted)
-  in_mode_lem Remark = record { used = refl; stays = refl; text = remarked_itself }
-  in_mode_lem Data = as_char Data (unquoted_itself Data data_stays)
-  in_mode_lem QuotedData = as_char QuotedData (quoted_itself QuotedData)
+  in_mode Plain = as_char Plain (unquoted_itself Plain plain_stays)
+  in_mode Quoted = as_char Quoted (quoted_itself Quoted)
+  in_mode Remark = record { used = refl; stays = refl; text = remarked_itself }
+  in_mode Data = as_char Data (unquoted_itself Data data_stays)
+  in_mode QuotedData = as_char QuotedData (quoted_itself QuotedData)
 
 pub itself : (rules : Rules) (mode : Mode) (b : ℕ) (rest : List ℕ) → lists_as_itself b ≡ true → ListsItself mode b (unit_at rules mode b rest)
-itself rules mode b rest e = in_mode_lem rules b rest (known b e) mode
+itself rules mode b rest e = in_mode rules b rest (known b e) mode

@@ -1,4 +1,6 @@
 // The listing of a line in stretches, each in a lent buffer of any size.
+#![tactic(auto)]
+
 ghost use Rattle.std.specs.Prelude.{◌≡◌, ◌&&◌, ◌-◌, ◌≤◌, length, leb, ltb};
 ghost use Rattle.std.proofs.lemmas.List.Edits.{sets};
 ghost use Rattle.list_texts.specs.TextsHelpers.{SpellsTexts};
@@ -13,7 +15,7 @@ use list_lines::decimal;
 use list_options::ListOptions;
 
 // What is left of a line: all of it, its body from a place on and the line's end, or nothing.
-#[derive(Drop)]
+#[derive(Clone, Copy)]
 pub enum Place {
     Number(u16),
     Body { at: usize, mode: Mode },
@@ -21,14 +23,14 @@ pub enum Place {
 }
 
 // How many bytes a stretch has, and the place behind it.
-#[derive(Drop)]
+#[derive(Clone, Copy)]
 pub struct Stretch {
     pub length: usize,
     pub place: Place,
 }
 
 // Where a walk over a body stands: in the buffer, in the body, and in which mode.
-#[derive(Drop)]
+#[derive(Clone, Copy)]
 struct Spot {
     to: usize,
     at: usize,

@@ -1,6 +1,8 @@
 // The words of listing as one run of bytes, with a start for each and one behind the last: below 80 the TSB word of the byte behind a 64,
 // empty where there is none; from 80 on the word of a byte outside quotes, empty where it is listed as its two digits; and behind FF the words of
 // BASIC 3.5, CC to FD. Digits are worked out.
+#![tactic(auto)]
+
 ghost use Rattle.std.specs.Prelude.{◌≡◌};
 ghost use Rattle.word_search.specs.Compare.{same};
 ghost use Rattle.list_texts.specs.Texts.{braced, text_of};

@@ -17,9 +17,9 @@ use Rattle.library_numbers.specs.Choices.{crunch_options, list_options}
 abbrev pub crunched_with : CrunchNumbers → List ℕ → Answer (List ℕ)
 crunched_with o text = and_then (by_number o.dialect) (λ d. crunched (crunch_options o d) text)
 
--- without the profile, short forms and codes
+-- without the profile and without short forms
 abbrev pub crunched_by : ℕ → ℕ → List ℕ → Answer (List ℕ)
-crunched_by dialect load text = crunched_with (record { load = load; dialect = dialect; profile = 0; forms = 0; codes = 0 }) text
+crunched_by dialect load text = crunched_with (record { load = load; dialect = dialect; profile = 0; forms = 0 }) text
 
 -- the line at a place of the image that a text would have
 abbrev pub measured_with : CrunchNumbers → ℕ → List ℕ → Answer (Option MeasuredLine)

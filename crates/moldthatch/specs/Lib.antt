@@ -2,5 +2,4 @@ pub mod Given
 pub mod Told
 pub mod ToldDialects
 pub mod ToldLines
-pub mod ToldMaster
 pub mod ToldStretch

@@ -4,7 +4,6 @@ ghost use Rattle.base_lent.specs.Lent.{into_buffer};
 ghost use Rattle.disk_rules.specs.Calls.{formatted, saved, scratched, file_bytes, disk_holding, onto_disk, changed_answer, disk_answer};
 ghost use Rattle.say_put.specs.Clipped.{Clipped};
 ghost use Rattle.disk_names.specs.Names.{name_given};
-ghost use Rattle.disk_title.specs.Title.{titled};
 ghost use Rattle.moldthatch.specs.Told.{told_code, bare_code, told_disk, holding_code, shown_directory};
 
 use base_refusals::Code;
@@ -40,14 +39,6 @@ pub extern "C" fn moldthatch_disk_scratch(disk: &mut [u8], name: &[u8]) -> Code
     ensures { record { code = result; buffer = disk.new } ≡ told_disk (onto_disk (scratched disk.old name.now) disk.old) }
 {
     changed_code(disk::scratch(disk, name))
-}
-
-// Sets the name and the id of a disk.
-#[unsafe(no_mangle)]
-pub extern "C" fn moldthatch_disk_title(disk: &mut [u8], name: &[u8], id: &[u8]) -> Code
-    ensures { record { code = result; buffer = disk.new } ≡ told_disk (onto_disk (titled disk.old name.now id.now) disk.old) }
-{
-    changed_code(disk_title::set_title(disk, name, id))
 }
 
 // Checks a disk: how many files it has, and how many sectors are free.

@@ -1,5 +1,7 @@
 // The library for C and for Rust: its calls take and give numbers and slices. A dialect is 0 for Auto, 1 for BASIC V2, 2 for TSB,
 // 3 for BASIC 3.5. A choice is 0 for no, and any other number for yes.
+#![tactic(auto)]
+
 ghost use Rattle.std.specs.Prelude.{◌≡◌};
 ghost use Rattle.base_refusals.specs.Code.{length_code};
 ghost use Rattle.base_lent.specs.Lent.{into_buffer, room_for};
@@ -18,7 +20,6 @@ use image_readers::{links, terminators};
 use library_numbers::{CrunchNumbers, ListNumbers};
 use word_dialects::Named;
 
-pub mod compared;
 pub mod counts;
 pub mod dialects;
 pub mod digests;
@@ -26,7 +27,6 @@ pub mod disks;
 pub mod fault_calls;
 pub mod indexes;
 pub mod lines;
-pub mod masters;
 pub mod stretch;
 
 // Crunches a text with options into the start of a buffer: the image's length.
@@ -64,7 +64,7 @@ pub extern "C" fn moldthatch_crunch_with_room(text: &[u8], options: CrunchNumber
     }
 }
 
-// Crunches a text into the start of a buffer, without the profile, short forms and codes: the image's length.
+// Crunches a text into the start of a buffer, without the profile and without short forms: the image's length.
 #[unsafe(no_mangle)]
 pub extern "C" fn moldthatch_crunch(text: &[u8], load: u16, dialect: u8, out: &mut [u8]) -> Code
     ensures { record { code = result; buffer = out.new } ≡ told_code (into_buffer (crunched_by dialect load text.now) out.old) }
@@ -76,7 +76,6 @@ pub extern "C" fn moldthatch_crunch(text: &[u8], load: u16, dialect: u8, out: &m
             dialect,
             profile: 0,
             forms: 0,
-            codes: 0,
         },
         out,
     )
@@ -94,7 +93,6 @@ pub extern "C" fn moldthatch_crunch_room(text: &[u8], load: u16, dialect: u8) ->
             dialect,
             profile: 0,
             forms: 0,
-            codes: 0,
         },
     )
 }

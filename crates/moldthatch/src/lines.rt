@@ -20,7 +20,7 @@ use word_dialects::Named;
 // A line, where `found` is 1: its link and number, its address in memory, the offsets of its body and of what follows it. The code is 0, with
 // what is told beside the line, or why there is none.
 #[repr(C)]
-#[derive(Drop)]
+#[derive(Clone, Copy)]
 pub struct LineCode {
     pub code: Code,
     pub found: u8,

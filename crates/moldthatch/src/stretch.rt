@@ -12,7 +12,7 @@ use word_dialects::Named;
 // What is left of a line: of kind 0 all of it, with its number; of kind 1 its body from a place on, in a mode, and the line's end; of any
 // other kind nothing. A mode is 1 in quotes, 2 in a remark, 3 in DATA, 4 in quotes there, and any other number in none of them.
 #[repr(C)]
-#[derive(Drop)]
+#[derive(Clone, Copy)]
 pub struct PlaceNumbers {
     pub kind: u8,
     pub mode: u8,
@@ -22,7 +22,7 @@ pub struct PlaceNumbers {
 
 // How many bytes a stretch has, or why there is none, and what is left behind it.
 #[repr(C)]
-#[derive(Drop)]
+#[derive(Clone, Copy)]
 pub struct StretchCode {
     pub code: Code,
     pub place: PlaceNumbers,

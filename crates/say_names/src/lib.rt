@@ -1,14 +1,13 @@
 // Names of files, split at their marks, and what a listing is called.
-ghost use Rattle.std.specs.Prelude.{◌≡◌, ◌+◌, ◌≤◌, ◌<◌, length, drop};
-ghost use Rattle.base_refusals.specs.Answer.{done};
-ghost use Rattle.base_lent.specs.Lent.{into_buffer, left};
+#![tactic(auto)]
+
+ghost use Rattle.std.specs.Prelude.{◌≡◌, ◌+◌, ◌<◌, length, drop};
 ghost use Rattle.say_put.specs.Clipped.{Clipped};
 ghost use Rattle.say_names.specs.Names.{behind_last, before_last, plain_name, listing_name};
 
 use base_ascii::search;
 use base_ascii::search::{Found, Kind};
-use base_lent::Outcome;
-use say_put::{lend_text, put_text};
+use say_put::put_text;
 
 // What stands behind a place.
 pub fn behind(word: &[u8], n: usize) -> &[u8]
@@ -47,21 +46,11 @@ pub fn plain_name(file: &[u8]) -> &[u8]
 }
 
 // Stores what a program's listing is called in a folder at the start of a buffer, as much of it as fits, and answers how many bytes that are.
-fn put_listing(out: &mut [u8], folder: &[u8], file: &[u8]) -> usize
+pub fn listing_name(folder: &[u8], file: &[u8], out: &mut [u8]) -> usize
     ensures { Clipped out.old 0 (listing_name folder.now file.now) result out.new }
 {
     let slash = put_text(out, 0, folder);
     let from = put_text(out, slash, b"/");
     let dot = put_text(out, from, plain_name(file));
     put_text(out, dot, b".txt")
-}
-
-// What a program's listing is called in a folder, whole at the start of a buffer; or the room that it needs, and the buffer is as it was.
-pub fn listing_name(folder: &[u8], file: &[u8], out: &mut [u8]) -> Outcome
-    requires { (length folder.now ≤ 4096) × (length file.now ≤ 4096) }
-    ensures { left result out.new ≡ into_buffer (done (listing_name folder.now file.now)) out.old }
-{
-    let mut name = [0u8; 8448];
-    let end = put_listing(&mut name, folder, file);
-    lend_text(&name[..end], out)
 }

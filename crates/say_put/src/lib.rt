@@ -1,5 +1,7 @@
 // Words and numbers stored in a lent buffer from a place on, as many as fit; each such call answers the place behind them. And whole texts: all
 // of a text is stored, or nothing, and the room that it needs is told.
+#![tactic(auto)]
+
 ghost use Rattle.std.specs.Prelude.{◌≡◌, ◌+◌, ◌≤◌, ◌<◌, length, drop};
 ghost use Rattle.base_steps.specs.Decimal.{decimal};
 ghost use Rattle.base_refusals.specs.Answer.{done};

@@ -1,4 +1,6 @@
 // Why there is no result, in a sentence for a person. The sentences are those of facts/refusals.tsv.
+#![tactic(auto)]
+
 ghost use Rattle.std.specs.Prelude.{◌≡◌, ◌≤◌, length};
 ghost use Rattle.say_put.specs.Clipped.{Clipped};
 ghost use Rattle.say_sentences.specs.Sentence.{behind_rows, sentence as sentence_of, placed_sentence, name_first, number_last, message as message_of};

@@ -7,7 +7,7 @@ use mathlib.Core.List.{List, [], ◌∷◌, ◌++◌}
 use native.Mathlib.Omega.{arith}
 use lib.Dec.{eqb, ltb}
 use borrow.Author.Tests.{ltb-true, ltb-false, eqb-true, le-ltb, ne_eqb}
-use Rattle.say_shown.specs.Shown.{is_control, capital_digit, shown_byte, shown, no_control}
+use Rattle.say_shown.specs.Shown.{is_control, capital_digit, shown_byte, shown, is_plain}
 
 plain_above : (b : ℕ) → 0x20 ≤ b → b < 0x7F → is_control b ≡ false
 unfolding is_control
@@ -29,12 +29,12 @@ digit_plain n h = go (ltb n 10)
     go true = plain_above (48 + n) (omega arith) (omega arith)
     go false = plain_above (55 + n) (omega arith) (omega arith)
 
-byte_plain : (b : ℕ) (s : List ℕ) → no_control s ≡ true → no_control (shown_byte b ++ s) ≡ true
-unfolding shown_byte no_control
+byte_plain : (b : ℕ) (s : List ℕ) → is_plain s ≡ true → is_plain (shown_byte b ++ s) ≡ true
+unfolding shown_byte is_plain
 byte_plain b s p = go (is_control b) refl
   where
     go : (t : Bool) → is_control b ≡ t
-        → no_control (cond t (0x7B ∷ 0x24 ∷ capital_digit (b / 16) ∷ capital_digit (b % 16) ∷ 0x7D ∷ []) (b ∷ []) ++ s) ≡ true
+        → is_plain (cond t (0x7B ∷ 0x24 ∷ capital_digit (b / 16) ∷ capital_digit (b % 16) ∷ 0x7D ∷ []) (b ∷ []) ++ s) ≡ true
     go true e =
         let small : b < 0x80 = control_small b e in
         rw (
@@ -47,7 +47,7 @@ byte_plain b s p = go (is_control b) refl
     go false e = rw e p
 
 -- whatever the bytes are, no control is among what is shown of them
-pub shown_plain : (s : List ℕ) → no_control (shown s) ≡ true
-unfolding shown no_control
+pub shown_plain : (s : List ℕ) → is_plain (shown s) ≡ true
+unfolding shown is_plain
 shown_plain [] = refl
 shown_plain (b ∷ s) = byte_plain b (shown s) (shown_plain s)

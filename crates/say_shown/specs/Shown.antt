@@ -25,7 +25,7 @@ unfolding shown
 shown_line words = shown words ++ (0x0A ∷ [])
 
 -- no byte is a control
-unfoldable pub no_control : List ℕ → Bool
+unfoldable pub is_plain : List ℕ → Bool
 unfolding is_control
-no_control [] = true
-no_control (b ∷ s) = cond (is_control b) false (no_control s)
+is_plain [] = true
+is_plain (b ∷ s) = cond (is_control b) false (is_plain s)

@@ -1,13 +1,14 @@
 // Bytes that come from a text, an image, a disk or a file's name, as a person is shown them: no control among them reaches a terminal.
 // Theorem `shown_plain` says so of all bytes.
+#![tactic(auto)]
+
 ghost use Rattle.std.specs.Prelude.{◌≡◌, ◌≤◌, ◌<◌, length};
 ghost use Rattle.say_put.specs.Clipped.{Clipped};
 ghost use Rattle.say_shown.specs.Shown.{is_control, capital_digit, shown_byte, shown, shown_line};
 
 use say_put::put_text;
 
-// Whether a byte is a control: one that a terminal would obey.
-pub fn is_control(b: u8) -> bool
+fn is_control(b: u8) -> bool
     ensures { result ≡ is_control b }
 {
     if b < 0x20 {

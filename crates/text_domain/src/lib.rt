@@ -1,4 +1,6 @@
 // Which texts are taken.
+#![tactic(auto)]
+
 ghost use Rattle.std.specs.Prelude.{◌≡◌, ◌≤◌};
 ghost use Rattle.base_ascii.specs.Search.{front};
 ghost use Rattle.text_domain.specs.Domain.{is_pi, domain_length, checked_text, text_check_answer};
@@ -11,7 +13,7 @@ use base_refusals::Refusal;
 mod eights;
 
 // What a check of a text answers.
-#[derive(Drop)]
+#[derive(Clone, Copy)]
 pub enum TextCheck {
     Fine,
     Refused(Refusal),

@@ -1,4 +1,6 @@
 // The lines of a text, found where they stand: nothing is copied.
+#![tactic(auto)]
+
 ghost use Rattle.std.specs.Prelude.{◌≡◌, ◌+◌, ◌≤◌, length, drop};
 ghost use Rattle.base_ascii.specs.Search.{is_blank, front};
 ghost use Rattle.text_lines.specs.SplitHelpers.{end_mark, line_from, run_end, AboveCr};
@@ -7,7 +9,7 @@ use base_ascii::search;
 use base_ascii::search::Kind;
 
 // What ends a line.
-#[derive(Drop)]
+#[derive(Clone, Copy)]
 pub enum LineRule {
     // LF and CR LF: the text as it is given.
     AsGiven,
@@ -16,7 +18,7 @@ pub enum LineRule {
 }
 
 // A line runs up to end, and the next one begins at next; begin stands behind the blanks in front of the line.
-#[derive(Drop)]
+#[derive(Clone, Copy)]
 pub struct TextLine {
     pub begin: usize,
     pub end: usize,

@@ -1,4 +1,6 @@
 // The number of a line, and where its body stands.
+#![tactic(auto)]
+
 ghost use Rattle.std.specs.Prelude.{◌≡◌, ◌+◌, ◌*◌, min};
 ghost use Rattle.text_numbers.specs.NumberHelpers.{digits_in as digits_of, numbering};
 
@@ -6,13 +8,13 @@ use base_ascii::search;
 use base_ascii::search::Kind;
 
 // Decimal digits in front of a text: how many, and their value. One past 32 bits is 4,294,967,295.
-#[derive(Drop)]
+#[derive(Clone, Copy)]
 pub struct Digits {
     pub count: usize,
     pub value: u32,
 }
 
-#[derive(Drop)]
+#[derive(Clone, Copy)]
 pub enum Numbering {
     // Nothing but white space.
     Blank,

@@ -1,9 +1,11 @@
 // Where an offset in a text stands, as an editor shows it.
+#![tactic(auto)]
+
 ghost use Rattle.std.specs.Prelude.{◌≡◌, ◌≤◌, ◌<◌, length};
 ghost use Rattle.text_places.specs.Place.{ends_line, place_behind as past_of, text_place};
 
 // Both are counted from 1.
-#[derive(Drop)]
+#[derive(Clone, Copy)]
 pub struct Place {
     pub line: usize,
     pub column: usize,

@@ -1,11 +1,13 @@
 // Dialects and their names.
+#![tactic(auto)]
+
 ghost use Rattle.std.specs.Prelude.{◌≡◌};
 ghost use Rattle.word_dialects.specs.Dialects.{by_number, named, named_answer, is_basic35, default_load};
 
 use base_refusals::Refusal;
 use word_search::{Section, Test};
 
-#[derive(Drop)]
+#[derive(Clone, Copy)]
 pub enum Dialect {
     // Decide by the program.
     Auto,
@@ -17,7 +19,7 @@ pub enum Dialect {
     Basic35,
 }
 
-#[derive(Drop)]
+#[derive(Clone, Copy)]
 pub enum Named {
     Known(Dialect),
     Refused(Refusal),

@@ -32,6 +32,6 @@ unfoldable pub plain_word : Sets → List Entry → List Entry → List ℕ → 
 unfolding word_in
 plain_word s v2 own t = word_in (plain_words s v2 own) t
 
--- the same words, with or without short forms (document 02, No. 7), and with or without codes everywhere
-abbrev pub with_options : Bool → Bool → Sets → Sets
-with_options forms codes s = record { tsb = s.tsb; demoted = s.demoted; basic35 = s.basic35; forms = forms; codes = codes }
+-- the same words, with or without short forms (document 02, No. 7)
+abbrev pub with_forms : Bool → Sets → Sets
+with_forms on s = record { tsb = s.tsb; demoted = s.demoted; basic35 = s.basic35; forms = on }

@@ -1,4 +1,6 @@
 // Words of the lists in a text: the first of a list that the text begins with, and which of them count. The two tables of words are lent.
+#![tactic(auto)]
+
 pub mod sets;
 pub mod tsb;
 

@@ -1,25 +1,23 @@
-// The words that count as words when a text is crunched, and what else is taken.
+// The words that count as words when a text is crunched.
 ghost use Rattle.std.specs.Prelude.{◌≡◌};
-ghost use Rattle.word_match.specs.Sets.{with_options};
+ghost use Rattle.word_match.specs.Sets.{with_forms};
 
 // Whether TSB words are live at all; and, by its place in the list, each word that is demoted, since the text uses it as a variable. A
-// word is live where `tsb` holds and it is not demoted. Whether the words of BASIC 3.5 are looked for beside the V2 words, whether short
-// forms of V2 words are taken, and whether escapes are in every mode.
-#[derive(Drop)]
+// word is live where `tsb` holds and it is not demoted. Whether the words of BASIC 3.5 are looked for beside the V2 words, and
+// whether short forms of V2 words are taken.
+#[derive(Clone, Copy)]
 pub struct Sets {
     pub tsb: bool,
     pub demoted: [bool; 123],
     pub basic35: bool,
     pub forms: bool,
-    pub codes: bool,
 }
 
-// The same words, with or without short forms and codes.
-pub fn with_options(sets: Sets, forms: bool, codes: bool) -> Sets
-    ensures { result ≡ with_options forms codes sets }
+// The same words, with or without short forms.
+pub fn with_forms(sets: Sets, on: bool) -> Sets
+    ensures { result ≡ with_forms on sets }
 {
     let mut given = sets;
-    given.forms = forms;
-    given.codes = codes;
+    given.forms = on;
     given
 }

@@ -1,9 +1,11 @@
 // Words compared with texts, and a list of words as it is stored: one run of bytes, with a start for each word and one behind the last.
+#![tactic(auto)]
+
 ghost use Rattle.std.specs.Prelude.{◌≡◌, ◌-◌};
 ghost use Rattle.word_search.specs.Compare.{begins as begins_of, alike as alike_of, same as same_of, shortens as shortens_of, passes as passes_of};
 ghost use Rattle.word_search.specs.RunHelpers.{Lies, Ready, Stored, word_of, passes_at, first_from};
 
-#[derive(Drop)]
+#[derive(Clone, Copy)]
 pub enum Match {
     // The word's place in its list, how many bytes of the text it takes, and its token.
     Word {
@@ -15,14 +17,14 @@ pub enum Match {
 }
 
 // The words of a run from a place up to another.
-#[derive(Drop)]
+#[derive(Clone, Copy)]
 pub struct Section {
     pub from: usize,
     pub to: usize,
 }
 
 // How a word is compared with a text.
-#[derive(Drop)]
+#[derive(Clone, Copy)]
 pub enum Test {
     // The text begins with the word, without regard to case.
     Begins,

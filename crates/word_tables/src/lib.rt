@@ -1,8 +1,10 @@
 // The word lists of crunching, and how they are stored.
+#![tactic(auto)]
+
 pub mod spellings;
 
 // The lists, in the order in which they are stored.
-#[derive(Drop)]
+#[derive(Clone, Copy)]
 pub enum WordList {
     V2,
     Operators,

@@ -14,7 +14,7 @@ const UNKNOWN_OPS: [u8; 8] = [0x00, 0x0C, 0x0D, 0x0E, 0x0F, 0xF0, 0xFE, 0xFF];
 const UNKNOWN_DIALECTS: [u8; 5] = [4, 5, 0x7F, 0x80, 0xFF];
 
 /// Options of which no request gives all bits.
-const UNKNOWN_OPTIONS: [u8; 4] = [8, 0x0F, 0x80, 0xFF];
+const UNKNOWN_OPTIONS: [u8; 4] = [4, 7, 0x80, 0xFF];
 
 /// Bytes that name no mode of a listing.
 const UNKNOWN_MODES: [u8; 4] = [2, 3, 0x80, 0xFF];

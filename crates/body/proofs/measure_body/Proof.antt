@@ -6,7 +6,7 @@ use mir.Syntax.{w64}
 use mir.Val.{Fits}
 use Rattle.body_rules.specs.Lexicon.{lexicon}
 use Rattle.body_rules.proofs.Beginnings.{document_proper}
-use Rattle.body.proofs.Writing.{Measured, measured_start, measured_full, measured_turn, measured_end, measured_fits, measured_less, short_full, short_measured, long_byte, long_off}
+use Rattle.body.proofs.Writing.{Measured, measured_start, measured_full, measured_turn, measured_end, measured_fits, measured_less, short_full, short_measured, long_byte, long_here}
 use Rattle.body_steps.specs.BraceHelpers.{Spans}
 use Rattle.body_steps.proofs.Braces.{spans_on, reaches_on}
 use Rattle.base_steps.proofs.The.{the}
@@ -30,29 +30,29 @@ loop-holds c = search measured_start
 add-n : tie.Need-overflow-add-n invariant-loop decreases-loop
 add-n c = search rules
 
-returns-2 : tie.Need-returns-2 invariant-loop decreases-loop
-returns-2 c = search short_full
+returns : tie.Need-returns invariant-loop decreases-loop
+returns c = search short_full
 
 loop-again : tie.Need-loop-preserved invariant-loop decreases-loop
-loop-again c = search (short_measured, spans_on, (the (tie.Else3 invariant-loop decreases-loop) (search)).if3.left)
+loop-again c = search (short_measured, spans_on, (the (tie.Else2 invariant-loop decreases-loop) (search)).if2.left)
 
 step-requires : tie.Need-step-requires invariant-loop decreases-loop
 step-requires c κs = search long_byte
 
-returns-3 : tie.Need-returns-3 invariant-loop decreases-loop
-returns-3 c = search (measured_full, document_proper, long_off)
+returns-2 : tie.Need-returns-2 invariant-loop decreases-loop
+returns-2 c = search (measured_full, document_proper, long_here)
 
 add-at-2 : tie.Need-overflow-add-at-2 invariant-loop decreases-loop
-add-at-2 c = search (measured_fits, document_proper, long_off, text-fits (search))
+add-at-2 c = search (measured_fits, document_proper, long_here, text-fits (search))
 
 loop-less-2 : tie.Need-loop-smaller-2 invariant-loop decreases-loop
-loop-less-2 c = search (measured_less, document_proper, long_off)
+loop-less-2 c = search (measured_less, document_proper, long_here)
 
 loop-again-2 : tie.Need-loop-preserved-2 invariant-loop decreases-loop
-loop-again-2 c = search (measured_turn, reaches_on, document_proper, long_off, (the (tie.Else4 invariant-loop decreases-loop) (search)).if4.left)
+loop-again-2 c = search (measured_turn, reaches_on, document_proper, long_here, (the (tie.Else3 invariant-loop decreases-loop) (search)).if3.left)
 
-returns-4 : tie.Need-returns-4 invariant-loop decreases-loop
-returns-4 c = search measured_end
+returns-3 : tie.Need-returns-3 invariant-loop decreases-loop
+returns-3 c = search measured_end
 
 pub measure-body-spec : {M : Type 1} → statement M
 measure-body-spec =
@@ -61,22 +61,20 @@ measure-body-spec =
     invariant-loop
     decreases-loop
     (λ c κs. search rules)
-    (λ c. search rules)
-    (λ c κs. search rules)
     loop-holds
     (λ c. search rules)
     (λ c κs. search rules)
     (λ c κs. search rules)
     (λ c. search rules)
     add-n
-    returns-2
+    returns
     (λ c. search rules)
     loop-again
     (λ c κs. search rules)
     step-requires
     (λ c κs. search rules)
-    returns-3
+    returns-2
     add-at-2
     loop-less-2
     loop-again-2
-    returns-4)
+    returns-3)

@@ -6,7 +6,7 @@ use mir.Syntax.{w64}
 use mir.Val.{Fits}
 use Rattle.body_rules.specs.Lexicon.{lexicon}
 use Rattle.body_rules.proofs.Beginnings.{document_proper}
-use Rattle.body.proofs.Writing.{Owed, owed_start, owed_room, owed_turn, owed_end, owed_fits, owed_less, short_room, short_turn, long_byte, long_off}
+use Rattle.body.proofs.Writing.{Owed, owed_start, owed_room, owed_turn, owed_end, owed_fits, owed_less, short_room, short_turn, long_byte, long_here}
 use Rattle.body_steps.specs.BraceHelpers.{Spans}
 use Rattle.body_steps.proofs.Braces.{spans_on, reaches_on}
 use Rattle.body_rules.proofs.ShortSteps.{short_known}
@@ -23,10 +23,6 @@ decreases-loop out₀ text bytes index sets span₀ at₀ mode₀ n₀ out span 
 
 text-fits : (c : tie.Start invariant-loop decreases-loop) → Fits w64 (length c.args.text.now)
 text-fits c = record { fits = omega arith }
-
--- the start, from a turn of the loop
-abbrev begun : tie.At-loop invariant-loop decreases-loop → tie.Start invariant-loop decreases-loop
-begun c = search
 
 loop-holds : tie.Need-loop-init invariant-loop decreases-loop
 loop-holds c = search owed_start
@@ -53,19 +49,19 @@ step-requires : tie.Need-step-requires invariant-loop decreases-loop
 step-requires c κs = search long_byte
 
 put-move-requires : tie.Need-put-move-requires invariant-loop decreases-loop
-put-move-requires c κs = search (owed_room, document_proper, long_off)
+put-move-requires c κs = search (owed_room, document_proper, long_here)
 
 add-at-2 : tie.Need-overflow-add-at-2 invariant-loop decreases-loop
-add-at-2 c = search (owed_fits, document_proper, long_off, text-fits (begun (search)))
+add-at-2 c = search (owed_fits, document_proper, long_here, text-fits (search))
 
 loop-less-2 : tie.Need-loop-smaller-2 invariant-loop decreases-loop
-loop-less-2 c = search (owed_less, document_proper, long_off)
+loop-less-2 c = search (owed_less, document_proper, long_here)
 
 loop-again-2 : tie.Need-loop-preserved-2 invariant-loop decreases-loop
-loop-again-2 c = search (owed_turn, reaches_on, document_proper, long_off)
+loop-again-2 c = search (owed_turn, reaches_on, document_proper, long_here)
 
-returns-2 : tie.Need-returns-2 invariant-loop decreases-loop
-returns-2 c = search owed_end
+returns : tie.Need-returns invariant-loop decreases-loop
+returns c = search owed_end
 
 pub write-body-spec : {M : Type 1} → statement M
 write-body-spec =
@@ -73,9 +69,6 @@ write-body-spec =
     (tie.spec
     invariant-loop
     decreases-loop
-    (λ c κs. search rules)
-    (λ c. search rules)
-    (λ c. search rules)
     (λ c κs. search rules)
     loop-holds
     (λ c. search rules)
@@ -94,4 +87,4 @@ write-body-spec =
     loop-less-2
     loop-again-2
     (λ c. search rules)
-    returns-2)
+    returns)

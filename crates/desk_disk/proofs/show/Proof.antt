@@ -6,7 +6,7 @@ use Rattle.desk_disk.proofs.show.Statement.{statement}
 use Rattle.desk_disk.proofs.show.Tie as tie
 
 answer-requires : tie.Need-answer-requires
-answer-requires c κs = search shown_held
+answer-requires c κs = (search shown_held, search rules)
 
 pub show-spec : {M : Type 1} → statement M
 show-spec =
@@ -14,6 +14,7 @@ show-spec =
     (tie.spec
     (λ c. search rules)
     (λ c κs. search rules)
+    (λ c. search rules)
     (λ c. search rules)
     answer-requires
     (λ c. search rules))

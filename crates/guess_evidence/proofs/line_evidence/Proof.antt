@@ -12,4 +12,4 @@ returns-2 : tie.Need-returns-2
 returns-2 c = search evidence_nowhere
 
 pub line-evidence-spec : {M : Type 1} → statement M
-line-evidence-spec = tie.close (tie.spec (λ c. search rules) (λ c κs. search rules) (λ c. search rules) (λ c. search rules) returns returns-2)
+line-evidence-spec = tie.close (tie.spec (λ c κs. search rules) (λ c. search rules) (λ c. search rules) returns returns-2)

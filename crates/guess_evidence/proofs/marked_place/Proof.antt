@@ -12,10 +12,10 @@ use Rattle.guess_evidence.proofs.marked_place.Statement.{statement}
 use Rattle.guess_evidence.proofs.marked_place.Tie as tie
 
 abbrev invariant-loop : tie.invariant-loop
-invariant-loop line passed marks bytes index i₀ place₀ i place = Scanned passed line (deciding_place passed line) place i
+invariant-loop line marks bytes index i₀ place₀ i place = Scanned line (deciding_place line) place i
 
 abbrev decreases-loop : tie.decreases-loop
-decreases-loop line passed marks bytes index i₀ place₀ i place = length line - i
+decreases-loop line marks bytes index i₀ place₀ i place = length line - i
 
 loop-holds : tie.Need-loop-init invariant-loop decreases-loop
 loop-holds c = search scanned_start
@@ -23,8 +23,8 @@ loop-holds c = search scanned_start
 loop-again : tie.Need-loop-preserved invariant-loop decreases-loop
 loop-again c = search gap_turn
 
-passing-step-requires : tie.Need-passing-step-requires invariant-loop decreases-loop
-passing-step-requires c κs = search (rest_some, marks_rest)
+evidence-step-requires : tie.Need-evidence-step-requires invariant-loop decreases-loop
+evidence-step-requires c κs = search (rest_some, marks_rest)
 
 returns : tie.Need-returns invariant-loop decreases-loop
 returns c = search scanned_proved
@@ -69,7 +69,7 @@ marked-place-spec =
     (λ c. search rules)
     (λ c. search rules)
     (λ c. search rules)
-    passing-step-requires
+    evidence-step-requires
     (λ c. search rules)
     returns
     (λ c. search rules)

@@ -21,7 +21,6 @@ pub word-with-spec : {M : Type 1} → statement M
 word-with-spec =
     tie.close
     (tie.spec
-    (λ c. search rules)
     (λ c κs. search rules)
     (λ c. search rules)
     sub-list-place

@@ -7,10 +7,10 @@ use Rattle.image_jumps.proofs.next_jump.Statement.{statement}
 use Rattle.image_jumps.proofs.next_jump.Tie as tie
 
 abbrev invariant-loop : tie.invariant-loop
-invariant-loop body words cursor₀ cursor = Onwards words body cursor₀ cursor
+invariant-loop body cursor₀ cursor = Onwards body cursor₀ cursor
 
 abbrev decreases-loop : tie.decreases-loop
-decreases-loop body words cursor₀ cursor = distance body cursor
+decreases-loop body cursor₀ cursor = distance body cursor
 
 loop-holds : tie.Need-loop-init invariant-loop decreases-loop
 loop-holds c = search onwards_start

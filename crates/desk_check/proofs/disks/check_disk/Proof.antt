@@ -18,9 +18,6 @@ pub check-disk-spec : {M : Type 1} → statement M
 check-disk-spec =
     tie.close
     (tie.spec
-    (λ c κs. search rules)
-    (λ c κs. search rules)
-    (λ c. search rules)
     (λ c. search rules)
     (λ c. search rules)
     (λ c κs. search rules)
@@ -29,6 +26,5 @@ check-disk-spec =
     (λ c. search rules)
     slice-aggregate-check-entries
     check-entries-requires
-    (λ c κs. search rules)
     (λ c κs. search rules)
     (λ c. search rules))

@@ -2,7 +2,6 @@
 -- Assumes nothing.
 use Prim.Native.Nat.{◌-◌}
 use lib.ListN.{length}
-use Rattle.guess_evidence.specs.Evidence.{line_evidence}
 use Rattle.guess.specs.Guess.{evidence}
 use Rattle.guess.proofs.Texts.{Unproved, unproved_start, unproved_found, unproved_turn, unproved_end, line_high, line_less, line_up}
 use borrow.Author.Rules.{rules}
@@ -10,7 +9,7 @@ use Rattle.guess.proofs.resolve.text_evidence.Statement.{statement}
 use Rattle.guess.proofs.resolve.text_evidence.Tie as tie
 
 abbrev invariant-loop : tie.invariant-loop
-invariant-loop text rule bytes index at₀ at = Unproved line_evidence rule text (evidence rule text) at
+invariant-loop text rule bytes index at₀ at = Unproved rule text (evidence rule text) at
 
 abbrev decreases-loop : tie.decreases-loop
 decreases-loop text rule bytes index at₀ at = length text - at

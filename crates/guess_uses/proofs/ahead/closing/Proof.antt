@@ -2,7 +2,7 @@
 -- Assumes nothing.
 use Prim.Native.Nat.{◌-◌}
 use lib.ListN.{length}
-use Rattle.guess_uses.proofs.Behind.{Listed, listed_start, listed_closed, listed_up, listed_down, listed_on_lem, listed_end, listed_above}
+use Rattle.guess_uses.proofs.Behind.{Listed, listed_start, listed_closed, listed_up, listed_down, listed_on, listed_end, listed_above}
 use Rattle.base_steps.proofs.The.{the}
 use borrow.Author.Rules.{rules}
 use Rattle.guess_uses.proofs.ahead.closing.Statement.{statement}
@@ -30,7 +30,7 @@ loop-again-3 : tie.Need-loop-preserved-3 invariant-loop decreases-loop
 loop-again-3 c = search listed_down
 
 loop-again-4 : tie.Need-loop-preserved-4 invariant-loop decreases-loop
-loop-again-4 c = search (listed_on_lem, (the (tie.Else2 invariant-loop decreases-loop) (search)).if2.left, c.if4.false)
+loop-again-4 c = search (listed_on, (the (tie.Else2 invariant-loop decreases-loop) (search)).if2.left, c.if4.false)
 
 returns-2 : tie.Need-returns-2 invariant-loop decreases-loop
 returns-2 c = search listed_end

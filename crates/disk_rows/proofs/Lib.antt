@@ -1,3 +1,0 @@
-pub mod Outside
-pub mod Rowing
-pub mod Said

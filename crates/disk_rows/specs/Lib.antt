@@ -1,3 +1,0 @@
-pub mod AnyRows
-pub mod AnySentences
-pub mod EntriesHelpers

@@ -1,2 +1,0 @@
-pub mod Differences
-pub mod PlaceHelpers

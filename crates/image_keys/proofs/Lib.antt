@@ -1,2 +1,0 @@
-pub mod Few
-pub mod Keying

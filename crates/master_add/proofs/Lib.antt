@@ -1,4 +1,0 @@
-pub mod Adding
-pub mod Checking
-pub mod Reading
-pub mod Tight

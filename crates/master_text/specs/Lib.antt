@@ -1,4 +1,0 @@
-pub mod AcceptedTable
-pub mod Answers
-pub mod MadeHelpers
-pub mod Verdicts

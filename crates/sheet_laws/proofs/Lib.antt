@@ -1,2 +1,0 @@
-pub mod Bodies
-pub mod Untagging

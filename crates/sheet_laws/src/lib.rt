@@ -1,1 +1,0 @@
-// Laws alone: a page without its tags, text by text.

@@ -1,4 +1,0 @@
-pub mod Repeats
-pub mod SentenceHelpers
-pub mod Texts
-pub mod WidthHelpers

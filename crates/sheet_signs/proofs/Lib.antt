@@ -1,3 +1,0 @@
-pub mod Showing
-pub mod SignTable
-pub mod Tame

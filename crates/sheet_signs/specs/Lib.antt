@@ -1,3 +1,0 @@
-pub mod SignHelpers
-pub mod Signs
-pub mod Tame

@@ -1,4 +1,0 @@
-pub mod Crunched
-pub mod Numbered
-pub mod Pieces
-pub mod Spelt

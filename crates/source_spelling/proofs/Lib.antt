@@ -1,3 +1,0 @@
-pub mod Given
-pub mod Named
-pub mod Opened
