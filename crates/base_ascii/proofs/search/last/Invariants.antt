@@ -1,0 +1,11 @@
+-- `base_ascii::search::last` meets its contract.
+-- Assumes nothing.
+use Rattle.base_ascii.specs.Search.{of_kind, last}
+use Rattle.base_ascii.proofs.Searching.{Backward}
+use Rattle.base_ascii.proofs.search.last.Given as goal
+
+abbrev pub invariant-loop-e : goal.invariant-loop-e
+invariant-loop-e l = Backward (last (of_kind l.kind)) l.s l.e
+
+abbrev pub decreases-loop-e : goal.decreases-loop-e
+decreases-loop-e l = l.e
