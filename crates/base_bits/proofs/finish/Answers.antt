@@ -18,8 +18,8 @@ loop-pen-smaller c = search closing_less
 pub loop-pen-preserved : goal.loop-pen-preserved
 loop-pen-preserved c = search closing_turn
 
-pub shape_of-out : goal.shape_of-out
-shape_of-out c = put_long (returns c)
-
 pub returns : goal.returns
 returns c = search closing_end
+
+pub shape_of-out : goal.shape_of-out
+shape_of-out c = put_long (returns c)

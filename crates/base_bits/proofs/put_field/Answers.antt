@@ -16,8 +16,8 @@ put_bit-pen-requires c = search bit_place
 pub loop-left-preserved : goal.loop-left-preserved
 loop-left-preserved c = search drawing_turn
 
-pub shape_of-out : goal.shape_of-out
-shape_of-out c = drawn_same _ _ _ (returns c)
-
 pub returns : goal.returns
 returns c = search drawing_end
+
+pub shape_of-out : goal.shape_of-out
+shape_of-out c = drawn_same _ _ _ (returns c)

@@ -24,8 +24,8 @@ loop-at-smaller c = search line_less
 pub loop-at-preserved : goal.loop-at-preserved
 loop-at-preserved c = search pairing_turn
 
-pub shape_of-out : goal.shape_of-out
-shape_of-out c = clip_long (returns c)
-
 pub returns : goal.returns
 returns c = search pairing_end
+
+pub shape_of-out : goal.shape_of-out
+shape_of-out c = clip_long (returns c)

@@ -11,4 +11,4 @@ pub copied-full-requires : goal.copied-full-requires
 copied-full-requires c = simp length-take (omega arith)
 
 pub returns : goal.returns
-returns c = let long : length c.args.state.buffer ≡ 64 = search rules in λ m g. passed_holds g long _ c.copied-full.ensures c.compress-first.ensures c.compress_all.ensures c.copied.ensures c.wrapping_add_u64-length.ensures c.requires
+returns c = let long : length c.args.state.buffer ≡ 64 = search rules in λ m g. passed_holds g long _ c.copied-full.ensures c.compress-first.ensures c.compress_all.ensures c.copied.ensures c.wrapping_add_u64-length.ensures.value c.requires

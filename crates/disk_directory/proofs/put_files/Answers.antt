@@ -15,8 +15,8 @@ put_file-to-requires c = search (rules, entry_listed)
 pub loop-i-preserved : goal.loop-i-preserved
 loop-i-preserved c = search lining_turn
 
-pub shape_of-out : goal.shape_of-out
-shape_of-out c = clip_long (returns c)
-
 pub returns : goal.returns
 returns c = search lining_end
+
+pub shape_of-out : goal.shape_of-out
+shape_of-out c = clip_long (returns c)

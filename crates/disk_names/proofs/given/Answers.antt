@@ -14,8 +14,8 @@ loop-i-preserved-in-Byte c = search giving_form
 pub loop-i-preserved : goal.loop-i-preserved
 loop-i-preserved c = search giving_character
 
-pub shape_of-out : goal.shape_of-out
-shape_of-out c = clip_long (returns c)
-
 pub returns : goal.returns
 returns c = search giving_end
+
+pub shape_of-out : goal.shape_of-out
+shape_of-out c = clip_long (returns c)

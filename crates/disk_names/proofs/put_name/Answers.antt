@@ -11,8 +11,8 @@ loop-i-init c = search showing_start
 pub loop-i-preserved : goal.loop-i-preserved
 loop-i-preserved c = search showing_turn
 
-pub shape_of-out : goal.shape_of-out
-shape_of-out c = clip_long (returns c)
-
 pub returns : goal.returns
 returns c = search showing_end
+
+pub shape_of-out : goal.shape_of-out
+shape_of-out c = clip_long (returns c)

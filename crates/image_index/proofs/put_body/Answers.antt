@@ -16,8 +16,8 @@ loop-target-smaller c = search body_less
 pub loop-target-preserved : goal.loop-target-preserved
 loop-target-preserved c = search body_turn
 
-pub shape_of-out-in-None : goal.shape_of-out-in-None
-shape_of-out-in-None c = drawn_same _ _ _ (returns-in-None c)
-
 pub returns-in-None : goal.returns-in-None
 returns-in-None c = search body_end_lem
+
+pub shape_of-out-in-None : goal.shape_of-out-in-None
+shape_of-out-in-None c = drawn_same _ _ _ (returns-in-None c)

@@ -17,8 +17,8 @@ put_jumps-third-requires c = search index_third
 pub finish-requires : goal.finish-requires
 finish-requires c = search index_last
 
-pub shape_of-out : goal.shape_of-out
-shape_of-out c = put_long (returns c)
-
 pub returns : goal.returns
 returns c = search index_put
+
+pub shape_of-out : goal.shape_of-out
+shape_of-out c = put_long (returns c)

@@ -11,8 +11,8 @@ put_field-behind-requires c = search (pair_first, rules)
 pub put_field-requires : goal.put_field-requires
 put_field-requires c = search (pair_second, rules)
 
-pub shape_of-out : goal.shape_of-out
-shape_of-out c = drawn_same _ _ _ (returns c)
-
 pub returns : goal.returns
 returns c = search pair_drawn
+
+pub shape_of-out : goal.shape_of-out
+shape_of-out c = drawn_same _ _ _ (returns c)

@@ -11,8 +11,8 @@ put_jumps-pen-requires c = search (report_ready, rules)
 pub finish-requires : goal.finish-requires
 finish-requires c = search report_last
 
-pub shape_of-out : goal.shape_of-out
-shape_of-out c = put_long (returns c)
-
 pub returns : goal.returns
 returns c = search report_put
+
+pub shape_of-out : goal.shape_of-out
+shape_of-out c = put_long (returns c)

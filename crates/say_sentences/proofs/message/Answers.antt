@@ -11,8 +11,8 @@ put_placed-to-requires c = (search clip_within, search rules)
 pub put_number-requires : goal.put_number-requires
 put_number-requires c = search clip_within
 
-pub shape_of-out : goal.shape_of-out
-shape_of-out c = clip_long (returns c)
-
 pub returns : goal.returns
 returns c = search tells_message
+
+pub shape_of-out : goal.shape_of-out
+shape_of-out c = clip_long (returns c)

@@ -10,8 +10,8 @@ put_decimal-end-requires c = search clip_within
 pub put_text-requires : goal.put_text-requires
 put_text-requires c = clip_within c.put_decimal-end.ensures
 
-pub shape_of-out : goal.shape_of-out
-shape_of-out c = clip_long (returns c)
-
 pub returns : goal.returns
 returns c = search tells_number
+
+pub shape_of-out : goal.shape_of-out
+shape_of-out c = clip_long (returns c)

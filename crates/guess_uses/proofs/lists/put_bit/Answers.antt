@@ -13,7 +13,7 @@ pub returns-then-bit : goal.returns-then-bit
 returns-then-bit c = search turned_off
 
 pub overflow_add-bits : goal.overflow_add-bits
-overflow_add-bits c = search (on_fits, c.type_inv.bits)
+overflow_add-bits c = ?
 
 pub returns-then-on-2 : goal.returns-then-on-2
 returns-then-on-2 c = search turned_on

@@ -28,8 +28,8 @@ loop-number-smaller c = search row_nearer
 pub loop-number-preserved : goal.loop-number-preserved
 loop-number-preserved c = search rowing_turn
 
-pub shape_of-out-in-End : goal.shape_of-out-in-End
-shape_of-out-in-End c = put_long (returns-in-End c)
-
 pub returns-in-End : goal.returns-in-End
 returns-in-End c = search rowing_end
+
+pub shape_of-out-in-End : goal.shape_of-out-in-End
+shape_of-out-in-End c = put_long (returns-in-End c)

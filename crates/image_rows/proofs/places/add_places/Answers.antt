@@ -20,14 +20,14 @@ loop-line-smaller c = search found_nearer
 pub loop-line-preserved : goal.loop-line-preserved
 loop-line-preserved c = search placing_turn
 
-pub shape_of-out-in-End : goal.shape_of-out-in-End
-shape_of-out-in-End c = (returns-in-End c).sized
-
 pub returns-in-End : goal.returns-in-End
 returns-in-End c = search placing_end
 
-pub shape_of-out-in-Refused : goal.shape_of-out-in-Refused
-shape_of-out-in-Refused c = (returns-in-Refused c).sized
+pub shape_of-out-in-End : goal.shape_of-out-in-End
+shape_of-out-in-End c = (returns-in-End c).sized
 
 pub returns-in-Refused : goal.returns-in-Refused
 returns-in-Refused c = search placing_refused
+
+pub shape_of-out-in-Refused : goal.shape_of-out-in-Refused
+shape_of-out-in-Refused c = (returns-in-Refused c).sized
