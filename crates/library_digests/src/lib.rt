@@ -17,6 +17,6 @@ pub fn write_sha256(bytes: &[u8], out: &mut [u8]) -> Outcome
         return Outcome::Refused(Refusal::NoRoom { needed: 32 });
     }
     let digest = digest_sha256::digest(bytes);
-    bytes::copy(&digest, out);
+    out[..32].copy_from_slice(&digest);
     Outcome::Done(32)
 }

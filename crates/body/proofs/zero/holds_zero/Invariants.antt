@@ -1,0 +1,14 @@
+-- `body::zero::holds_zero` meets its contract.
+-- Assumes nothing.
+use Prim.Native.Nat.{◌-◌}
+use lib.ListN.{length}
+use Rattle.body_rules.specs.Lexicon.{lexicon}
+use Rattle.body.proofs.Zeros.{NoneTo}
+use Rattle.body_steps.specs.BraceHelpers.{Spans}
+use Rattle.body.proofs.zero.holds_zero.Given as goal
+
+abbrev pub invariant-loop-at : goal.invariant-loop-at
+invariant-loop-at l = NoneTo (lexicon l.sets) l.text l.mode l.at × Spans l.text l.at l.span
+
+abbrev pub decreases-loop-at : goal.decreases-loop-at
+decreases-loop-at l = length l.text - l.at

@@ -1,0 +1,20 @@
+-- `count_images::take_image` meets its contract.
+-- Assumes nothing.
+use Rattle.count_images.proofs.Taking.{once, room_left, once_more, image_counted, image_apart}
+use borrow.Author.Rules.{rules}
+use Rattle.count_images.proofs.take_image.Goals as goal
+
+pub raise-requires : goal.raise-requires
+raise-requires c = (search rules, search once)
+
+pub count_image-requires : goal.count_image-requires
+count_image-requires c = search room_left
+
+pub raise-requires-in-Refused : goal.raise-requires-in-Refused
+raise-requires-in-Refused c = (search rules, search once_more)
+
+pub returns-in-Image : goal.returns-in-Image
+returns-in-Image c = search image_counted
+
+pub returns-in-Refused : goal.returns-in-Refused
+returns-in-Refused c = search image_apart

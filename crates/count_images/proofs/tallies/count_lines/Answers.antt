@@ -1,0 +1,33 @@
+-- `count_images::tallies::count_lines` meets its contract.
+-- Assumes nothing.
+use Prim.Native.Nat.{◌-◌}
+use Rattle.image_readers.proofs.Steps.{found_runs, found_within, found_nearer}
+use Rattle.count_images.proofs.Bodies.{image_start, line_room, image_turn, image_end, image_refused}
+use Rattle.count_images.proofs.tallies.count_lines.Goals as goal
+
+pub loop-line-init : goal.loop-line-init
+loop-line-init c = search image_start
+
+pub slice_bounds-count_body-count : goal.slice_bounds-count_body-count
+slice_bounds-count_body-count c = search found_runs
+
+pub slice_bounds-count_body-start : goal.slice_bounds-count_body-start
+slice_bounds-count_body-start c = search found_runs
+
+pub slice_bounds-count_body-end : goal.slice_bounds-count_body-end
+slice_bounds-count_body-end c = search found_within
+
+pub count_body-requires : goal.count_body-requires
+count_body-requires c = search line_room
+
+pub loop-line-smaller : goal.loop-line-smaller
+loop-line-smaller c = search found_nearer
+
+pub loop-line-preserved : goal.loop-line-preserved
+loop-line-preserved c = search image_turn
+
+pub returns-in-End : goal.returns-in-End
+returns-in-End c = search image_end
+
+pub returns-in-Refused : goal.returns-in-Refused
+returns-in-Refused c = search image_refused

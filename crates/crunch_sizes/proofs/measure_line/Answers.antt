@@ -1,0 +1,42 @@
+-- `crunch_sizes::measure_line` meets its contract: the numbering of the line says which case holds, and then the profile, if it is asked.
+-- Assumes nothing.
+use borrow.Author.Tests.{not-true, not-false}
+use Rattle.crunch_sizes.proofs.Sizing.{sized_blank, sized_missing, sized_range, sized_plain, sized_allowed, sized_not}
+use Rattle.crunch_rules.proofs.Lining.{body_up, body_within}
+use Rattle.crunch_sizes.proofs.measure_line.Goals as goal
+
+pub slice_bounds-measure_body-count : goal.slice_bounds-measure_body-count
+slice_bounds-measure_body-count c = search body_up
+
+pub slice_bounds-measure_body-start : goal.slice_bounds-measure_body-start
+slice_bounds-measure_body-start c = search body_up
+
+pub slice_bounds-measure_body-end : goal.slice_bounds-measure_body-end
+slice_bounds-measure_body-end c = search body_within
+
+pub returns-then-not-profile : goal.returns-then-not-profile
+returns-then-not-profile c = search (sized_plain, not-true)
+
+pub slice_bounds-holds_zero-count : goal.slice_bounds-holds_zero-count
+slice_bounds-holds_zero-count c = search body_up
+
+pub slice_bounds-holds_zero-start : goal.slice_bounds-holds_zero-start
+slice_bounds-holds_zero-start c = search body_up
+
+pub slice_bounds-holds_zero-end : goal.slice_bounds-holds_zero-end
+slice_bounds-holds_zero-end c = search body_within
+
+pub returns-in-Blank : goal.returns-in-Blank
+returns-in-Blank c = search sized_blank
+
+pub returns-in-Missing : goal.returns-in-Missing
+returns-in-Missing c = search sized_missing
+
+pub returns-in-OutOfRange : goal.returns-in-OutOfRange
+returns-in-OutOfRange c = search sized_range
+
+pub returns-in-Yes : goal.returns-in-Yes
+returns-in-Yes c = search (sized_allowed, not-false)
+
+pub returns-in-Refused : goal.returns-in-Refused
+returns-in-Refused c = search (sized_not, not-false)

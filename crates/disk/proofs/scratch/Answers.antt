@@ -1,0 +1,13 @@
+-- `disk::scratch` meets its contract.
+-- Assumes nothing.
+use Rattle.disk.proofs.Calling.{found_long, found_in, scratch_at, scratch_refused}
+use Rattle.disk.proofs.scratch.Goals as goal
+
+pub scratch_entry-requires : goal.scratch_entry-requires
+scratch_entry-requires c = search (found_long, found_in)
+
+pub returns-in-At : goal.returns-in-At
+returns-in-At c = search scratch_at
+
+pub returns-in-Refused : goal.returns-in-Refused
+returns-in-Refused c = search scratch_refused

@@ -1,0 +1,13 @@
+-- `disk_any::entry_at` meets its contract.
+-- Assumes nothing.
+use Rattle.disk_any.proofs.Answers.{on_within, on_entry, off_entry}
+use Rattle.disk_any.proofs.entry_at.Goals as goal
+
+pub described-requires : goal.described-requires
+described-requires c = search on_within
+
+pub returns-in-On : goal.returns-in-On
+returns-in-On c = search on_entry
+
+pub returns-in-Off : goal.returns-in-Off
+returns-in-Off c = search off_entry

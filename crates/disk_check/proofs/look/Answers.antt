@@ -1,0 +1,20 @@
+-- `disk_check::look` meets its contract.
+-- Assumes nothing.
+use mathlib.Core.Path.{sym}
+use native.Mathlib.Omega.{arith}
+use lib.Seq.{length-take-le}
+use Rattle.disk_check.proofs.Looking.{seen_directory, seen_ends, seen_sectors, seen_room, seen_listed, seen_all}
+use borrow.Author.Rules.{rules}
+use Rattle.disk_check.proofs.look.Goals as goal
+
+pub slice_bounds-entries_that-end-2 : goal.slice_bounds-entries_that-end-2
+slice_bounds-entries_that-end-2 c = sym (length-take-le _ _ (omega arith))
+
+pub entries_that-f-requires : goal.entries_that-f-requires
+entries_that-f-requires c = search (rules, seen_sectors, seen_room)
+
+pub holds-sound-requires : goal.holds-sound-requires
+holds-sound-requires c = search (rules, seen_directory, seen_ends, seen_listed)
+
+pub returns : goal.returns
+returns c = search seen_all

@@ -1,0 +1,17 @@
+-- `disk_ways::follow_entry` meets its contract.
+-- Assumes nothing.
+use Rattle.disk_ways.proofs.Following.{entry_below, entry_to, entry_last, entry_astray}
+use borrow.Author.Rules.{rules}
+use Rattle.disk_ways.proofs.follow_entry.Goals as goal
+
+pub follow-requires : goal.follow-requires
+follow-requires c = search (rules, entry_below)
+
+pub returns-in-To : goal.returns-in-To
+returns-in-To c = search entry_to
+
+pub returns-in-Last : goal.returns-in-Last
+returns-in-Last c = search entry_last
+
+pub returns-in-Astray : goal.returns-in-Astray
+returns-in-Astray c = search entry_astray

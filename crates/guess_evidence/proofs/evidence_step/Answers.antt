@@ -1,0 +1,10 @@
+-- `guess_evidence::evidence_step` meets its contract.
+-- Assumes nothing.
+use Rattle.guess_evidence.proofs.Steps.{step_plain, step_aside}
+use Rattle.guess_evidence.proofs.evidence_step.Goals as goal
+
+pub returns-then-is_plain : goal.returns-then-is_plain
+returns-then-is_plain c = search step_plain
+
+pub returns : goal.returns
+returns c = search step_aside

@@ -1,0 +1,9 @@
+-- `image_readers::links::check` meets its contract.
+-- Assumes nothing.
+use Rattle.image_readers.specs.Readers.{step_by}
+use borrow.Author.Rules.{rules}
+use Rattle.image_readers.proofs.links.check.Goals as goal
+
+pub returns : goal.returns
+unfolding step_by
+returns c = search rules

@@ -1,0 +1,25 @@
+-- `image_readers::terminators::step` meets its contract: the tests that were passed say which answer is given.
+-- Assumes nothing.
+use Rattle.image_readers.proofs.ByTerminators.{terminator_long, terminator_short, terminator_beyond, terminator_lone, terminator_end, terminator_cut, terminator_line}
+use Rattle.image_readers.proofs.terminators.step.Goals as goal
+
+pub returns-then-length-gt-LONGEST : goal.returns-then-length-gt-LONGEST
+returns-then-length-gt-LONGEST c = search terminator_long
+
+pub returns-then-length-lt2 : goal.returns-then-length-lt2
+returns-then-length-lt2 c = search terminator_short
+
+pub returns-then-offset-length : goal.returns-then-offset-length
+returns-then-offset-length c = search terminator_beyond
+
+pub returns-then-length-offset-lt2 : goal.returns-then-length-offset-lt2
+returns-then-length-offset-lt2 c = search terminator_lone
+
+pub returns-then-image-offset-eq0 : goal.returns-then-image-offset-eq0
+returns-then-image-offset-eq0 c = search terminator_end
+
+pub returns-then-length-offset-lt4 : goal.returns-then-length-offset-lt4
+returns-then-length-offset-lt4 c = search (terminator_cut, c.if-image-offset-eq0.false)
+
+pub returns : goal.returns
+returns c = search (terminator_line, c.if-image-offset-eq0.false)

@@ -1,0 +1,10 @@
+-- `image_relink::is_in_memory` meets its contract.
+-- Assumes nothing.
+use Rattle.image_relink.proofs.Following.{not_within, within_is}
+use Rattle.image_relink.proofs.is_in_memory.Goals as goal
+
+pub returns-then-offset-image : goal.returns-then-offset-image
+returns-then-offset-image c = search not_within
+
+pub returns : goal.returns
+returns c = search within_is

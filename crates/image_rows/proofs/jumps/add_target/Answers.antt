@@ -1,0 +1,10 @@
+-- `image_rows::jumps::add_target` meets its contract.
+-- Assumes nothing.
+use Rattle.image_rows.proofs.Threading.{adds_there, adds_missing}
+use Rattle.image_rows.proofs.jumps.add_target.Goals as goal
+
+pub returns-then-there : goal.returns-then-there
+returns-then-there c = search adds_there
+
+pub returns : goal.returns
+returns c = search adds_missing

@@ -1,0 +1,33 @@
+-- `image_rows::places::add_places` meets its contract.
+-- Assumes nothing.
+use Prim.Native.Nat.{◌-◌}
+use Rattle.image_readers.proofs.Steps.{found_nearer}
+use Rattle.image_rows.proofs.Placing.{placing_start, placing_room, placing_few, placing_turn, placing_end, placing_refused}
+use Rattle.image_rows.proofs.places.add_places.Goals as goal
+
+pub loop-line-init : goal.loop-line-init
+loop-line-init c = search placing_start
+
+pub add_place-to-requires : goal.add_place-to-requires
+add_place-to-requires c = search placing_room
+
+pub overflow_add-before : goal.overflow_add-before
+overflow_add-before c = search placing_few
+
+pub loop-line-smaller : goal.loop-line-smaller
+loop-line-smaller c = search found_nearer
+
+pub loop-line-preserved : goal.loop-line-preserved
+loop-line-preserved c = search placing_turn
+
+pub returns-in-End : goal.returns-in-End
+returns-in-End c = search placing_end
+
+pub shape_of-out-in-End : goal.shape_of-out-in-End
+shape_of-out-in-End c = (returns-in-End c).sized
+
+pub returns-in-Refused : goal.returns-in-Refused
+returns-in-Refused c = search placing_refused
+
+pub shape_of-out-in-Refused : goal.shape_of-out-in-Refused
+shape_of-out-in-Refused c = (returns-in-Refused c).sized

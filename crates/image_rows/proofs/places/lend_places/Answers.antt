@@ -1,0 +1,10 @@
+-- `image_rows::places::lend_places` meets its contract.
+-- Assumes nothing.
+use Rattle.image_rows.proofs.Placing.{checked_text_lem, checked_none}
+use Rattle.image_rows.proofs.places.lend_places.Goals as goal
+
+pub lend_checked-requires : goal.lend_checked-requires
+lend_checked-requires c = search checked_text_lem
+
+pub returns-in-Refused : goal.returns-in-Refused
+returns-in-Refused c = search checked_none

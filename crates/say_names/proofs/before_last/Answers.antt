@@ -1,0 +1,13 @@
+-- `say_names::before_last` meets its contract.
+-- Assumes nothing.
+use Rattle.say_names.proofs.Splitting.{mark_taken, split_before, before_none}
+use Rattle.say_names.proofs.before_last.Goals as goal
+
+pub slice_bounds-result-end : goal.slice_bounds-result-end
+slice_bounds-result-end c = search mark_taken
+
+pub returns-in-At : goal.returns-in-At
+returns-in-At c = search split_before
+
+pub returns-in-Nowhere : goal.returns-in-Nowhere
+returns-in-Nowhere c = search before_none

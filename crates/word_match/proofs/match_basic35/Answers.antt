@@ -1,0 +1,7 @@
+-- `word_match::match_basic35` meets its contract.
+-- Assumes nothing.
+use Rattle.word_match.proofs.Storage.{word_found_lem}
+use Rattle.word_match.proofs.match_basic35.Goals as goal
+
+pub returns : goal.returns
+returns c = search word_found_lem

@@ -1,0 +1,16 @@
+-- `word_match::match_in` meets its contract.
+-- Assumes nothing.
+use Rattle.word_match.proofs.Storage.{match_stored, match_held, match_found, match_none}
+use Rattle.word_match.proofs.match_in.Goals as goal
+
+pub first_passing-i-requires : goal.first_passing-i-requires
+first_passing-i-requires c = search match_stored
+
+pub word_found-requires : goal.word_found-requires
+word_found-requires c = search match_held
+
+pub returns-then-i-to : goal.returns-then-i-to
+returns-then-i-to c = search match_found
+
+pub returns : goal.returns
+returns c = search match_none
