@@ -1,25 +1,23 @@
 -- The pen: a bit, the bits of a field, zero bits to a byte's end; and from these the packing, as callers need it.
 -- Assumes nothing.
 use Prim.Native.Nat.{ℕ, zero, suc, ◌+◌, ◌-◌, ◌*◌, ◌/◌, ◌%◌, ◌^◌, ◌≤◌, ◌<◌}
-use mathlib.Core.Path.{◌≡◌, refl, sym, ap, ◌∙◌, subst}
+use mathlib.Core.Path.{◌≡◌, refl, sym, ap, ◌∙◌}
 use mathlib.Core.Bool.{Bool, true, false}
 use mathlib.Core.List.{List, [], ◌∷◌, ◌++◌}
 use native.Mathlib.Omega.{arith}
 use native.Mathlib.Nat.{mul_assoc, mul_left_comm, pow-succ'}
 use native.Mathlib.Numerals.{add-one}
-use mir.Syntax.{w8}
-use mir.Val.{Fits}
 use lib.Dec.{eqb}
 use lib.ListN.{length, set, length-set}
 use lib.Seq.{sets}
 use lib.Pow.{pow_mono}
 use borrow.Author.Tests.{eq-eqb, ne_eqb, eqb-true, eqb-false}
-use Rattle.base_lent.specs.Stores.{Room, Put}
+use Rattle.base_lent.specs.Stores.{Put}
 use Rattle.base_lent.proofs.Storing.{put_none}
-use Rattle.base_bits.specs.Bits.{Field, bits_of, field_bits, pack_from, packed}
+use Rattle.base_bits.specs.Bits.{bits_of, pack_from}
 use Rattle.base_bits.specs.PenHelpers.{Sharp, Drawn, Ready, drawn_bit, drawn}
 use Rattle.base_bits.specs.declared.Pen.{Pen}
-use Rattle.base_bits.proofs.Bytes.{AreBits, bits_are, pack_none, pack_last, pack_full, pack_more, pack_some}
+use Rattle.base_bits.proofs.Bytes.{AreBits, pack_none, pack_last, pack_full, pack_more, pack_some}
 
 -- ---- a bit
 

@@ -10,7 +10,7 @@ use native.Mathlib.Numerals.{add-one}
 use lib.Dec.{ltb}
 use lib.ListN.{length, get_or, take, drop, length-append, length-drop, get_or-append}
 use lib.Pow.{pow_mono}
-use lib.Seq.{take-suc, get_or-drop, get_or-append-add, drop-append-add}
+use lib.Seq.{take-suc, get_or-drop, get_or-append-add}
 use borrow.Author.Tests.{ltb-true, ltb-false}
 use Rattle.base_bits.specs.Bits.{bits_of, bytes_bits, number_from, field_at}
 use Rattle.base_bits.proofs.Bytes.{length_bits, bits_snoc}

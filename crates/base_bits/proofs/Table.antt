@@ -1,7 +1,7 @@
 -- Fields packed, by computation: one line and one jump of an index (document 02, No. 13), and a field that ends with its byte.
 -- Assumes nothing.
 use mathlib.Core.Path.{◌≡◌, refl}
-use mathlib.Core.List.{List, [], ◌∷◌}
+use mathlib.Core.List.{[], ◌∷◌}
 use Rattle.base_bits.specs.Bits.{field, packed, field_at}
 
 -- 16 bits of 1, 13 bits of 1, 16 bits of 10, and three zero bits

@@ -1,16 +1,16 @@
 -- A result stored in a lent buffer, or not: the three cases of `into_buffer` (specs/Lent.antt).
 -- Assumes nothing.
-use Prim.Native.Nat.{ℕ, ◌+◌, ◌≤◌, ◌<◌}
-use mathlib.Core.Path.{◌≡◌, refl, sym, ap, ◌∙◌}
+use Prim.Native.Nat.{ℕ, ◌≤◌, ◌<◌}
+use mathlib.Core.Path.{◌≡◌, sym, ap, ◌∙◌}
 use mathlib.Core.List.{List}
 use native.Mathlib.Omega.{arith}
 use lib.ListN.{length}
 use borrow.Author.Tests.{le-leb, lt-leb}
-use Rattle.base_refusals.specs.Answer.{Answer, done, refused, map_done}
+use Rattle.base_refusals.specs.Answer.{Answer, done, refused}
 use Rattle.base_refusals.specs.Numbers.{Numbered, no_room}
 use Rattle.base_lent.specs.Lent.{Lent, into_buffer, room_for, outcome_answer}
 use Rattle.base_lent.specs.declared.Outcome.{Outcome}
-use Rattle.base_lent.specs.Stores.{Room, Put, HasRoom}
+use Rattle.base_lent.specs.Stores.{Put, HasRoom}
 
 -- what an outcome is known to be, its answer is
 pub told_outcome : {r x : Outcome} {a : Answer ℕ} → r ≡ x → outcome_answer r ≡ a → outcome_answer x ≡ a

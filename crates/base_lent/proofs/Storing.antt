@@ -1,13 +1,13 @@
 -- Laws of `sets`, a run of bytes stored from a place on (lib.Seq): runs behind each other, in a part of a buffer, before each other.
 -- Assumes nothing.
-use Prim.Native.Nat.{ℕ, zero, suc, ◌+◌, ◌-◌, ◌<◌, ◌≤◌}
+use Prim.Native.Nat.{ℕ, suc, ◌+◌, ◌-◌, ◌<◌}
 use mathlib.Core.Path.{◌≡◌, refl, sym, ap, ◌∙◌}
 use mathlib.Core.List.{List, [], ◌∷◌, ◌++◌, append-nil}
 use lib.ListN.{length, take, drop, set, take-append-drop, length-append, length-drop, drop_of_length-le}
 use lib.Seq.{sets, length-sets, set_comm, drop-set-add, take-set-le, take_all}
-use borrow.Rule.Slice.PartMut.{mid_of, post_of, put_mid}
+use borrow.Rule.Slice.PartMut.{mid_of, put_mid}
 use native.Mathlib.Omega.{arith}
-use native.Mathlib.Nat.{add-zero, add-suc}
+use native.Mathlib.Nat.{add-zero}
 use Rattle.base_lent.specs.Stores.{Room, Put}
 
 pub put_long : {buffer : List ℕ} {at : ℕ} {text : List ℕ} {behind : ℕ} {after : List ℕ} → Put buffer at text behind after → length after ≡ length buffer

@@ -1,8 +1,8 @@
 -- A refusal is known from its number and the values that it carries: so two answers with the same number and values are the same.
 -- Assumes nothing.
-use Prim.Native.Nat.{ℕ, ◌-◌}
+use Prim.Native.Nat.{◌-◌}
 use mathlib.Core.Path.{◌≡◌, refl, sym, ap, ◌∙◌}
-use mathlib.Core.List.{List, [], ◌∷◌}
+use mathlib.Core.List.{[], ◌∷◌}
 use lib.ListN.{get_or}
 use Rattle.base_refusals.specs.Numbers.{Numbered}
 use Rattle.base_refusals.specs.Answer.{numbered}

@@ -117,8 +117,8 @@ module _ (bits : List ℕ) (n : ℕ) {w : ℕ} (q : w ≡ 2 ^ (n % 8)) {x : Bool
   pub off_least : x ≡ true → x ≡ is_on bits n → w ≤ get_or bits (n / 8) 0
   off_least e p = omega (arith, take_least (n % 8) (get_or bits (n / 8) 0) (on_one bits n e p))
 
-  pub on_fits : x ≡ false → x ≡ is_on bits n → Fits w8 (get_or bits (n / 8) 0) → Fits w8 (get_or bits (n / 8) 0 + w)
-  on_fits e p h = record { fits = omega (arith, add_below 8 (n % 8) (get_or bits (n / 8) 0) (off_zero bits n e p) (omega arith) (omega (arith, h.fits))) }
+  pub on_fits : x ≡ false → x ≡ is_on bits n → get_or bits (n / 8) 0 < 256 → Fits w8 (get_or bits (n / 8) 0 + w)
+  on_fits e p h = record { fits = omega (arith, add_below 8 (n % 8) (get_or bits (n / 8) 0) (off_zero bits n e p) (omega arith) (omega arith)) }
 
   module _ {on : Bool} where
     pub turned_off : on ≡ false → x ≡ true → x ≡ is_on bits n → n < 8 * length bits → Turned bits n on (set bits (n / 8) (get_or bits (n / 8) 0 - w))

@@ -34,8 +34,8 @@ behind_open depth t = drop (closing depth t) t
 
 -- the bit of each (, by the number of bytes behind it, says whether = follows its list
 unfoldable pub Marked : Kind → List ℕ → List ℕ → Type 0
-Marked blank marks [] = Unit {0}
-Marked blank marks (b ∷ t) = (b ≡ 0x28 → is_on marks (length t) ≡ equals_ahead blank (behind_open 0 t)) × Marked blank marks t
+Marked space_kind marks [] = Unit {0}
+Marked space_kind marks (b ∷ t) = (b ≡ 0x28 → is_on marks (length t) ≡ equals_ahead space_kind (behind_open 0 t)) × Marked space_kind marks t
 
 -- marks of a text, or none at all
 pub record MarksOf (blank : Kind) (t : List ℕ) (marks : List ℕ) : Type 0 where

@@ -1,4 +1,1 @@
-pub mod Apart
 pub mod Behind
-pub mod Promised
-pub mod Results

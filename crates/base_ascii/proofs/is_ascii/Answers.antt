@@ -1,6 +1,5 @@
 -- `base_ascii::is_ascii` meets its contract.
 -- Assumes nothing.
-use Prim.Native.Nat.{◌-◌}
 use mathlib.Core.Path.{refl}
 use native.Mathlib.Omega.{arith}
 use Rattle.base_ascii.proofs.Laws.{plain_turn, plain_stop, plain_end}

@@ -1,6 +1,5 @@
 -- `base_ascii::leading_space` meets its contract.
 -- Assumes nothing.
-use Prim.Native.Nat.{◌-◌}
 use Rattle.base_ascii.proofs.Searching.{onward_start, front_turn, front_found, front_end}
 use Rattle.base_ascii.proofs.leading_space.Goals as goal
 

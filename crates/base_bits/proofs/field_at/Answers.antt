@@ -1,6 +1,5 @@
 -- `base_bits::field_at` meets its contract.
 -- Assumes nothing.
-use Prim.Native.Nat.{◌-◌}
 use native.Mathlib.Omega.{arith}
 use Rattle.base_bits.proofs.Reading.{read_start, read_turn, read_end}
 use Rattle.base_bits.proofs.field_at.Goals as goal

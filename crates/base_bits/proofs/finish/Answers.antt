@@ -1,6 +1,5 @@
 -- `base_bits::finish` meets its contract.
 -- Assumes nothing.
-use Prim.Native.Nat.{◌-◌}
 use Rattle.base_lent.proofs.Storing.{put_long}
 use Rattle.base_bits.proofs.Pens.{closing_start, zero_place, closing_turn, closing_less, closing_end}
 use borrow.Author.Rules.{rules}

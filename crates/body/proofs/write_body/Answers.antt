@@ -1,6 +1,6 @@
 -- `body::write_body` meets its contract.
 -- Assumes nothing.
-use Prim.Native.Nat.{◌-◌}
+use Prim.Native.Nat.{◌-◌, ◌<◌}
 use lib.ListN.{length}
 use mir.Syntax.{w64}
 use mir.Val.{Fits}
@@ -21,7 +21,7 @@ pub bounds-out-n : goal.bounds-out-n
 bounds-out-n c = search short_room
 
 pub overflow_add-n : goal.overflow_add-n
-overflow_add-n c = omega (arith, bounds-out-n c)
+overflow_add-n c = let h : c.loop-at.n < length c.loop-at.out = search short_room in omega arith
 
 pub loop-at-preserved-then-is_short : goal.loop-at-preserved-then-is_short
 loop-at-preserved-then-is_short c = search (short_turn, spans_on)

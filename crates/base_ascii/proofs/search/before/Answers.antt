@@ -1,6 +1,5 @@
 -- `base_ascii::search::before` meets its contract.
 -- Assumes nothing.
-use Prim.Native.Nat.{◌-◌}
 use Rattle.base_ascii.proofs.Searching.{onward_start, before_turn, before_found, before_end}
 use Rattle.base_ascii.proofs.search.before.Goals as goal
 

@@ -41,4 +41,4 @@ unfolding plain_byte
 returns-in-63 c = rw c.in-63.is
 
 pub returns-in_default : goal.returns-in_default
-returns-in_default c = no_operator _ c.requires c.in_default.rest
+returns-in_default c = no_operator _ c.requires c.in_default.in_default-own.rest

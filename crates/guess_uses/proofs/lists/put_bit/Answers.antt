@@ -1,6 +1,7 @@
 -- `guess_uses::lists::put_bit` meets its contract.
 -- Assumes nothing.
 use Rattle.guess_uses.proofs.Bits.{kept_on, kept_off, off_least, on_fits, turned_off, turned_on}
+use native.Mathlib.Omega.{arith}
 use Rattle.guess_uses.proofs.lists.put_bit.Goals as goal
 
 pub returns-then-on : goal.returns-then-on
@@ -13,7 +14,7 @@ pub returns-then-bit : goal.returns-then-bit
 returns-then-bit c = search turned_off
 
 pub overflow_add-bits : goal.overflow_add-bits
-overflow_add-bits c = ?
+overflow_add-bits c = on_fits _ _ c.weight-worth.ensures c.if-bit.false c.bit.ensures (omega arith)
 
 pub returns-then-on-2 : goal.returns-then-on-2
 returns-then-on-2 c = search turned_on
