@@ -116,9 +116,9 @@ fn check(rt: &HostRuntime, disk: &[u8]) {
 
 // What changes no byte of the disk.
 fn look_at(rt: &HostRuntime, command: &[u8], disk: &[u8]) {
-    if command == b"read" {
+    if command == b"read".as_slice() {
         read(rt, disk);
-    } else if command == b"dir" {
+    } else if command == b"dir".as_slice() {
         show(rt, disk);
     } else {
         check(rt, disk);
@@ -126,9 +126,9 @@ fn look_at(rt: &HostRuntime, command: &[u8], disk: &[u8]) {
 }
 
 fn work(rt: &HostRuntime, command: &[u8], disk: &mut [u8]) {
-    if command == b"save" {
+    if command == b"save".as_slice() {
         save(rt, disk);
-    } else if command == b"scratch" {
+    } else if command == b"scratch".as_slice() {
         scratch(rt, disk);
     } else {
         look_at(rt, command, disk);
@@ -147,7 +147,7 @@ fn read_and_work(rt: &HostRuntime, command: &[u8]) {
 fn main(rt: HostRuntime) {
     let mut command = io::buffer();
     let n = names::name(&rt, COMMAND, &mut command);
-    if &command[..n] == b"format" {
+    if &command[..n] == b"format".as_slice() {
         format(&rt);
     } else {
         read_and_work(&rt, &command[..n]);

@@ -78,11 +78,11 @@ fn show_places(rt: &HostRuntime) {
 }
 
 fn work(rt: &HostRuntime, command: &[u8]) {
-    if command == b"find" {
+    if command == b"find".as_slice() {
         find_given(rt);
-    } else if command == b"where" {
+    } else if command == b"where".as_slice() {
         show_places(rt);
-    } else if command == b"index" {
+    } else if command == b"index".as_slice() {
         look_at_given(rt, Look::Index);
     } else {
         look_at_given(rt, Look::Jumps);

@@ -33,16 +33,16 @@ pub fn asked(rt: &HostRuntime, dialect: Dialect) -> ListOptions {
 }
 
 // Writes the first bytes of a buffer.
-fn write_first(rt: &HostRuntime, to: &Target, name: &[u8], buf: &[u8], count: usize) -> bool
+fn write_first(rt: &HostRuntime, target: &Target, name: &[u8], buf: &[u8], count: usize) -> bool
     requires { count ≤ length buf.now }
 {
-    result::write(rt, to, name, &buf[0..count])
+    result::write(rt, target, name, &buf[0..count])
 }
 
 // Writes a line, one stretch after the other. Each brings the line nearer to its end, since a buffer of nine bytes holds every piece.
 pub fn write_line(
     rt: &HostRuntime,
-    to: &Target,
+    target: &Target,
     name: &[u8],
     number: u16,
     body: &[u8],
@@ -55,7 +55,7 @@ pub fn write_line(
     loop {
         let taken = list_stretches::list_stretch(body, options, place, out);
         let count = taken.length;
-        if !write_first(rt, to, name, out, count) {
+        if !write_first(rt, target, name, out, count) {
             return false;
         }
         place = taken.place;
@@ -68,7 +68,7 @@ pub fn write_line(
 // Writes the lines of an image that has a listing.
 pub fn write_lines(
     rt: &HostRuntime,
-    to: &Target,
+    target: &Target,
     name: &[u8],
     image: &[u8],
     options: ListOptions,
@@ -83,7 +83,15 @@ pub fn write_lines(
             Step::Found(line) => {
                 let from = line.from;
                 let to = line.to;
-                if !write_line(rt, to, name, line.number, &image[from..to], options, out) {
+                if !write_line(
+                    rt,
+                    target,
+                    name,
+                    line.number,
+                    &image[from..to],
+                    options,
+                    out,
+                ) {
                     return false;
                 }
                 offset = line.next;
