@@ -1,5 +1,6 @@
 // Files by their names, which are rows of bytes. The library opens what is named in UTF-8. For any other name ./moldthatch makes a link with a plain
-// name, in a folder that it tells by the variable MOLDTHATCH_PLAIN: two letters for each byte, a to p for 0 to 15, and a / behind each hundred bytes.
+// name, in a folder that it tells by the variable MOLDTHATCH_PLAIN: two letters for each byte, a to p for 0 to 15, a hundred bytes to a folder, and a dot
+// behind all.
 ghost use Rattle.std.specs.Prelude.{◌≤◌, length};
 ghost use Rattle.io.specs.Counts.{IsPrefixLen};
 
@@ -47,7 +48,7 @@ fn put_plain(out: &mut [u8], from: usize, name: &[u8]) -> usize {
         at = put_letters(out, at, name[i]);
         i += 1;
     }
-    at
+    put(out, at, b'.')
 }
 
 // The path of a link, whose folder is told by a variable.
