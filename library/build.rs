@@ -1,4 +1,4 @@
-//! Finds the library that `rt staticlib moldthatch` has built in this repository.
+//! Finds the library that `programs/library` has built in this repository.
 
 use std::{env, path::Path};
 
@@ -8,7 +8,7 @@ fn main() {
     let library = folder.join("libmoldthatch.a");
     assert!(
         library.exists(),
-        "{library:?} is missing: rt staticlib moldthatch makes it"
+        "{library:?} is missing: programs/library makes it"
     );
     println!("cargo::rerun-if-changed={}", library.display());
     println!("cargo::rustc-link-search=native={}", folder.display());

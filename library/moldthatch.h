@@ -1,4 +1,4 @@
-/* Moldthatch for C. Link with libmoldthatch.a, which `rt staticlib moldthatch` makes.
+/* Moldthatch for C. Link with libmoldthatch.a, which `programs/library` makes.
  *
  * A pointer and the length behind it are a slice: the pointer is not null, even
  * where the length is 0, and a slice that is written overlaps no other. Nothing

@@ -1,6 +1,6 @@
 //! Moldthatch for Rust: safe calls of the proved library.
 //!
-//! Link with libmoldthatch.a, which `rt staticlib moldthatch` makes. Each call
+//! Link with libmoldthatch.a, which `programs/library` makes. Each call
 //! takes any bytes. A refusal changes no byte of a lent buffer, and a result
 //! only as many bytes at its start as the call answers.
 

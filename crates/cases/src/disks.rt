@@ -25,6 +25,16 @@ fn file_end(bytes: &[u8]) -> usize
     4 + judge_frames::u32_at(bytes, 0) as usize
 }
 
+// Copies bytes to the start of a buffer, and answers how many.
+fn copied(from: &[u8], to: &mut [u8]) -> usize
+    requires { length from.now ≤ length to.old }
+    ensures { result ≤ length to.new }
+{
+    let size = from.len();
+    to[..size].copy_from_slice(from);
+    size
+}
+
 // Formats a disk, saves a file on it or scratches one.
 pub fn change(op: u8, payload: &[u8], disk: &mut [u8]) -> bool
     requires { length payload.now ≤ length disk.old }
@@ -39,7 +49,7 @@ pub fn change(op: u8, payload: &[u8], disk: &mut [u8]) -> bool
 fn format(payload: &[u8], disk: &mut [u8]) -> bool
     requires { length payload.now ≤ length disk.old }
 {
-    let size = bytes::copy(payload, disk);
+    let size = copied(payload, disk);
     let changed = disk::format(&mut disk[0..size]);
     send_changed(changed, &disk[0..size])
 }
@@ -67,7 +77,7 @@ fn save_named(name: &[u8], left: &[u8], disk: &mut [u8]) -> bool
 fn save_file(name: &[u8], file: &[u8], given: &[u8], disk: &mut [u8]) -> bool
     requires { length given.now ≤ length disk.old }
 {
-    let size = bytes::copy(given, disk);
+    let size = copied(given, disk);
     let changed = disk::save(&mut disk[0..size], name, file);
     send_changed(changed, &disk[0..size])
 }
@@ -85,7 +95,7 @@ fn scratch(payload: &[u8], disk: &mut [u8]) -> bool
 fn scratch_named(name: &[u8], given: &[u8], disk: &mut [u8]) -> bool
     requires { length given.now ≤ length disk.old }
 {
-    let size = bytes::copy(given, disk);
+    let size = copied(given, disk);
     let changed = disk::scratch(&mut disk[0..size], name);
     send_changed(changed, &disk[0..size])
 }

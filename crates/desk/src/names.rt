@@ -3,6 +3,8 @@ ghost use Rattle.std.specs.Prelude.{◌≡◌};
 ghost use Rattle.io.specs.Counts.{IsPrefixLen};
 ghost use Rattle.desk.specs.WayHelpers.{way_of};
 
+use desk_calls::words;
+
 pub const IN: usize = 1;
 
 pub const OUT: usize = 2;
@@ -24,8 +26,8 @@ pub enum Way {
 pub const WORDS: usize = 4;
 
 // Whether the program was given names at all.
-pub fn given() -> bool {
-    os::arg_count() > 3
+pub fn given(rt: &HostRuntime) -> bool {
+    words::is_there(rt, PART)
 }
 
 // What the word PART says. An empty word, as a name is read that does not fit, is never one for writing in place.
@@ -45,18 +47,18 @@ pub fn way_of(part: &[u8]) -> Way
 }
 
 // Whether an argument names a file, and not standard input or output.
-pub fn is_file(argument: usize) -> bool {
-    if !given() {
+pub fn is_file(rt: &HostRuntime, argument: usize) -> bool {
+    if !given(rt) {
         return false;
     }
-    let mut name = io::buffer();
-    let length = os::arg(argument, &mut name);
-    length != 1 || name[0] != b'-'
+    let mut word = io::buffer();
+    let length = name(rt, argument, &mut word);
+    length != 1 || word[0] != b'-'
 }
 
 // The name itself, at the start of a buffer; an empty one where it has no room.
-pub fn name(argument: usize, buf: &mut [u8]) -> usize
+pub fn name(rt: &HostRuntime, argument: usize, buf: &mut [u8]) -> usize
     ensures { IsPrefixLen result buf.new }
 {
-    os::arg(argument, buf)
+    words::word(rt, argument, buf)
 }

@@ -1,6 +1,7 @@
 // What the words ask for that a program was given behind its three names. Each is decided by a call that is proved elsewhere. Where a word asks for
 // nothing, standard error says so, the status is told, and the program has ended.
 use crate::{names, output, saying};
+use desk_calls::words;
 use desk_status::Status;
 use say_put::put_text;
 use text_numbers::Numbering;
@@ -21,47 +22,47 @@ pub enum AskedNumber {
 }
 
 // Whether there is a word at a place.
-fn is_given(argument: usize) -> bool {
-    argument < os::arg_count()
+fn is_given(rt: &HostRuntime, argument: usize) -> bool {
+    words::is_there(rt, argument)
 }
 
 // Whether the word of a flag is there and is not empty.
-pub fn is_set(argument: usize) -> bool {
+pub fn is_set(rt: &HostRuntime, argument: usize) -> bool {
     let mut word = io::buffer();
-    names::name(argument, &mut word) > 0
+    names::name(rt, argument, &mut word) > 0
 }
 
 // The dialect that a word names; Auto where there is no word.
-pub fn dialect(argument: usize) -> AskedDialect {
-    if !is_given(argument) {
+pub fn dialect(rt: &HostRuntime, argument: usize) -> AskedDialect {
+    if !is_given(rt, argument) {
         return AskedDialect::Known(Dialect::Auto);
     }
     let mut word = io::buffer();
-    let n = names::name(argument, &mut word);
+    let n = names::name(rt, argument, &mut word);
     match word_dialects::dialect_by_name(&word[..n]) {
         Named::Known(dialect) => AskedDialect::Known(dialect),
         Named::Refused(refusal) => {
-            output::refuse_for(&word[..n], refusal);
+            output::refuse_for(rt, &word[..n], refusal);
             AskedDialect::Ended
         }
     }
 }
 
 // Ends a program that was given a word in the place of a number.
-fn misuse(word: &[u8]) -> AskedNumber {
+fn misuse(rt: &HostRuntime, word: &[u8]) -> AskedNumber {
     let mut line = [0u8; 4352];
     let from = put_text(&mut line, 0, b"moldthatch: ");
     let to = put_text(&mut line, from, word);
     let end = put_text(&mut line, to, b": no number from 0 to 65535");
-    saying::tell(&line[..end]);
+    saying::tell(rt, &line[..end]);
     desk_status::tell(Status::Misused);
     AskedNumber::Ended
 }
 
 // The number that a word is: one that a text line could have, with nothing behind it.
-pub fn number(argument: usize) -> AskedNumber {
+pub fn number(rt: &HostRuntime, argument: usize) -> AskedNumber {
     let mut word = io::buffer();
-    let n = names::name(argument, &mut word);
+    let n = names::name(rt, argument, &mut word);
     match text_numbers::number_line(&word[..n]) {
         Numbering::Numbered {
             number,
@@ -69,20 +70,20 @@ pub fn number(argument: usize) -> AskedNumber {
             body_to,
         } => {
             if body_from < body_to {
-                return misuse(&word[..n]);
+                return misuse(rt, &word[..n]);
             }
             AskedNumber::Known(number)
         }
-        Numbering::Blank => misuse(&word[..n]),
-        Numbering::Missing => misuse(&word[..n]),
-        Numbering::OutOfRange { value: _ } => misuse(&word[..n]),
+        Numbering::Blank => misuse(rt, &word[..n]),
+        Numbering::Missing => misuse(rt, &word[..n]),
+        Numbering::OutOfRange { value: _ } => misuse(rt, &word[..n]),
     }
 }
 
 // The load address that a word is, or the dialect's own where there is no word.
-pub fn load(argument: usize, dialect: Dialect) -> AskedNumber {
-    if !is_given(argument) {
+pub fn load(rt: &HostRuntime, argument: usize, dialect: Dialect) -> AskedNumber {
+    if !is_given(rt, argument) {
         return AskedNumber::Known(word_dialects::default_load(dialect));
     }
-    number(argument)
+    number(rt, argument)
 }

@@ -12,34 +12,40 @@ use disk_names::put_name;
 use say_put::put_text;
 
 // Checks the file of an entry, under a name.
-fn check_named(name: &[u8], disk: &[u8], p: usize, is_quiet: bool) -> Status
+fn check_named(rt: &HostRuntime, name: &[u8], disk: &[u8], p: usize, is_quiet: bool) -> Status
     requires { (length disk.now ≡ 174848) × (p + 30 ≤ 174848) }
 {
     // No file is longer: 664 sectors of 254 bytes.
     let mut file = [0u8; 168_656];
     match disk::read(disk, name_at(disk, p), &mut file) {
-        Outcome::Done(count) => check_program(name, &file[0..count], is_quiet),
-        Outcome::Refused(refusal) => telling::tell_refusal(name, refusal, is_quiet),
+        Outcome::Done(count) => check_program(rt, name, &file[0..count], is_quiet),
+        Outcome::Refused(refusal) => telling::tell_refusal(rt, name, refusal, is_quiet),
     }
 }
 
-fn check_entry(name: &[u8], disk: &[u8], p: usize, is_quiet: bool) -> Status
+fn check_entry(rt: &HostRuntime, name: &[u8], disk: &[u8], p: usize, is_quiet: bool) -> Status
     requires { (length disk.now ≡ 174848) × (p + 30 ≤ 174848) }
 {
     let mut full = [0u8; 4352];
     let comma = put_text(&mut full, 0, name);
     let from = put_text(&mut full, comma, b", ");
     let n = put_name(&mut full, from, name_at(disk, p));
-    check_named(&full[..n], disk, p, is_quiet)
+    check_named(rt, &full[..n], disk, p, is_quiet)
 }
 
-fn check_entries(name: &[u8], disk: &[u8], files: &[usize], is_quiet: bool) -> Status
+fn check_entries(
+    rt: &HostRuntime,
+    name: &[u8],
+    disk: &[u8],
+    files: &[usize],
+    is_quiet: bool,
+) -> Status
     requires { (length disk.now ≡ 174848) × Entries files.now }
 {
     let mut run = Status::Done;
     let mut i: usize = 0;
     while i < files.len() {
-        run = desk_status::worse(run, check_entry(name, disk, files[i], is_quiet));
+        run = desk_status::worse(run, check_entry(rt, name, disk, files[i], is_quiet));
         if let Status::Failed = run {
             return run;
         }
@@ -48,16 +54,16 @@ fn check_entries(name: &[u8], disk: &[u8], files: &[usize], is_quiet: bool) -> S
     run
 }
 
-pub fn check_disk(name: &[u8], disk: &[u8], is_quiet: bool) -> Status
+pub fn check_disk(rt: &HostRuntime, name: &[u8], disk: &[u8], is_quiet: bool) -> Status
     requires { length disk.now ≡ 174848 }
 {
     let mut sectors = [0usize; 18];
     let mut files = [0usize; 144];
     let seen = look(disk, &mut sectors, &mut files);
     if !seen.sound {
-        return telling::tell_refusal(name, Refusal::BadDisk, is_quiet);
+        return telling::tell_refusal(rt, name, Refusal::BadDisk, is_quiet);
     }
     let count = seen.files;
-    let run = check_entries(name, disk, &files[..count], is_quiet);
-    telling::tell_disk(name, count, run, is_quiet)
+    let run = check_entries(rt, name, disk, &files[..count], is_quiet);
+    telling::tell_disk(rt, name, count, run, is_quiet)
 }

@@ -6,6 +6,7 @@ mod disks;
 mod telling;
 
 use desk::input;
+use desk_calls::words;
 use desk_inputs::Input;
 use desk_status::Status;
 use image_fitness::Found;
@@ -23,7 +24,7 @@ struct File {
 }
 
 // Walks over the faults of an image that was read, and says each.
-fn walk(name: &[u8], image: &[u8], is_quiet: bool) -> Status {
+fn walk(rt: &HostRuntime, name: &[u8], image: &[u8], is_quiet: bool) -> Status {
     let mut marked = [0u8; 65536];
     image_marks::mark_numbers(image, &mut marked);
     let mut place = image_fitness::first();
@@ -34,7 +35,7 @@ fn walk(name: &[u8], image: &[u8], is_quiet: bool) -> Status {
                 fault,
                 place: behind,
             } => {
-                run = desk_status::worse(run, telling::tell_fault(name, fault, is_quiet));
+                run = desk_status::worse(run, telling::tell_fault(rt, name, fault, is_quiet));
                 if let Status::Failed = run {
                     return run;
                 }
@@ -48,21 +49,21 @@ fn walk(name: &[u8], image: &[u8], is_quiet: bool) -> Status {
 }
 
 // Checks a program.
-pub fn check_program(name: &[u8], image: &[u8], is_quiet: bool) -> Status {
+pub fn check_program(rt: &HostRuntime, name: &[u8], image: &[u8], is_quiet: bool) -> Status {
     match links::check(image) {
         Checked::Image { load, lines } => {
-            let run = walk(name, image, is_quiet);
-            telling::tell_program(name, load, lines, run, is_quiet)
+            let run = walk(rt, name, image, is_quiet);
+            telling::tell_program(rt, name, load, lines, run, is_quiet)
         }
-        Checked::Refused(refusal) => telling::tell_refusal(name, refusal, is_quiet),
+        Checked::Refused(refusal) => telling::tell_refusal(rt, name, refusal, is_quiet),
     }
 }
 
-fn check_bytes(name: &[u8], bytes: &[u8], is_quiet: bool) -> Status {
+fn check_bytes(rt: &HostRuntime, name: &[u8], bytes: &[u8], is_quiet: bool) -> Status {
     if bytes.len() == DISK {
-        return disks::check_disk(name, bytes, is_quiet);
+        return disks::check_disk(rt, name, bytes, is_quiet);
     }
-    check_program(name, bytes, is_quiet)
+    check_program(rt, name, bytes, is_quiet)
 }
 
 // What a file came to that was read: only where it could not be told it has failed.
@@ -80,14 +81,14 @@ fn told(status: Status) -> File {
 }
 
 // Checks the file that an argument names.
-fn check_file(argument: usize, buf: &mut [u8], is_quiet: bool) -> File {
+fn check_file(rt: &HostRuntime, argument: usize, buf: &mut [u8], is_quiet: bool) -> File {
     let mut name = io::buffer();
-    let n = os::arg(argument, &mut name);
-    match input::read_file(&name[..n], buf) {
-        Input::All(count) => told(check_bytes(&name[..n], &buf[0..count], is_quiet)),
+    let n = words::word(rt, argument, &mut name);
+    match input::read_file(rt, &name[..n], buf) {
+        Input::All(count) => told(check_bytes(rt, &name[..n], &buf[0..count], is_quiet)),
         // The buffer is longer than an image may be: what is in it is refused as too long.
-        Input::Longer => told(check_program(&name[..n], buf, is_quiet)),
-        Input::Failed => File {
+        Input::Longer => told(check_program(rt, &name[..n], buf, is_quiet)),
+        Input::Failed(_) => File {
             status: Status::Failed,
             is_last: false,
         },
@@ -95,12 +96,12 @@ fn check_file(argument: usize, buf: &mut [u8], is_quiet: bool) -> File {
 }
 
 // Checks the files that the arguments from the second on name. What cannot be read is told, and the others are checked all the same.
-fn check_files(buf: &mut [u8], is_quiet: bool) -> Status {
-    let count = os::arg_count();
+fn check_files(rt: &HostRuntime, buf: &mut [u8], is_quiet: bool) -> Status {
+    let count = words::count(rt);
     let mut status = Status::Done;
     let mut i: usize = 2;
     while i < count {
-        let file = check_file(i, buf, is_quiet);
+        let file = check_file(rt, i, buf, is_quiet);
         let came = file.status;
         status = desk_status::worse(status, came);
         if file.is_last {
@@ -112,13 +113,13 @@ fn check_files(buf: &mut [u8], is_quiet: bool) -> Status {
 }
 
 // Whether the first argument is the letter q.
-fn is_quiet() -> bool {
+fn is_quiet(rt: &HostRuntime) -> bool {
     let mut word = io::buffer();
-    let n = os::arg(1, &mut word);
+    let n = words::word(rt, 1, &mut word);
     n == 1 && word[0] == b'q'
 }
 
-fn main() {
+fn main(rt: HostRuntime) {
     let mut buf = [0u8; 1_048_577];
-    desk_status::tell(check_files(&mut buf, is_quiet()));
+    desk_status::tell(check_files(&rt, &mut buf, is_quiet(&rt)));
 }

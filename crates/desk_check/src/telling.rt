@@ -9,8 +9,8 @@ use desk::{output, saying};
 use desk_status::Status;
 use image_faults::Fault;
 
-fn write_line(line: &[u8]) -> bool {
-    saying::say(line)
+fn write_line(rt: &HostRuntime, line: &[u8]) -> bool {
+    saying::say(rt, line)
 }
 
 // No name is longer: the desk reads 4,096 bytes of one, and puts the name of a disk's file behind it.
@@ -24,66 +24,76 @@ fn short(name: &[u8]) -> &[u8]
 }
 
 // Writes a line that was put together, or says why it was not.
-fn write_told(name: &[u8], outcome: Outcome, line: &[u8]) -> bool
+fn write_told(rt: &HostRuntime, name: &[u8], outcome: Outcome, line: &[u8]) -> bool
     requires { Holds outcome line.now }
 {
     match outcome {
-        Outcome::Done(n) => write_line(&line[0..n]),
+        Outcome::Done(n) => write_line(rt, &line[0..n]),
         Outcome::Refused(refusal) => {
-            output::tell(name, refusal);
+            output::tell(rt, name, refusal);
             false
         }
     }
 }
 
-fn write_fault(name: &[u8], fault: Fault) -> bool {
+fn write_fault(rt: &HostRuntime, name: &[u8], fault: Fault) -> bool {
     let mut line = [0u8; 4608];
     let outcome = image_sentences::lend_fault(short(name), fault, &mut line);
-    write_told(name, outcome, &line)
+    write_told(rt, name, outcome, &line)
 }
 
-pub fn tell_fault(name: &[u8], fault: Fault, is_quiet: bool) -> Status {
+pub fn tell_fault(rt: &HostRuntime, name: &[u8], fault: Fault, is_quiet: bool) -> Status {
     if is_quiet {
         return Status::Refused;
     }
-    desk_status::written(write_fault(name, fault), Status::Refused)
+    desk_status::written(write_fault(rt, name, fault), Status::Refused)
 }
 
-fn write_unread(name: &[u8]) -> bool {
+fn write_unread(rt: &HostRuntime, name: &[u8]) -> bool {
     let mut line = [0u8; 4608];
     let outcome = image_sentences::lend_refused(short(name), &mut line);
-    write_told(name, outcome, &line)
+    write_told(rt, name, outcome, &line)
 }
 
-fn write_refusal(name: &[u8], refusal: Refusal) -> bool {
+fn write_refusal(rt: &HostRuntime, name: &[u8], refusal: Refusal) -> bool {
     let mut line = [0u8; 4608];
     let n = say_sentences::message(name, b"", base_refusals::refusal_code(refusal), &mut line);
-    write_line(&line[..n]) && write_unread(name)
+    write_line(rt, &line[..n]) && write_unread(rt, name)
 }
 
 // What no reader, or no disk, could be made of.
-pub fn tell_refusal(name: &[u8], refusal: Refusal, is_quiet: bool) -> Status {
+pub fn tell_refusal(rt: &HostRuntime, name: &[u8], refusal: Refusal, is_quiet: bool) -> Status {
     if is_quiet {
         return Status::Refused;
     }
-    desk_status::written(write_refusal(name, refusal), Status::Refused)
+    desk_status::written(write_refusal(rt, name, refusal), Status::Refused)
 }
 
-fn write_program(name: &[u8], load: usize, lines: usize, fit: bool) -> bool {
+fn write_program(rt: &HostRuntime, name: &[u8], load: usize, lines: usize, fit: bool) -> bool {
     let mut line = [0u8; 4608];
     let outcome = image_sentences::lend_program(short(name), load, lines, fit, &mut line);
-    write_told(name, outcome, &line)
+    write_told(rt, name, outcome, &line)
 }
 
 // The last line of a program.
-pub fn tell_program(name: &[u8], load: u16, lines: usize, run: Status, is_quiet: bool) -> Status {
+pub fn tell_program(
+    rt: &HostRuntime,
+    name: &[u8],
+    load: u16,
+    lines: usize,
+    run: Status,
+    is_quiet: bool,
+) -> Status {
     if is_quiet {
         return run;
     }
     match run {
-        Status::Done => desk_status::written(write_program(name, load as usize, lines, true), run),
+        Status::Done => desk_status::written(
+            write_program(rt, name, load as usize, lines, true),
+            run,
+        ),
         Status::Refused => desk_status::written(
-            write_program(name, load as usize, lines, false),
+            write_program(rt, name, load as usize, lines, false),
             run,
         ),
         Status::Misused => run,
@@ -91,20 +101,26 @@ pub fn tell_program(name: &[u8], load: u16, lines: usize, run: Status, is_quiet:
     }
 }
 
-fn write_disk(name: &[u8], files: usize, fit: bool) -> bool {
+fn write_disk(rt: &HostRuntime, name: &[u8], files: usize, fit: bool) -> bool {
     let mut line = [0u8; 4608];
     let outcome = image_sentences::lend_disk(short(name), files, fit, &mut line);
-    write_told(name, outcome, &line)
+    write_told(rt, name, outcome, &line)
 }
 
 // The last line of a disk.
-pub fn tell_disk(name: &[u8], files: usize, run: Status, is_quiet: bool) -> Status {
+pub fn tell_disk(
+    rt: &HostRuntime,
+    name: &[u8],
+    files: usize,
+    run: Status,
+    is_quiet: bool,
+) -> Status {
     if is_quiet {
         return run;
     }
     match run {
-        Status::Done => desk_status::written(write_disk(name, files, true), run),
-        Status::Refused => desk_status::written(write_disk(name, files, false), run),
+        Status::Done => desk_status::written(write_disk(rt, name, files, true), run),
+        Status::Refused => desk_status::written(write_disk(rt, name, files, false), run),
         Status::Misused => run,
         Status::Failed => run,
     }

@@ -7,13 +7,14 @@ mod totals;
 
 use count_images::Carried;
 use desk::{input, output};
+use desk_calls::words;
 use desk_inputs::Input;
 use desk_status::Status;
 
 // The byte at a place of the first argument; 0 where there is none.
-fn letter(place: usize) -> u8 {
+fn letter(rt: &HostRuntime, place: usize) -> u8 {
     let mut word = io::buffer();
-    let n = os::arg(1, &mut word);
+    let n = words::word(rt, 1, &mut word);
     if place < n && n <= word.len() {
         return word[place];
     }
@@ -21,12 +22,15 @@ fn letter(place: usize) -> u8 {
 }
 
 // Takes one image into the totals, and names it on standard error where it is refused.
-fn take_image(name: &[u8], image: &[u8], totals: &mut [u64]) -> Status {
+fn take_image(rt: &HostRuntime, name: &[u8], image: &[u8], totals: &mut [u64]) -> Status {
     match count_images::add_image(totals, image) {
         Carried::Taken => Status::Done,
-        Carried::Apart(refusal) => desk_status::written(output::tell(name, refusal), Status::Done),
+        Carried::Apart(refusal) => desk_status::written(
+            output::tell(rt, name, refusal),
+            Status::Done,
+        ),
         Carried::Refused(refusal) => desk_status::written(
-            output::tell(name, refusal),
+            output::tell(rt, name, refusal),
             Status::Refused,
         ),
         Carried::NoTotals => Status::Failed,
@@ -34,24 +38,24 @@ fn take_image(name: &[u8], image: &[u8], totals: &mut [u64]) -> Status {
 }
 
 // Takes the image in the file that an argument names.
-fn take_file(argument: usize, image: &mut [u8], totals: &mut [u64]) -> Status {
+fn take_file(rt: &HostRuntime, argument: usize, image: &mut [u8], totals: &mut [u64]) -> Status {
     let mut name = io::buffer();
-    let n = os::arg(argument, &mut name);
-    match input::read_file(&name[..n], image) {
-        Input::All(count) => take_image(&name[..n], &image[0..count], totals),
+    let n = words::word(rt, argument, &mut name);
+    match input::read_file(rt, &name[..n], image) {
+        Input::All(count) => take_image(rt, &name[..n], &image[0..count], totals),
         // The buffer is longer than an image may be: what is in it is refused as too long.
-        Input::Longer => take_image(&name[..n], image, totals),
-        Input::Failed => Status::Failed,
+        Input::Longer => take_image(rt, &name[..n], image, totals),
+        Input::Failed(_) => Status::Failed,
     }
 }
 
 // Takes the files that the arguments from the second on name. What cannot be read is told, and the others are read all the same; behind 1,000
 // images no other is taken.
-fn take_files(count: usize, image: &mut [u8], totals: &mut [u64]) -> Status {
+fn take_files(rt: &HostRuntime, count: usize, image: &mut [u8], totals: &mut [u64]) -> Status {
     let mut i: usize = 2;
     let mut status = Status::Done;
     while i < count {
-        let taken = take_file(i, image, totals);
+        let taken = take_file(rt, i, image, totals);
         status = desk_status::worse(status, taken);
         if let Status::Refused = taken {
             return status;
@@ -62,27 +66,23 @@ fn take_files(count: usize, image: &mut [u8], totals: &mut [u64]) -> Status {
 }
 
 // Writes the totals as they are asked for; whether they could be written.
-fn write(totals: &[u64; 206]) -> bool {
-    if letter(1) == b's' {
-        return totals::write(totals);
+fn write(rt: &HostRuntime, totals: &[u64; 206]) -> bool {
+    if letter(rt, 1) == b's' {
+        return totals::write(rt, totals);
     }
-    table::write(totals)
+    table::write(rt, totals)
 }
 
 // Writes the number of the refusal in the place of a result: one image was too many.
-fn refuse() -> bool {
-    let done = table::write_number(26);
-    if !done {
-        os::fail(b"standard output");
-    }
-    done
+fn refuse(rt: &HostRuntime) -> bool {
+    table::write_number(rt, 26)
 }
 
 // Ends a run: the result, or the number of the refusal in its place, and the status.
-fn finish(status: Status, totals: &[u64; 206]) {
+fn finish(rt: &HostRuntime, status: Status, totals: &[u64; 206]) {
     let is_written = match status {
-        Status::Done => write(totals),
-        Status::Refused => refuse(),
+        Status::Done => write(rt, totals),
+        Status::Refused => refuse(rt),
         Status::Misused => true,
         Status::Failed => true,
     };
@@ -90,19 +90,19 @@ fn finish(status: Status, totals: &[u64; 206]) {
 }
 
 // Counts with a buffer for one image.
-fn count_with(image: &mut [u8]) {
+fn count_with(rt: &HostRuntime, image: &mut [u8]) {
     let mut totals = [0u64; 206];
-    let count = os::arg_count();
-    if letter(0) == b't' {
-        let joined = totals::join_files(count, &mut totals);
-        finish(joined, &totals);
+    let count = words::count(rt);
+    if letter(rt, 0) == b't' {
+        let joined = totals::join_files(rt, count, &mut totals);
+        finish(rt, joined, &totals);
         return;
     }
-    let taken = take_files(count, image, &mut totals);
-    finish(taken, &totals);
+    let taken = take_files(rt, count, image, &mut totals);
+    finish(rt, taken, &totals);
 }
 
-fn main() {
+fn main(rt: HostRuntime) {
     let mut image = [0u8; 1_048_577];
-    count_with(&mut image);
+    count_with(&rt, &mut image);
 }

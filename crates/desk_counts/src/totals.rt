@@ -2,40 +2,37 @@
 ghost use Rattle.std.specs.Prelude.{◌≡◌, ◌+◌, ◌*◌, ◌≤◌, length};
 
 use count_images::Carried;
-use desk::{output, saying};
+use desk::{output, result, saying};
+use desk_calls::{files, words};
 use desk_inputs::Part;
 use desk_status::Status;
-use libc::{STDIN_FILENO, STDOUT_FILENO};
 use say_put::put_text;
+use std::io::Read;
 
 // No input has so many totals.
 const MOST_TOTALS: u64 = 1_000_000;
 
 // Writes totals to standard output, at once: a pipe keeps them whole.
-pub fn write(totals: &[u64; 206]) -> bool {
+pub fn write(rt: &HostRuntime, totals: &[u64; 206]) -> bool {
     let mut bytes = [0u8; 1648];
     let mut k: usize = 0;
     while k < 206 {
         put(&mut bytes, k, totals[k]);
         k += 1;
     }
-    let done = io::write_all(STDOUT_FILENO, &bytes);
-    if !done {
-        os::fail(b"standard output");
-    }
-    done
+    result::write_output(rt, &bytes)
 }
 
 // Joins the totals in the files that the arguments from the second on name; without names those of standard input.
-pub fn join_files(count: usize, totals: &mut [u64]) -> Status {
+pub fn join_files(rt: &HostRuntime, count: usize, totals: &mut [u64]) -> Status {
     if count < 3 {
-        return join_all(STDIN_FILENO, b"standard input", totals);
+        return join_all(rt, &mut rt.stdin(), b"standard input", totals);
     }
     let mut i: usize = 2;
     while i < count {
         let mut name = io::buffer();
-        let n = os::arg(i, &mut name);
-        let joined = join_file(&name[..n], totals);
+        let n = words::word(rt, i, &mut name);
+        let joined = join_file(rt, &name[..n], totals);
         if !desk_status::is_done(joined) {
             return joined;
         }
@@ -44,26 +41,25 @@ pub fn join_files(count: usize, totals: &mut [u64]) -> Status {
     Status::Done
 }
 
-fn join_file(name: &[u8], totals: &mut [u64]) -> Status {
-    let fd = os::open_read(name);
-    if fd < 0 {
-        saying::fail(name);
-        return Status::Failed;
+fn join_file(rt: &HostRuntime, name: &[u8], totals: &mut [u64]) -> Status {
+    match files::open_read(rt, name) {
+        Ok(mut file) => join_all(rt, &mut file, name, totals),
+        Err(why) => {
+            saying::fail(rt, name, why);
+            Status::Failed
+        }
     }
-    let joined = join_all(fd, name, totals);
-    libc::close(fd);
-    joined
 }
 
 // Joins the totals up to the end of an input, which has some: where a part could not be counted, its file is empty. A proved loop has to end,
 // and nothing says that the input does: there are at most 1,000 images, and of totals without one no archive has so many.
-fn join_all(fd: i32, name: &[u8], totals: &mut [u64]) -> Status {
+fn join_all<R: Read>(rt: &HostRuntime, from: &mut R, name: &[u8], totals: &mut [u64]) -> Status {
     let mut left: u64 = MOST_TOTALS;
     while left > 0 {
         let mut bytes = [0u8; 1648];
-        match desk_inputs::read_part(fd, &mut bytes) {
+        match desk_inputs::read_part(from, &mut bytes) {
             Part::Whole => {
-                let joined = join(name, &bytes, totals);
+                let joined = join(rt, name, &bytes, totals);
                 if !desk_status::is_done(joined) {
                     return joined;
                 }
@@ -72,20 +68,20 @@ fn join_all(fd: i32, name: &[u8], totals: &mut [u64]) -> Status {
                 if n == 0 && left < MOST_TOTALS {
                     return Status::Done;
                 }
-                return no_totals(name);
+                return no_totals(rt, name);
             }
-            Part::Failed => {
-                saying::fail(name);
+            Part::Failed(why) => {
+                saying::fail(rt, name, why);
                 return Status::Failed;
             }
         }
         left -= 1;
     }
-    no_totals(name)
+    no_totals(rt, name)
 }
 
 // Joins totals as they stand in a file.
-fn join(name: &[u8], bytes: &[u8], totals: &mut [u64]) -> Status
+fn join(rt: &HostRuntime, name: &[u8], bytes: &[u8], totals: &mut [u64]) -> Status
     requires { length bytes.now ≡ 1648 }
 {
     let mut other = [0u64; 206];
@@ -98,18 +94,18 @@ fn join(name: &[u8], bytes: &[u8], totals: &mut [u64]) -> Status
         Carried::Taken => Status::Done,
         Carried::Apart(_) => Status::Done,
         Carried::Refused(refusal) => desk_status::written(
-            output::tell(name, refusal),
+            output::tell(rt, name, refusal),
             Status::Refused,
         ),
-        Carried::NoTotals => no_totals(name),
+        Carried::NoTotals => no_totals(rt, name),
     }
 }
 
-fn no_totals(name: &[u8]) -> Status {
+fn no_totals(rt: &HostRuntime, name: &[u8]) -> Status {
     let mut line = [0u8; 4352];
     let from = put_text(&mut line, 0, name);
     let end = put_text(&mut line, from, b": no totals, or totals cut short");
-    saying::tell(&line[..end]);
+    saying::tell(rt, &line[..end]);
     Status::Failed
 }
 

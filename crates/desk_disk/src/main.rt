@@ -18,68 +18,68 @@ const COMMAND: usize = names::WORDS;
 const NAME: usize = names::WORDS + 1;
 
 // Writes the disk as a call left it, or says why that call was refused.
-fn answer_changed(changed: Changed, disk: &[u8]) {
+fn answer_changed(rt: &HostRuntime, changed: Changed, disk: &[u8]) {
     match changed {
-        Changed::Done => output::answer(Outcome::Done(disk.len()), disk, b""),
-        Changed::Refused(refusal) => output::refuse(refusal, b""),
+        Changed::Done => output::answer(rt, Outcome::Done(disk.len()), disk, b""),
+        Changed::Refused(refusal) => output::refuse(rt, refusal, b""),
     }
 }
 
 // Makes a fresh disk with files on it, which ./moldthatch gives its name where that is not taken.
-fn format() {
+fn format(rt: &HostRuntime) {
     let mut disk = [0u8; 174_848];
     match disk::format(&mut disk) {
-        Changed::Done => saving::save_files(&mut disk, true),
-        Changed::Refused(refusal) => output::refuse(refusal, b""),
+        Changed::Done => saving::save_files(rt, &mut disk, true),
+        Changed::Refused(refusal) => output::refuse(rt, refusal, b""),
     }
 }
 
-fn save(disk: &mut [u8]) {
+fn save(rt: &HostRuntime, disk: &mut [u8]) {
     match disk::check(disk) {
-        DiskCheck::Holds { files: _, free: _ } => saving::save_files(disk, false),
-        DiskCheck::Refused(refusal) => output::refuse(refusal, b""),
+        DiskCheck::Holds { files: _, free: _ } => saving::save_files(rt, disk, false),
+        DiskCheck::Refused(refusal) => output::refuse(rt, refusal, b""),
     }
 }
 
 // The name that a word stands for, at the start of a buffer.
-fn given_name(name: &mut [u8]) -> usize
+fn given_name(rt: &HostRuntime, name: &mut [u8]) -> usize
     ensures { result ≤ length name.new }
 {
     let mut text = io::buffer();
-    let n = names::name(NAME, &mut text);
+    let n = names::name(rt, NAME, &mut text);
     disk_names::given(&text[..n], name)
 }
 
-fn scratch(disk: &mut [u8]) {
+fn scratch(rt: &HostRuntime, disk: &mut [u8]) {
     // One byte more than a name may have: what is cut off does not make it one.
     let mut name = [0u8; 17];
-    let length = given_name(&mut name);
+    let length = given_name(rt, &mut name);
     let changed = disk::scratch(disk, &name[..length]);
-    answer_changed(changed, disk);
+    answer_changed(rt, changed, disk);
 }
 
-fn read_into(file: &mut [u8], disk: &[u8], name: &[u8]) {
+fn read_into(rt: &HostRuntime, file: &mut [u8], disk: &[u8], name: &[u8]) {
     let outcome = disk::read(disk, name, file);
-    output::answer(outcome, file, b"");
+    output::answer(rt, outcome, file, b"");
 }
 
-fn read_named(disk: &[u8], name: &[u8]) {
+fn read_named(rt: &HostRuntime, disk: &[u8], name: &[u8]) {
     // No file is longer: 664 sectors of 254 bytes.
     let mut file = [0u8; 168_656];
-    read_into(&mut file, disk, name);
+    read_into(rt, &mut file, disk, name);
 }
 
-fn read(disk: &[u8]) {
+fn read(rt: &HostRuntime, disk: &[u8]) {
     let mut name = [0u8; 17];
-    let length = given_name(&mut name);
-    read_named(disk, &name[..length]);
+    let length = given_name(rt, &mut name);
+    read_named(rt, disk, &name[..length]);
 }
 
-fn show(disk: &[u8]) {
+fn show(rt: &HostRuntime, disk: &[u8]) {
     // No directory's text is longer: 144 lines of 69 bytes, and the last.
     let mut text = [0u8; 10_240];
     let outcome = disk_directory::put_directory(disk, &mut text);
-    output::answer(outcome, &text, b"");
+    output::answer(rt, outcome, &text, b"");
 }
 
 // So many files: one, or several.
@@ -101,55 +101,55 @@ fn put_check(out: &mut [u8], files: usize, free: usize) -> usize
     put_text(out, to, b" sectors free\n")
 }
 
-fn answer_check(files: usize, free: usize) {
+fn answer_check(rt: &HostRuntime, files: usize, free: usize) {
     let mut text = [0u8; 64];
     let end = put_check(&mut text, files, free);
-    output::answer(Outcome::Done(end), &text, b"");
+    output::answer(rt, Outcome::Done(end), &text, b"");
 }
 
-fn check(disk: &[u8]) {
+fn check(rt: &HostRuntime, disk: &[u8]) {
     match disk::check(disk) {
-        DiskCheck::Holds { files, free } => answer_check(files, free),
-        DiskCheck::Refused(refusal) => output::refuse(refusal, b""),
+        DiskCheck::Holds { files, free } => answer_check(rt, files, free),
+        DiskCheck::Refused(refusal) => output::refuse(rt, refusal, b""),
     }
 }
 
 // What changes no byte of the disk.
-fn look_at(command: &[u8], disk: &[u8]) {
-    if check::same(command, b"read") {
-        read(disk);
-    } else if check::same(command, b"dir") {
-        show(disk);
+fn look_at(rt: &HostRuntime, command: &[u8], disk: &[u8]) {
+    if command == b"read".as_slice() {
+        read(rt, disk);
+    } else if command == b"dir".as_slice() {
+        show(rt, disk);
     } else {
-        check(disk);
+        check(rt, disk);
     }
 }
 
-fn work(command: &[u8], disk: &mut [u8]) {
-    if check::same(command, b"save") {
-        save(disk);
-    } else if check::same(command, b"scratch") {
-        scratch(disk);
+fn work(rt: &HostRuntime, command: &[u8], disk: &mut [u8]) {
+    if command == b"save".as_slice() {
+        save(rt, disk);
+    } else if command == b"scratch".as_slice() {
+        scratch(rt, disk);
     } else {
-        look_at(command, disk);
+        look_at(rt, command, disk);
     }
 }
 
-fn read_and_work(command: &[u8]) {
+fn read_and_work(rt: &HostRuntime, command: &[u8]) {
     let mut disk = [0u8; 174_848];
-    match input::read_given(&mut disk) {
-        Input::All(count) => work(command, &mut disk[0..count]),
-        Input::Longer => output::refuse(Refusal::BadDisk, b""),
-        Input::Failed => output::fail(),
+    match input::read_given(rt, &mut disk) {
+        Input::All(count) => work(rt, command, &mut disk[0..count]),
+        Input::Longer => output::refuse(rt, Refusal::BadDisk, b""),
+        Input::Failed(_) => output::fail(rt),
     }
 }
 
-fn main() {
+fn main(rt: HostRuntime) {
     let mut command = io::buffer();
-    let n = names::name(COMMAND, &mut command);
-    if check::same(&command[..n], b"format") {
-        format();
+    let n = names::name(&rt, COMMAND, &mut command);
+    if &command[..n] == b"format".as_slice() {
+        format(&rt);
     } else {
-        read_and_work(&command[..n]);
+        read_and_work(&rt, &command[..n]);
     }
 }

@@ -1,17 +1,18 @@
 // Files onto a disk. Each word behind the command is FILE=NAME or FILE. Where one of them is refused, or cannot be read, nothing is written.
 use base_refusals::Refusal;
 use desk::{input, names, output, result};
+use desk_calls::words;
 use desk_inputs::Input;
 use disk_rules::Changed;
 
 const FILES: usize = names::WORDS + 1;
 
 // Whether a file was saved; where it was not, the program has ended.
-fn is_saved(file: &[u8], changed: Changed) -> bool {
+fn is_saved(rt: &HostRuntime, file: &[u8], changed: Changed) -> bool {
     match changed {
         Changed::Done => true,
         Changed::Refused(refusal) => {
-            output::refuse_for(file, refusal);
+            output::refuse_for(rt, file, refusal);
             false
         }
     }
@@ -25,33 +26,33 @@ fn of_cut(changed: Changed) -> Changed {
     }
 }
 
-fn save_file(disk: &mut [u8], file: &[u8], name: &[u8]) -> bool {
+fn save_file(rt: &HostRuntime, disk: &mut [u8], file: &[u8], name: &[u8]) -> bool {
     // One byte more than 664 sectors hold: a longer file is refused as its beginning is.
     let mut image = [0u8; 168_657];
-    match input::read_file(file, &mut image) {
-        Input::All(count) => is_saved(file, disk::save(disk, name, &image[0..count])),
-        Input::Longer => is_saved(file, of_cut(disk::save(disk, name, &image))),
-        Input::Failed => {
-            output::fail();
+    match input::read_file(rt, file, &mut image) {
+        Input::All(count) => is_saved(rt, file, disk::save(disk, name, &image[0..count])),
+        Input::Longer => is_saved(rt, file, of_cut(disk::save(disk, name, &image))),
+        Input::Failed(_) => {
+            output::fail(rt);
             false
         }
     }
 }
 
-fn save_word(disk: &mut [u8], argument: usize) -> bool {
+fn save_word(rt: &HostRuntime, disk: &mut [u8], argument: usize) -> bool {
     let mut word = io::buffer();
-    let n = names::name(argument, &mut word);
+    let n = names::name(rt, argument, &mut word);
     // One byte more than a name may have: what is cut off does not make it one.
     let mut name = [0u8; 17];
     let length = disk_names::given(disk_names::text_of(&word[..n]), &mut name);
-    save_file(disk, disk_names::file_of(&word[..n]), &name[..length])
+    save_file(rt, disk, disk_names::file_of(&word[..n]), &name[..length])
 }
 
-fn save_words(disk: &mut [u8]) -> bool {
-    let count = os::arg_count();
+fn save_words(rt: &HostRuntime, disk: &mut [u8]) -> bool {
+    let count = words::count(rt);
     let mut i = FILES;
     while i < count {
-        if !save_word(disk, i) {
+        if !save_word(rt, disk, i) {
             return false;
         }
         i += 1;
@@ -60,12 +61,15 @@ fn save_words(disk: &mut [u8]) -> bool {
 }
 
 // Saves all files on the disk, and writes it, as a new one or in its own place.
-pub fn save_files(disk: &mut [u8], is_new: bool) {
-    if save_words(disk) {
-        output::done(if is_new {
-            result::write_new(disk)
-        } else {
-            result::write_whole(disk)
-        });
+pub fn save_files(rt: &HostRuntime, disk: &mut [u8], is_new: bool) {
+    if save_words(rt, disk) {
+        output::done(
+            rt,
+            if is_new {
+                result::write_new(rt, disk)
+            } else {
+                result::write_whole(rt, disk)
+            },
+        );
     }
 }

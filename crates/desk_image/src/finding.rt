@@ -2,11 +2,11 @@
 ghost use Rattle.std.specs.Prelude.{◌≤◌, length};
 
 use base_lent::Outcome;
-use desk::{names, output, saying};
+use desk::result::Target;
+use desk::{names, output, result, saying};
 use desk_status::Status;
 use image_find::Sought;
 use image_readers::{By, Line};
-use libc::STDOUT_FILENO;
 use list_options::ListOptions;
 use word_dialects::Dialect;
 
@@ -20,14 +20,14 @@ fn as_linked() -> ListOptions {
 }
 
 // Writes the row of a line, and its listing.
-fn write_found(row: &[u8], image: &[u8], line: Line) -> bool {
-    if !io::write_all(STDOUT_FILENO, row) {
-        os::fail(b"standard output");
+fn write_found(rt: &HostRuntime, row: &[u8], image: &[u8], line: Line) -> bool {
+    if !result::write_output(rt, row) {
         return false;
     }
     let mut out = [0u8; 8192];
     desk_lines::write_line(
-        STDOUT_FILENO,
+        rt,
+        &Target::Output,
         b"",
         line.number,
         image_find::body(image, line),
@@ -36,50 +36,50 @@ fn write_found(row: &[u8], image: &[u8], line: Line) -> bool {
     )
 }
 
-fn show_found(image: &[u8], line: Line, visited: usize) {
+fn show_found(rt: &HostRuntime, image: &[u8], line: Line, visited: usize) {
     let mut row = [0u8; 128];
     match image_rows::lend_found(line, visited, &mut row) {
-        Outcome::Done(n) => output::done(write_found(&row[0..n], image, line)),
-        Outcome::Refused(refusal) => output::refuse(refusal, b""),
+        Outcome::Done(n) => output::done(rt, write_found(rt, &row[0..n], image, line)),
+        Outcome::Refused(refusal) => output::refuse(rt, refusal, b""),
     }
 }
 
 // Says on standard error that no line has the number.
-fn tell_missing(name: &[u8], number: u16, visited: usize) -> bool
+fn tell_missing(rt: &HostRuntime, name: &[u8], number: u16, visited: usize) -> bool
     requires { length name.now ≤ 4352 }
 {
     let mut row = [0u8; 4608];
     match image_rows::lend_missing(name, number, visited, &mut row) {
-        Outcome::Done(n) => saying::tell(&row[0..n]),
-        Outcome::Refused(refusal) => output::tell(name, refusal),
+        Outcome::Done(n) => saying::tell(rt, &row[0..n]),
+        Outcome::Refused(refusal) => output::tell(rt, name, refusal),
     }
 }
 
 // The same of what was read.
-fn tell_given(number: u16, visited: usize) -> bool {
-    if !names::is_file(names::IN) {
-        return tell_missing(b"standard input", number, visited);
+fn tell_given(rt: &HostRuntime, number: u16, visited: usize) -> bool {
+    if !names::is_file(rt, names::IN) {
+        return tell_missing(rt, b"standard input", number, visited);
     }
     let mut name = io::buffer();
-    let n = names::name(names::IN, &mut name);
-    tell_missing(&name[..n], number, visited)
+    let n = names::name(rt, names::IN, &mut name);
+    tell_missing(rt, &name[..n], number, visited)
 }
 
 // Ends the program where no line has the number.
-fn miss(number: u16, visited: usize) {
-    if tell_given(number, visited) {
+fn miss(rt: &HostRuntime, number: u16, visited: usize) {
+    if tell_given(rt, number, visited) {
         desk_status::tell(Status::Refused);
     } else {
-        output::fail();
+        output::fail(rt);
     }
 }
 
-pub fn find(image: &[u8], number: u16) {
+pub fn find(rt: &HostRuntime, image: &[u8], number: u16) {
     // No image has as many lines as bytes: the limit is not reached.
     match image_find::find_line(image, number, image.len()) {
-        Sought::Found { visited, line } => show_found(image, line, visited),
-        Sought::Nowhere { visited } => miss(number, visited),
-        Sought::LimitReached => output::fail(),
-        Sought::Refused(refusal) => output::refuse(refusal, b""),
+        Sought::Found { visited, line } => show_found(rt, image, line, visited),
+        Sought::Nowhere { visited } => miss(rt, number, visited),
+        Sought::LimitReached => output::fail(rt),
+        Sought::Refused(refusal) => output::refuse(rt, refusal, b""),
     }
 }

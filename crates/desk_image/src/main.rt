@@ -31,66 +31,66 @@ pub enum Look {
     Jumps,
 }
 
-fn write_index_in(index: &mut [u8], image: &[u8]) {
+fn write_index_in(rt: &HostRuntime, index: &mut [u8], image: &[u8]) {
     let outcome = image_index::write_index(image, index);
-    output::answer(outcome, index, b"");
+    output::answer(rt, outcome, index, b"");
 }
 
-fn write_index(image: &[u8]) {
+fn write_index(rt: &HostRuntime, image: &[u8]) {
     // No image of 65,536 bytes has a longer one: a line takes five bytes there and four here, a jump two there and less than four here.
     let mut index = [0u8; 131_072];
-    write_index_in(&mut index, image);
+    write_index_in(rt, &mut index, image);
 }
 
-fn look_at(image: &[u8], look: Look) {
+fn look_at(rt: &HostRuntime, image: &[u8], look: Look) {
     match look {
-        Look::Line(number) => finding::find(image, number),
-        Look::Places(by) => places::show_image(image, by),
-        Look::Index => write_index(image),
-        Look::Jumps => references::show(image),
+        Look::Line(number) => finding::find(rt, image, number),
+        Look::Places(by) => places::show_image(rt, image, by),
+        Look::Index => write_index(rt, image),
+        Look::Jumps => references::show(rt, image),
     }
 }
 
-fn look_at_given(look: Look) {
+fn look_at_given(rt: &HostRuntime, look: Look) {
     let mut image = [0u8; 65_536];
-    match input::read_given(&mut image) {
-        Input::All(count) => look_at(&image[0..count], look),
-        Input::Longer => output::refuse(Refusal::ImageTooLong { length: 65_537 }, b""),
-        Input::Failed => output::fail(),
+    match input::read_given(rt, &mut image) {
+        Input::All(count) => look_at(rt, &image[0..count], look),
+        Input::Longer => output::refuse(rt, Refusal::ImageTooLong { length: 65_537 }, b""),
+        Input::Failed(_) => output::fail(rt),
     }
 }
 
-fn find_given() {
-    match options::number(NUMBER) {
-        AskedNumber::Known(number) => look_at_given(Look::Line(number)),
+fn find_given(rt: &HostRuntime) {
+    match options::number(rt, NUMBER) {
+        AskedNumber::Known(number) => look_at_given(rt, Look::Line(number)),
         AskedNumber::Ended => {}
     }
 }
 
-fn show_places() {
-    if options::is_set(TEXT) {
-        places::show_given_text();
-    } else if options::is_set(LINKS) {
-        look_at_given(Look::Places(By::Links));
+fn show_places(rt: &HostRuntime) {
+    if options::is_set(rt, TEXT) {
+        places::show_given_text(rt);
+    } else if options::is_set(rt, LINKS) {
+        look_at_given(rt, Look::Places(By::Links));
     } else {
-        look_at_given(Look::Places(By::Terminators));
+        look_at_given(rt, Look::Places(By::Terminators));
     }
 }
 
-fn work(command: &[u8]) {
-    if check::same(command, b"find") {
-        find_given();
-    } else if check::same(command, b"where") {
-        show_places();
-    } else if check::same(command, b"index") {
-        look_at_given(Look::Index);
+fn work(rt: &HostRuntime, command: &[u8]) {
+    if command == b"find".as_slice() {
+        find_given(rt);
+    } else if command == b"where".as_slice() {
+        show_places(rt);
+    } else if command == b"index".as_slice() {
+        look_at_given(rt, Look::Index);
     } else {
-        look_at_given(Look::Jumps);
+        look_at_given(rt, Look::Jumps);
     }
 }
 
-fn main() {
+fn main(rt: HostRuntime) {
     let mut command = io::buffer();
-    let n = names::name(COMMAND, &mut command);
-    work(&command[..n]);
+    let n = names::name(&rt, COMMAND, &mut command);
+    work(&rt, &command[..n]);
 }

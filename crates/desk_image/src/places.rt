@@ -15,62 +15,65 @@ const DIALECT: usize = names::WORDS + 3;
 
 const LOAD: usize = names::WORDS + 4;
 
-fn show_rows(rows: &mut [u8], image: &[u8], by: By, lines: &[usize]) {
+fn show_rows(rt: &HostRuntime, rows: &mut [u8], image: &[u8], by: By, lines: &[usize]) {
     let outcome = places::lend_places(image, by, lines, rows);
-    output::answer(outcome, rows, b"");
+    output::answer(rt, outcome, rows, b"");
 }
 
-fn show_lines(image: &[u8], by: By, lines: &[usize]) {
+fn show_lines(rt: &HostRuntime, image: &[u8], by: By, lines: &[usize]) {
     // An image of 65,536 bytes has at most 13,107 lines, and no row has more than 20 bytes.
     let mut rows = [0u8; 262_144];
-    show_rows(&mut rows, image, by, lines);
+    show_rows(rt, &mut rows, image, by, lines);
 }
 
-pub fn show_image(image: &[u8], by: By) {
+pub fn show_image(rt: &HostRuntime, image: &[u8], by: By) {
     let lines = [0usize; 1];
-    show_lines(image, by, &lines[..0]);
+    show_lines(rt, image, by, &lines[..0]);
 }
 
-fn show_origins(text: &[u8], image: &[u8]) {
+fn show_origins(rt: &HostRuntime, text: &[u8], image: &[u8]) {
     let mut lines = [0usize; 13_107];
     let count = crunch_origins::origins(text, &mut lines);
-    show_lines(image, By::Links, &lines[..count]);
+    show_lines(rt, image, By::Links, &lines[..count]);
 }
 
-fn show_text(text: &[u8], options: Options)
+fn show_text(rt: &HostRuntime, text: &[u8], options: Options)
     requires { length text.now ≤ 1048576 }
 {
     let mut image = [0u8; 65_536];
     match crunch_image::crunch(text, options, &mut image) {
-        Outcome::Done(n) => show_origins(text, &image[0..n]),
-        Outcome::Refused(refusal) => output::refuse(refusal, text),
+        Outcome::Done(n) => show_origins(rt, text, &image[0..n]),
+        Outcome::Refused(refusal) => output::refuse(rt, refusal, text),
     }
 }
 
-fn show_under(options: Options) {
+fn show_under(rt: &HostRuntime, options: Options) {
     let mut text = [0u8; 65_536];
-    match input::read_given(&mut text) {
-        Input::All(count) => show_text(&text[0..count], options),
-        Input::Longer => output::refuse(Refusal::TextTooLong { length: 65_537 }, b""),
-        Input::Failed => output::fail(),
+    match input::read_given(rt, &mut text) {
+        Input::All(count) => show_text(rt, &text[0..count], options),
+        Input::Longer => output::refuse(rt, Refusal::TextTooLong { length: 65_537 }, b""),
+        Input::Failed(_) => output::fail(rt),
     }
 }
 
-fn show_in(dialect: Dialect) {
-    match options::load(LOAD, dialect) {
-        AskedNumber::Known(load) => show_under(Options {
-            load,
-            dialect,
-            profile: false,
-            forms: false,
-        }),
+fn show_in(rt: &HostRuntime, dialect: Dialect) {
+    match options::load(rt, LOAD, dialect) {
+        AskedNumber::Known(load) => show_under(
+            rt,
+            Options {
+                load,
+                dialect,
+                profile: false,
+                forms: false,
+            },
+        ),
         AskedNumber::Ended => {}
     }
 }
 
-pub fn show_given_text() {
-    match options::dialect(DIALECT) {
-        AskedDialect::Known(dialect) => show_in(dialect),
+pub fn show_given_text(rt: &HostRuntime) {
+    match options::dialect(rt, DIALECT) {
+        AskedDialect::Known(dialect) => show_in(rt, dialect),
         AskedDialect::Ended => {}
     }
 }

@@ -12,7 +12,7 @@ use Rattle.desk_inputs.specs.declared.Input.TheVariants.{All, Longer, Failed}
 abbrev pub LeavesSome : Part → ℕ → Type 0
 LeavesSome Whole size = Unit {0}
 LeavesSome (Cut count) size = count < size
-LeavesSome PartFailed size = Unit {0}
+LeavesSome (PartFailed why) size = Unit {0}
 
 pub record PartWithin (r : Part) (buf : List ℕ) : Type 0 where
   pub short : LeavesSome r (length buf)
@@ -21,7 +21,7 @@ pub record PartWithin (r : Part) (buf : List ℕ) : Type 0 where
 abbrev pub input_count : Input → ℕ
 input_count (All count) = count
 input_count Longer = 0
-input_count Failed = 0
+input_count (Failed why) = 0
 
 pub record InputWithin (r : Input) (buf : List ℕ) : Type 0 where
   pub counts : IsPrefixLen (input_count r) buf

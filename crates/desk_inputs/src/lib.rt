@@ -5,13 +5,16 @@
 ghost use Rattle.std.specs.Prelude.{◌≤◌};
 ghost use Rattle.desk_inputs.specs.CountedHelpers.{PartWithin, InputWithin, input_count};
 
+use std::io::{Error, Read};
+
 // What filling a buffer came to.
 #[derive(Clone, Copy)]
 pub enum Part {
     Whole,
     // The input ended behind this many bytes, fewer than the buffer has.
     Cut(usize),
-    Failed,
+    // Why it could not be read.
+    Failed(Error),
 }
 
 // What reading a whole input came to.
@@ -21,47 +24,48 @@ pub enum Input {
     All(usize),
     // The buffer is full, and the input goes on. One byte of what follows has been read, and is lost.
     Longer,
-    Failed,
+    // Why it could not be read.
+    Failed(Error),
 }
 
 // Fills buf. For an empty buffer nothing is read.
-pub fn read_part(fd: i32, buf: &mut [u8]) -> Part
+pub fn read_part<R: Read>(from: &mut R, buf: &mut [u8]) -> Part
     ensures { PartWithin result buf.new }
 {
     let mut done: usize = 0;
     while done < buf.len() {
-        let got = libc::read(fd, &mut buf[done..]);
-        if got < 0 {
-            return Part::Failed;
+        match from.read(&mut buf[done..]) {
+            Ok(more) => {
+                if more == 0 {
+                    return Part::Cut(done);
+                }
+                done += more;
+            }
+            Err(why) => return Part::Failed(why),
         }
-        let more = io::count(got, &buf[done..]);
-        if more == 0 {
-            return Part::Cut(done);
-        }
-        done += more;
     }
     Part::Whole
 }
 
 // Reads up to the end of the input.
-pub fn read_input(fd: i32, buf: &mut [u8]) -> Input
+pub fn read_input<R: Read>(from: &mut R, buf: &mut [u8]) -> Input
     ensures { InputWithin result buf.new }
 {
-    match read_part(fd, buf) {
-        Part::Whole => ending(fd, buf.len()),
+    match read_part(from, buf) {
+        Part::Whole => ending(from, buf.len()),
         Part::Cut(count) => Input::All(count),
-        Part::Failed => Input::Failed,
+        Part::Failed(why) => Input::Failed(why),
     }
 }
 
 // A full buffer of count bytes holds the whole input if nothing follows.
-fn ending(fd: i32, count: usize) -> Input
+fn ending<R: Read>(from: &mut R, count: usize) -> Input
     ensures { input_count result ≤ count }
 {
     let mut spare = [0u8; 1];
-    match read_part(fd, &mut spare) {
+    match read_part(from, &mut spare) {
         Part::Whole => Input::Longer,
         Part::Cut(_) => Input::All(count),
-        Part::Failed => Input::Failed,
+        Part::Failed(why) => Input::Failed(why),
     }
 }

@@ -4,6 +4,7 @@
 
 ghost use Rattle.std.specs.Prelude.{◌≤◌, length};
 
+use desk::result::Target;
 use desk::{names, options, result};
 use image_readers::{By, Step};
 use list_options::ListOptions;
@@ -18,29 +19,30 @@ const REMARKS: usize = names::WORDS + 1;
 const LINKS: usize = names::WORDS + 2;
 
 // What the flags ask for; without any, what the original lists.
-pub fn asked(dialect: Dialect) -> ListOptions {
-    let by = if options::is_set(LINKS) {
+pub fn asked(rt: &HostRuntime, dialect: Dialect) -> ListOptions {
+    let by = if options::is_set(rt, LINKS) {
         By::Links
     } else {
         By::Terminators
     };
     ListOptions {
         dialect,
-        remarks: options::is_set(REMARKS),
+        remarks: options::is_set(rt, REMARKS),
         by,
     }
 }
 
 // Writes the first bytes of a buffer.
-fn write_first(fd: i32, name: &[u8], buf: &[u8], count: usize) -> bool
+fn write_first(rt: &HostRuntime, target: &Target, name: &[u8], buf: &[u8], count: usize) -> bool
     requires { count ≤ length buf.now }
 {
-    result::write(fd, name, &buf[0..count])
+    result::write(rt, target, name, &buf[0..count])
 }
 
 // Writes a line, one stretch after the other. Each brings the line nearer to its end, since a buffer of nine bytes holds every piece.
 pub fn write_line(
-    fd: i32,
+    rt: &HostRuntime,
+    target: &Target,
     name: &[u8],
     number: u16,
     body: &[u8],
@@ -53,7 +55,7 @@ pub fn write_line(
     loop {
         let taken = list_stretches::list_stretch(body, options, place, out);
         let count = taken.length;
-        if !write_first(fd, name, out, count) {
+        if !write_first(rt, target, name, out, count) {
             return false;
         }
         place = taken.place;
@@ -64,7 +66,14 @@ pub fn write_line(
 }
 
 // Writes the lines of an image that has a listing.
-pub fn write_lines(fd: i32, name: &[u8], image: &[u8], options: ListOptions, out: &mut [u8]) -> bool
+pub fn write_lines(
+    rt: &HostRuntime,
+    target: &Target,
+    name: &[u8],
+    image: &[u8],
+    options: ListOptions,
+    out: &mut [u8],
+) -> bool
     requires { 9 ≤ length out.old }
 {
     let by = options.by;
@@ -74,7 +83,15 @@ pub fn write_lines(fd: i32, name: &[u8], image: &[u8], options: ListOptions, out
             Step::Found(line) => {
                 let from = line.from;
                 let to = line.to;
-                if !write_line(fd, name, line.number, &image[from..to], options, out) {
+                if !write_line(
+                    rt,
+                    target,
+                    name,
+                    line.number,
+                    &image[from..to],
+                    options,
+                    out,
+                ) {
                     return false;
                 }
                 offset = line.next;

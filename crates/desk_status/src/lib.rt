@@ -43,6 +43,7 @@ pub fn is_done(status: Status) -> bool
 }
 
 // The worse of two, which is what both together come to.
+#[tactic(auto, using(crate::proofs::Laws::worst_second, crate::proofs::Laws::worst_first))]
 pub fn worse(first: Status, second: Status) -> Status
     ensures { result ≡ worst first second }
 {
@@ -61,6 +62,7 @@ pub fn written(done: bool, status: Status) -> Status
 }
 
 // Tells the status. Where that fails, it is missing, which ./moldthatch tells apart.
+#[tactic(auto, using(crate::proofs::Laws::number_small))]
 pub fn tell(status: Status) {
     io::write_all(STATUS_FILENO, &[b'0' + number(status)]);
 }

@@ -11,7 +11,6 @@ use editor_findings::deciding::Decided;
 use guess::resolve;
 use guess::resolve::Resolved;
 use guess_evidence::DecidingWord;
-use libc::STDOUT_FILENO;
 use text_domain::TextCheck;
 use text_lines::LineRule;
 use text_numbers::Numbering;
@@ -34,15 +33,23 @@ pub struct Lined {
 }
 
 // A number alone.
-fn check_height(tally: Tally, page: &mut [u8], k: usize, number: u16, digits: &[u8]) -> Tally {
+fn check_height(
+    rt: &HostRuntime,
+    tally: Tally,
+    page: &mut [u8],
+    k: usize,
+    number: u16,
+    digits: &[u8],
+) -> Tally {
     if image_limits::is_too_high(image_limits::commodore_64(), number) {
-        return sentence::tell_line(tally, page, k, sayings::TOO_HIGH, digits);
+        return sentence::tell_line(rt, tally, page, k, sayings::TOO_HIGH, digits);
     }
     tally
 }
 
 // A number behind the one before it.
 fn check_order(
+    rt: &HostRuntime,
     tally: Tally,
     page: &mut [u8],
     k: usize,
@@ -54,43 +61,64 @@ fn check_order(
         Last::First => tally,
         Last::Number(before) => {
             if image_limits::is_not_ascending(before as usize + 1, number) {
-                return sentence::tell_line(tally, page, k, sayings::NOT_ABOVE, digits);
+                return sentence::tell_line(rt, tally, page, k, sayings::NOT_ABOVE, digits);
             }
             tally
         }
     }
 }
 
-fn check_number(tally: Tally, page: &mut [u8], k: usize, number: u16, last: Last) -> Tally {
+fn check_number(
+    rt: &HostRuntime,
+    tally: Tally,
+    page: &mut [u8],
+    k: usize,
+    number: u16,
+    last: Last,
+) -> Tally {
     let mut digits = [0u8; 20];
     let n = io::decimal(number as u64, &mut digits);
-    let t = check_height(tally, page, k, number, &digits[..n]);
-    check_order(t, page, k, number, last, &digits[..n])
+    let t = check_height(rt, tally, page, k, number, &digits[..n]);
+    check_order(rt, t, page, k, number, last, &digits[..n])
 }
 
 // The length of a body once it is crunched, and its steps.
-fn check_body(tally: Tally, page: &mut [u8], from: Place, body: &[u8], sets: Sets) -> Tally {
+fn check_body(
+    rt: &HostRuntime,
+    tally: Tally,
+    page: &mut [u8],
+    from: Place,
+    body: &[u8],
+    sets: Sets,
+) -> Tally {
     if image_limits::is_bad_length(
         image_limits::commodore_64(),
         deciding::body_length(body, sets),
     ) {
-        let t = sentence::tell_line(tally, page, from.line, sayings::BAD_LENGTH, b"");
-        return steps::check_steps(t, page, from, body, sets);
+        let t = sentence::tell_line(rt, tally, page, from.line, sayings::BAD_LENGTH, b"");
+        return steps::check_steps(rt, t, page, from, body, sets);
     }
-    steps::check_steps(tally, page, from, body, sets)
+    steps::check_steps(rt, tally, page, from, body, sets)
 }
 
-fn check_line(found: Lined, page: &mut [u8], k: usize, line: &[u8], sets: Sets) -> Lined {
+fn check_line(
+    rt: &HostRuntime,
+    found: Lined,
+    page: &mut [u8],
+    k: usize,
+    line: &[u8],
+    sets: Sets,
+) -> Lined {
     let tally = found.tally;
     let last = found.last;
     match text_numbers::number_line(line) {
         Numbering::Blank => found,
         Numbering::Missing => Lined {
-            tally: sentence::tell_line(tally, page, k, sayings::NO_NUMBER, b""),
+            tally: sentence::tell_line(rt, tally, page, k, sayings::NO_NUMBER, b""),
             last,
         },
         Numbering::OutOfRange { value: _ } => Lined {
-            tally: sentence::tell_line(tally, page, k, sayings::OUT_OF_RANGE, b""),
+            tally: sentence::tell_line(rt, tally, page, k, sayings::OUT_OF_RANGE, b""),
             last,
         },
         Numbering::Numbered {
@@ -98,21 +126,21 @@ fn check_line(found: Lined, page: &mut [u8], k: usize, line: &[u8], sets: Sets) 
             body_from,
             body_to,
         } => {
-            let t = check_number(tally, page, k, number, last);
+            let t = check_number(rt, tally, page, k, number, last);
             let from = Place {
                 line: k,
                 column: sayings::sum(body_from, 1),
             };
             let body = sayings::cut(line, body_from, body_to);
             Lined {
-                tally: check_body(t, page, from, body, sets),
+                tally: check_body(rt, t, page, from, body, sets),
                 last: Last::Number(number),
             }
         }
     }
 }
 
-fn check_lines(tally: Tally, page: &mut [u8], text: &[u8], sets: Sets) -> Tally {
+fn check_lines(rt: &HostRuntime, tally: Tally, page: &mut [u8], text: &[u8], sets: Sets) -> Tally {
     let mut found = Lined {
         tally,
         last: Last::First,
@@ -122,7 +150,7 @@ fn check_lines(tally: Tally, page: &mut [u8], text: &[u8], sets: Sets) -> Tally 
     while at < text.len() {
         let line = text_lines::next_line(text, at, LineRule::AfterCr);
         k = sayings::sum(k, 1);
-        found = check_line(found, page, k, sayings::cut(text, at, line.end), sets);
+        found = check_line(rt, found, page, k, sayings::cut(text, at, line.end), sets);
         at = line.next;
     }
     let t = found.tally;
@@ -130,14 +158,14 @@ fn check_lines(tally: Tally, page: &mut [u8], text: &[u8], sets: Sets) -> Tally 
 }
 
 // Each line of a text that has bytes that no text may hold.
-fn check_strange(tally: Tally, page: &mut [u8], text: &[u8]) -> Tally {
+fn check_strange(rt: &HostRuntime, tally: Tally, page: &mut [u8], text: &[u8]) -> Tally {
     let mut t = tally;
     let mut at: usize = 0;
     let mut k: usize = 0;
     while at < text.len() {
         let line = text_lines::next_line(text, at, LineRule::AfterCr);
         k = sayings::sum(k, 1);
-        t = strange::check_line(t, page, k, sayings::cut(text, at, line.end));
+        t = strange::check_line(rt, t, page, k, sayings::cut(text, at, line.end));
         at = line.next;
     }
     t
@@ -168,10 +196,10 @@ fn room_fault(text: &[u8]) -> usize {
 }
 
 // Whether the machine has room for the program.
-fn check_room(tally: Tally, page: &mut [u8], text: &[u8]) -> Tally {
+fn check_room(rt: &HostRuntime, tally: Tally, page: &mut [u8], text: &[u8]) -> Tally {
     let fault = room_fault(text);
     if fault < sayings::REMARKS {
-        return sentence::tell_line(tally, page, 1, fault, b"");
+        return sentence::tell_line(rt, tally, page, 1, fault, b"");
     }
     tally
 }
@@ -192,7 +220,7 @@ fn line_start(text: &[u8], number: usize) -> usize {
 }
 
 // Says that a line decides for TSB, and by which word.
-fn close_by(tally: Tally, page: &mut [u8], k: usize, line: &[u8]) -> Tally {
+fn close_by(rt: &HostRuntime, tally: Tally, page: &mut [u8], k: usize, line: &[u8]) -> Tally {
     let from = match guess_evidence::deciding_word(line) {
         DecidingWord::Decides { offset, word: _ } => offset,
         DecidingWord::NoneDecides => 0,
@@ -203,33 +231,33 @@ fn close_by(tally: Tally, page: &mut [u8], k: usize, line: &[u8]) -> Tally {
         column: sayings::sum(from, 1),
     };
     let word = sayings::cut(rest, 0, deciding::tsb_length(rest));
-    sentence::close_by(tally, page, place, word)
+    sentence::close_by(rt, tally, page, place, word)
 }
 
 // The same of the line with this number.
-fn close_line(tally: Tally, page: &mut [u8], k: usize, text: &[u8]) -> Tally {
+fn close_line(rt: &HostRuntime, tally: Tally, page: &mut [u8], k: usize, text: &[u8]) -> Tally {
     let at = line_start(text, k);
     if at >= text.len() {
-        return close_by(tally, page, k, b"");
+        return close_by(rt, tally, page, k, b"");
     }
     let line = text_lines::next_line(text, at, LineRule::AsGiven);
-    close_by(tally, page, k, sayings::cut(text, at, line.end))
+    close_by(rt, tally, page, k, sayings::cut(text, at, line.end))
 }
 
 // The dialect, and what decides it.
-fn close(tally: Tally, page: &mut [u8], text: &[u8]) -> Tally {
+fn close(rt: &HostRuntime, tally: Tally, page: &mut [u8], text: &[u8]) -> Tally {
     if tally.quiet {
         return tally;
     }
     match deciding::deciding_line(text, LineRule::AsGiven) {
-        Decided::ByLine(k) => close_line(tally, page, k, text),
-        Decided::ByNone => sentence::close(tally, page, sayings::BY_NONE, b""),
+        Decided::ByLine(k) => close_line(rt, tally, page, k, text),
+        Decided::ByNone => sentence::close(rt, tally, page, sayings::BY_NONE, b""),
     }
 }
 
 // What a text comes to, once all of it is told.
-fn end(tally: Tally, page: &[u8]) -> Status {
-    let told = sentence::flush(tally, page);
+fn end(rt: &HostRuntime, tally: Tally, page: &[u8]) -> Status {
+    let told = sentence::flush(rt, tally, page);
     let found = if told.faulty {
         Status::Refused
     } else {
@@ -239,36 +267,36 @@ fn end(tally: Tally, page: &[u8]) -> Status {
 }
 
 // A text that crunching refuses for its length or its bytes: each of these is told, and of a text in UTF-16 only that it is one.
-fn tell_refused(tally: Tally, page: &mut [u8], text: &[u8]) -> Tally {
+fn tell_refused(rt: &HostRuntime, tally: Tally, page: &mut [u8], text: &[u8]) -> Tally {
     if text.len() > 1048576 {
-        return sentence::tell_line(tally, page, 1, sayings::TOO_LONG, b"");
+        return sentence::tell_line(rt, tally, page, 1, sayings::TOO_LONG, b"");
     }
     if editor_strange_bytes::is_utf16(text) {
-        return sentence::tell_line(tally, page, 1, sayings::UTF16, b"");
+        return sentence::tell_line(rt, tally, page, 1, sayings::UTF16, b"");
     }
-    check_strange(tally, page, text)
+    check_strange(rt, tally, page, text)
 }
 
 // Checks a text under the name with which the page begins.
-fn check_under(start: Tally, page: &mut [u8], text: &[u8]) -> Status {
+fn check_under(rt: &HostRuntime, start: Tally, page: &mut [u8], text: &[u8]) -> Status {
     match text_domain::check_text(text) {
         TextCheck::Fine => {
-            let lines = check_lines(start, page, text, deciding::words_of(text));
-            let fits = check_room(lines, page, text);
-            let rest = sentence::tell_rest(fits, page);
-            let last = close(rest, page, text);
-            end(last, page)
+            let lines = check_lines(rt, start, page, text, deciding::words_of(text));
+            let fits = check_room(rt, lines, page, text);
+            let rest = sentence::tell_rest(rt, fits, page);
+            let last = close(rt, rest, page, text);
+            end(rt, last, page)
         }
         TextCheck::Refused(_) => {
-            let told = tell_refused(start, page, text);
-            let rest = sentence::tell_rest(told, page);
-            end(rest, page)
+            let told = tell_refused(rt, start, page, text);
+            let rest = sentence::tell_rest(rt, told, page);
+            end(rt, rest, page)
         }
     }
 }
 
 // Checks a text, and tells what it finds unless it is to be quiet.
-pub fn check_text(name: &[u8], text: &[u8], quiet: bool) -> Status {
+pub fn check_text(rt: &HostRuntime, name: &[u8], text: &[u8], quiet: bool) -> Status {
     let mut page = io::large_buffer();
     let n = sayings::add(&mut page, 0, name);
     let kinds = [0usize; 23];
@@ -280,27 +308,27 @@ pub fn check_text(name: &[u8], text: &[u8], quiet: bool) -> Status {
         end: n,
         kinds,
     };
-    check_under(start, &mut page, text)
+    check_under(rt, start, &mut page, text)
 }
 
 // Writes the name of a dialect.
-fn named(word: &[u8]) -> Status {
-    let told = result::write_to(STDOUT_FILENO, b"standard output", word);
+fn named(rt: &HostRuntime, word: &[u8]) -> Status {
+    let told = result::write_output(rt, word);
     desk_status::written(told, Status::Done)
 }
 
 // Writes the dialect that Auto is for a text.
-pub fn tell_dialect(name: &[u8], text: &[u8]) -> Status {
+pub fn tell_dialect(rt: &HostRuntime, name: &[u8], text: &[u8]) -> Status {
     match resolve::resolved_dialect(text, Dialect::Auto) {
         Resolved::Is(dialect) => match dialect {
-            Dialect::Auto => named(b"auto\n"),
-            Dialect::BasicV2 => named(b"basicv2\n"),
-            Dialect::Tsb => named(b"tsb\n"),
-            Dialect::Basic35 => named(b"basic35\n"),
+            Dialect::Auto => named(rt, b"auto\n"),
+            Dialect::BasicV2 => named(rt, b"basicv2\n"),
+            Dialect::Tsb => named(rt, b"tsb\n"),
+            Dialect::Basic35 => named(rt, b"basic35\n"),
         },
         Resolved::Refused(refusal) => {
-            let told = sentence::refuse(name, refusal);
-            let is_numbered = output::put_number(refusal);
+            let told = sentence::refuse(rt, name, refusal);
+            let is_numbered = output::put_number(rt, refusal);
             desk_status::written(told && is_numbered, Status::Refused)
         }
     }

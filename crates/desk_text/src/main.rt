@@ -9,13 +9,14 @@ mod steps;
 mod strange;
 
 use desk::input;
+use desk_calls::words;
 use desk_inputs::Input;
 use desk_status::Status;
 
 // The letter that says what is to be done.
-fn letter() -> u8 {
+fn letter(rt: &HostRuntime) -> u8 {
     let mut word = io::buffer();
-    let n = os::arg(1, &mut word);
+    let n = words::word(rt, 1, &mut word);
     if n == 1 {
         return word[0];
     }
@@ -23,56 +24,56 @@ fn letter() -> u8 {
 }
 
 // What is to be done with a text.
-fn done_with(letter: u8, name: &[u8], text: &[u8]) -> Status {
+fn done_with(rt: &HostRuntime, letter: u8, name: &[u8], text: &[u8]) -> Status {
     if letter == b'd' {
-        return checks::tell_dialect(name, text);
+        return checks::tell_dialect(rt, name, text);
     }
-    checks::check_text(name, text, letter == b'q')
+    checks::check_text(rt, name, text, letter == b'q')
 }
 
 // Takes what was read: a text, or as much of it as the buffer holds, which is refused as too long.
-fn take_input(letter: u8, name: &[u8], input: Input, text: &[u8]) -> Status {
+fn take_input(rt: &HostRuntime, letter: u8, name: &[u8], input: Input, text: &[u8]) -> Status {
     match input {
-        Input::All(count) => done_with(letter, name, sayings::cut(text, 0, count)),
-        Input::Longer => done_with(letter, name, text),
-        Input::Failed => Status::Failed,
+        Input::All(count) => done_with(rt, letter, name, sayings::cut(text, 0, count)),
+        Input::Longer => done_with(rt, letter, name, text),
+        Input::Failed(_) => Status::Failed,
     }
 }
 
 // Takes the text in a file, or on standard input for -.
-fn take_named(letter: u8, name: &[u8], text: &mut [u8]) -> Status {
+fn take_named(rt: &HostRuntime, letter: u8, name: &[u8], text: &mut [u8]) -> Status {
     if name.len() == 1 && name[0] == b'-' {
-        let input = input::read_standard(text);
-        return take_input(letter, b"standard input", input, text);
+        let input = input::read_standard(rt, text);
+        return take_input(rt, letter, b"standard input", input, text);
     }
-    let input = input::read_file(name, text);
-    take_input(letter, name, input, text)
+    let input = input::read_file(rt, name, text);
+    take_input(rt, letter, name, input, text)
 }
 
 // Takes the text in the file that an argument names.
-fn take_file(letter: u8, argument: usize, text: &mut [u8]) -> Status {
+fn take_file(rt: &HostRuntime, letter: u8, argument: usize, text: &mut [u8]) -> Status {
     let mut name = io::buffer();
-    let n = os::arg(argument, &mut name);
-    take_named(letter, &name[..n], text)
+    let n = words::word(rt, argument, &mut name);
+    take_named(rt, letter, &name[..n], text)
 }
 
 // Takes the files that the arguments from the second on name. What cannot be read is told, and the others are taken all the same.
-fn take_files(letter: u8, count: usize, text: &mut [u8]) -> Status {
+fn take_files(rt: &HostRuntime, letter: u8, count: usize, text: &mut [u8]) -> Status {
     let mut i: usize = 2;
     let mut status = Status::Done;
     while i < count {
-        status = desk_status::worse(status, take_file(letter, i, text));
+        status = desk_status::worse(status, take_file(rt, letter, i, text));
         i += 1;
     }
     status
 }
 
-fn run_with(text: &mut [u8]) {
-    desk_status::tell(take_files(letter(), os::arg_count(), text));
+fn run_with(rt: &HostRuntime, text: &mut [u8]) {
+    desk_status::tell(take_files(rt, letter(rt), words::count(rt), text));
 }
 
-fn main() {
+fn main(rt: HostRuntime) {
     // One byte more than a text may have: what fills it is refused as too long.
     let mut text = [0u8; 1_048_577];
-    run_with(&mut text);
+    run_with(&rt, &mut text);
 }

@@ -4,7 +4,6 @@ use crate::sayings;
 use crate::sayings::add;
 use base_refusals::Refusal;
 use desk::{result, saying};
-use libc::STDOUT_FILENO;
 use text_places::Place;
 
 // How many of one kind are told.
@@ -60,27 +59,27 @@ fn with_page(tally: Tally, end: usize, failed: bool) -> Tally {
 }
 
 // Writes the lines of the page, which then has none.
-pub fn flush(tally: Tally, page: &[u8]) -> Tally {
+pub fn flush(rt: &HostRuntime, tally: Tally, page: &[u8]) -> Tally {
     let from = tally.name;
     let to = tally.end;
     if to <= from {
         return tally;
     }
     let lines = sayings::cut(page, from, to);
-    let written = result::write_to(STDOUT_FILENO, b"standard output", lines);
+    let written = result::write_output(rt, lines);
     with_page(tally, from, tally.failed || !written)
 }
 
-fn with_room(tally: Tally, page: &[u8]) -> Tally {
+fn with_room(rt: &HostRuntime, tally: Tally, page: &[u8]) -> Tally {
     if page.len() < sayings::sum(tally.end, LONGEST) {
-        return flush(tally, page);
+        return flush(rt, tally, page);
     }
     tally
 }
 
 // Puts a line onto the page.
-fn put(tally: Tally, page: &mut [u8], line: &[u8]) -> Tally {
-    let t = with_room(tally, page);
+fn put(rt: &HostRuntime, tally: Tally, page: &mut [u8], line: &[u8]) -> Tally {
+    let t = with_room(rt, tally, page);
     let end = sayings::add_line(page, t.end, line);
     with_page(t, end, t.failed)
 }
@@ -96,6 +95,7 @@ fn add_told(line: &mut [u8], at: usize, saying: usize, part: &[u8], near: &[u8])
 
 // Puts a sentence about a place onto the page.
 fn put_told(
+    rt: &HostRuntime,
     tally: Tally,
     page: &mut [u8],
     place: Place,
@@ -107,7 +107,7 @@ fn put_told(
     let a = add_name(&mut line, page, tally.name);
     let b = add_place(&mut line, a, place);
     let c = add_told(&mut line, b, saying, part, near);
-    put(tally, page, sayings::cut(&line, 0, c))
+    put(rt, tally, page, sayings::cut(&line, 0, c))
 }
 
 fn count_of(tally: Tally, saying: usize) -> usize {
@@ -135,6 +135,7 @@ fn counted(tally: Tally, saying: usize) -> Tally {
 
 // Tells a fault or a remark, unless nothing is to be written or too much was.
 pub fn tell(
+    rt: &HostRuntime,
     tally: Tally,
     page: &mut [u8],
     place: Place,
@@ -146,17 +147,38 @@ pub fn tell(
     if t.quiet || count_of(t, saying) > MOST {
         return t;
     }
-    put_told(t, page, place, saying, part, near)
+    put_told(rt, t, page, place, saying, part, near)
 }
 
 // The same with nothing of the text in it.
-pub fn tell_bare(tally: Tally, page: &mut [u8], place: Place, saying: usize) -> Tally {
-    tell(tally, page, place, saying, b"", b"")
+pub fn tell_bare(
+    rt: &HostRuntime,
+    tally: Tally,
+    page: &mut [u8],
+    place: Place,
+    saying: usize,
+) -> Tally {
+    tell(rt, tally, page, place, saying, b"", b"")
 }
 
 // Tells a fault of a whole line, or of a text at its first line.
-pub fn tell_line(tally: Tally, page: &mut [u8], k: usize, saying: usize, part: &[u8]) -> Tally {
-    tell(tally, page, Place { line: k, column: 1 }, saying, part, b"")
+pub fn tell_line(
+    rt: &HostRuntime,
+    tally: Tally,
+    page: &mut [u8],
+    k: usize,
+    saying: usize,
+    part: &[u8],
+) -> Tally {
+    tell(
+        rt,
+        tally,
+        page,
+        Place { line: k, column: 1 },
+        saying,
+        part,
+        b"",
+    )
 }
 
 // Puts a sentence with a number into a line.
@@ -167,7 +189,7 @@ fn add_counted(line: &mut [u8], at: usize, saying: usize, n: usize) -> usize {
 }
 
 // Tells how many more of one kind there were.
-fn tell_more(tally: Tally, page: &mut [u8], saying: usize) -> Tally {
+fn tell_more(rt: &HostRuntime, tally: Tally, page: &mut [u8], saying: usize) -> Tally {
     let n = count_of(tally, saying);
     if n <= MOST {
         return tally;
@@ -176,53 +198,59 @@ fn tell_more(tally: Tally, page: &mut [u8], saying: usize) -> Tally {
     let a = add_name(&mut line, page, tally.name);
     let b = add_counted(&mut line, a, sayings::MORE, n - MOST);
     let c = sayings::put_sentence(&mut line, b, saying, b"..");
-    put(tally, page, sayings::cut(&line, 0, c))
+    put(rt, tally, page, sayings::cut(&line, 0, c))
 }
 
 // The same of every kind.
-fn tell_all_more(tally: Tally, page: &mut [u8]) -> Tally {
+fn tell_all_more(rt: &HostRuntime, tally: Tally, page: &mut [u8]) -> Tally {
     let mut t = tally;
     let mut k: usize = 0;
     while k < 23 {
-        t = tell_more(t, page, k);
+        t = tell_more(rt, t, page, k);
         k += 1;
     }
     t
 }
 
 // Ends what is told of a file, but for its last line.
-pub fn tell_rest(tally: Tally, page: &mut [u8]) -> Tally {
+pub fn tell_rest(rt: &HostRuntime, tally: Tally, page: &mut [u8]) -> Tally {
     if tally.quiet {
         return tally;
     }
-    tell_all_more(tally, page)
+    tell_all_more(rt, tally, page)
 }
 
 // The last line about a file.
-pub fn close(tally: Tally, page: &mut [u8], saying: usize, part: &[u8]) -> Tally {
+pub fn close(rt: &HostRuntime, tally: Tally, page: &mut [u8], saying: usize, part: &[u8]) -> Tally {
     let mut line = [0u8; 9216];
     let a = add_name(&mut line, page, tally.name);
     let b = sayings::put_sentence(&mut line, a, saying, part);
-    put(tally, page, sayings::cut(&line, 0, b))
+    put(rt, tally, page, sayings::cut(&line, 0, b))
 }
 
 // The last line about a file that a word decides, which stands at a place.
-pub fn close_by(tally: Tally, page: &mut [u8], place: Place, word: &[u8]) -> Tally {
+pub fn close_by(
+    rt: &HostRuntime,
+    tally: Tally,
+    page: &mut [u8],
+    place: Place,
+    word: &[u8],
+) -> Tally {
     let mut line = [0u8; 9216];
     let a = add_name(&mut line, page, tally.name);
     let b = add_counted(&mut line, a, sayings::BY_LINE, place.line);
     let c = sayings::put_sentence(&mut line, b, sayings::BY_WORD, word);
     let d = add_counted(&mut line, c, sayings::BY_COLUMN, place.column);
-    put(tally, page, sayings::cut(&line, 0, d))
+    put(rt, tally, page, sayings::cut(&line, 0, d))
 }
 
 // Says on standard error why there is no result.
-pub fn refuse(name: &[u8], refusal: Refusal) -> bool {
+pub fn refuse(rt: &HostRuntime, name: &[u8], refusal: Refusal) -> bool {
     let mut text = [0u8; 128];
     let n = say_sentences::sentence(base_refusals::refusal_code(refusal), &mut text);
     let mut line = [0u8; 9216];
     let a = add(&mut line, 0, name);
     let b = add(&mut line, a, b": ");
     let c = add(&mut line, b, sayings::cut(&text, 0, n));
-    saying::tell(sayings::cut(&line, 0, c))
+    saying::tell(rt, sayings::cut(&line, 0, c))
 }

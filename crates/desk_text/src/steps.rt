@@ -43,18 +43,48 @@ fn put_near(near: &mut [u8], inside: &[u8]) -> usize {
 }
 
 // What an author has put behind a {, and the name that is nearest to it.
-fn tell_stray(tally: Tally, page: &mut [u8], at: Place, saying: usize, inside: &[u8]) -> Tally {
+fn tell_stray(
+    rt: &HostRuntime,
+    tally: Tally,
+    page: &mut [u8],
+    at: Place,
+    saying: usize,
+    inside: &[u8],
+) -> Tally {
     let mut near = [0u8; 40];
     let n = put_near(&mut near, inside);
-    sentence::tell(tally, page, at, saying, inside, sayings::cut(&near, 0, n))
+    sentence::tell(
+        rt,
+        tally,
+        page,
+        at,
+        saying,
+        inside,
+        sayings::cut(&near, 0, n),
+    )
 }
 
 // A { that begins no escape.
-fn tell_brace(tally: Tally, page: &mut [u8], at: Place, rest: &[u8]) -> Tally {
+fn tell_brace(rt: &HostRuntime, tally: Tally, page: &mut [u8], at: Place, rest: &[u8]) -> Tally {
     match braces::behind_brace(rest) {
-        Inside::Closed(n) => tell_stray(tally, page, at, sayings::STRAY, sayings::cut(rest, 0, n)),
-        Inside::Unclosed(n) => tell_stray(tally, page, at, sayings::OPEN, sayings::cut(rest, 0, n)),
+        Inside::Closed(n) => tell_stray(
+            rt,
+            tally,
+            page,
+            at,
+            sayings::STRAY,
+            sayings::cut(rest, 0, n),
+        ),
+        Inside::Unclosed(n) => tell_stray(
+            rt,
+            tally,
+            page,
+            at,
+            sayings::OPEN,
+            sayings::cut(rest, 0, n),
+        ),
         Inside::Long => sentence::tell(
+            rt,
             tally,
             page,
             at,
@@ -66,15 +96,16 @@ fn tell_brace(tally: Tally, page: &mut [u8], at: Place, rest: &[u8]) -> Tally {
 }
 
 // A step that gives a zero: an escape, or the byte itself.
-fn tell_zero(tally: Tally, page: &mut [u8], at: Place, step: &[u8]) -> Tally {
+fn tell_zero(rt: &HostRuntime, tally: Tally, page: &mut [u8], at: Place, step: &[u8]) -> Tally {
     if step.len() < 2 {
-        return sentence::tell_bare(tally, page, at, sayings::ZERO_BYTE);
+        return sentence::tell_bare(rt, tally, page, at, sayings::ZERO_BYTE);
     }
-    sentence::tell(tally, page, at, sayings::ZERO, step, b"")
+    sentence::tell(rt, tally, page, at, sayings::ZERO, step, b"")
 }
 
 // A step that was found: its text, and what stands behind it.
 fn tell_sight(
+    rt: &HostRuntime,
     tally: Tally,
     page: &mut [u8],
     at: Place,
@@ -84,15 +115,22 @@ fn tell_sight(
 ) -> Tally {
     match finding {
         Finding::Usual => tally,
-        Finding::TsbWord => sentence::tell(tally, page, at, sayings::TSB_WORD, step, b""),
-        Finding::Zero => tell_zero(tally, page, at, step),
-        Finding::Brace => tell_brace(tally, page, at, rest),
-        Finding::Control => sentence::tell_bare(tally, page, at, sayings::CONTROL),
+        Finding::TsbWord => sentence::tell(rt, tally, page, at, sayings::TSB_WORD, step, b""),
+        Finding::Zero => tell_zero(rt, tally, page, at, step),
+        Finding::Brace => tell_brace(rt, tally, page, at, rest),
+        Finding::Control => sentence::tell_bare(rt, tally, page, at, sayings::CONTROL),
     }
 }
 
 // The steps of a body, which begins at a place of its text: at most one is told for each byte.
-pub fn check_steps(tally: Tally, page: &mut [u8], from: Place, body: &[u8], sets: Sets) -> Tally {
+pub fn check_steps(
+    rt: &HostRuntime,
+    tally: Tally,
+    page: &mut [u8],
+    from: Place,
+    body: &[u8],
+    sets: Sets,
+) -> Tally {
     let mut t = tally;
     let mut stand = at::stand_at(body, 0, Mode::Plain);
     let mut told: usize = 0;
@@ -121,6 +159,7 @@ pub fn check_steps(tally: Tally, page: &mut [u8], from: Place, body: &[u8], sets
                 };
                 let step = sayings::cut(body, at, to.at);
                 t = tell_sight(
+                    rt,
                     t,
                     page,
                     place,

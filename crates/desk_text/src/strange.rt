@@ -29,7 +29,7 @@ fn saying_of(kind: Foreign) -> usize {
 }
 
 // The strange bytes of one line: at most one for each byte.
-pub fn check_line(tally: Tally, page: &mut [u8], k: usize, line: &[u8]) -> Tally {
+pub fn check_line(rt: &HostRuntime, tally: Tally, page: &mut [u8], k: usize, line: &[u8]) -> Tally {
     let mut t = tally;
     let mut at: usize = 0;
     let mut column: usize = 1;
@@ -40,7 +40,7 @@ pub fn check_line(tally: Tally, page: &mut [u8], k: usize, line: &[u8]) -> Tally
             Stranger::There { offset, kind, used } => {
                 column = sayings::sum(column, characters(sayings::cut(line, at, offset)));
                 let place = Place { line: k, column };
-                t = sentence::tell_bare(t, page, place, saying_of(kind));
+                t = sentence::tell_bare(rt, t, page, place, saying_of(kind));
                 column = sayings::sum(column, 1);
                 at = sayings::sum(offset, used);
             }

@@ -2,7 +2,11 @@
 #![tactic(auto)]
 
 use digest_sha256::State;
-use libc::{STDIN_FILENO, STDOUT_FILENO};
+
+// The descriptors of standard input and output.
+const STDIN_FILENO: i32 = 0;
+
+const STDOUT_FILENO: i32 = 1;
 
 fn add_both(state: State, bytes: &[u8]) -> State {
     let cut = bytes.len() / 3;
@@ -16,8 +20,7 @@ fn main() {
     let mut state = digest_sha256::start();
     let mut turns = u64::MAX;
     while turns > 0 {
-        let got = libc::read(STDIN_FILENO, &mut buffer);
-        let count = io::count(got, &buffer);
+        let count = io::read_full(STDIN_FILENO, &mut buffer);
         if count == 0 {
             break;
         }

@@ -8,7 +8,9 @@ ghost use Rattle.judge_frames.specs.FramesHelpers.{u16_at, u32_at, u64_at, Senda
 
 use base_lent::Outcome;
 use base_refusals::Refusal;
-use libc::STDOUT_FILENO;
+
+// Where the answers go: standard output.
+const STDOUT_FILENO: i32 = 1;
 
 // The number of two bytes at a place, the low byte first; then of four and of eight.
 pub fn u16_at(bytes: &[u8], at: usize) -> u16

@@ -8,10 +8,14 @@ ghost use Rattle.word_tables.specs.WordsHelpers.{SpellsWords};
 
 use base_lent::Outcome;
 use escape_bytes::Escape;
-use libc::{STDIN_FILENO, STDOUT_FILENO};
 use word_match::sets::Sets;
 use word_search::Match;
 use word_tables::spellings;
+
+// The descriptors of standard input and output.
+const STDIN_FILENO: i32 = 0;
+
+const STDOUT_FILENO: i32 = 1;
 
 fn print_code(byte: u8) {
     io::write_all(

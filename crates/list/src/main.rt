@@ -9,39 +9,38 @@ use desk_inputs::Input;
 use image_readers::Checked;
 use list_options::ListOptions;
 
-fn write_listing(image: &[u8], options: ListOptions) -> bool {
+fn write_listing(rt: &HostRuntime, image: &[u8], options: ListOptions) -> bool {
     let mut name = io::buffer();
-    let n = result::name(&mut name);
-    let fd = result::begin(&name[..n]);
-    if fd < 0 {
+    let n = result::name(rt, &mut name);
+    let Some(to) = result::begin(rt, &name[..n]) else {
         return false;
-    }
+    };
     let mut out = [0u8; 8192];
-    let written = desk_lines::write_lines(fd, &name[..n], image, options, &mut out);
-    result::finish(fd, &name[..n], written)
+    let written = desk_lines::write_lines(rt, &to, &name[..n], image, options, &mut out);
+    result::finish(rt, to, &name[..n], written)
 }
 
 // Nothing is written before the whole image is known to have a listing.
-fn list_image(image: &[u8], options: ListOptions) {
+fn list_image(rt: &HostRuntime, image: &[u8], options: ListOptions) {
     let by = options.by;
     match image_readers::check_by(image, by) {
-        Checked::Image { load: _, lines: _ } => output::done(write_listing(image, options)),
-        Checked::Refused(refusal) => output::refuse(refusal, b""),
+        Checked::Image { load: _, lines: _ } => output::done(rt, write_listing(rt, image, options)),
+        Checked::Refused(refusal) => output::refuse(rt, refusal, b""),
     }
 }
 
-fn list_given(options: ListOptions) {
+fn list_given(rt: &HostRuntime, options: ListOptions) {
     let mut image = [0u8; 65_536];
-    match input::read_given(&mut image) {
-        Input::All(count) => list_image(&image[0..count], options),
-        Input::Longer => output::refuse(Refusal::ImageTooLong { length: 65_537 }, b""),
-        Input::Failed => output::fail(),
+    match input::read_given(rt, &mut image) {
+        Input::All(count) => list_image(rt, &image[0..count], options),
+        Input::Longer => output::refuse(rt, Refusal::ImageTooLong { length: 65_537 }, b""),
+        Input::Failed(_) => output::fail(rt),
     }
 }
 
-fn main() {
-    match options::dialect(desk_lines::DIALECT) {
-        AskedDialect::Known(dialect) => list_given(desk_lines::asked(dialect)),
+fn main(rt: HostRuntime) {
+    match options::dialect(&rt, desk_lines::DIALECT) {
+        AskedDialect::Known(dialect) => list_given(&rt, desk_lines::asked(&rt, dialect)),
         AskedDialect::Ended => {}
     }
 }
