@@ -1,7 +1,7 @@
 -- A run of bytes and its starts, held against what they must be: one test over all words, carried to each of them.
 -- Assumes nothing.
 use Prim.Native.Nat.{ℕ, zero, suc, ◌+◌, ◌-◌, ◌≤◌, ◌<◌}
-use mathlib.Core.Path.{◌≡◌, refl, sym, ap, ◌∙◌}
+use mathlib.Core.Path.{◌≡◌, refl, sym, ◌∙◌}
 use mathlib.Core.Bool.{Bool, true, false, ◌&&◌}
 use mathlib.Core.List.{List, [], ◌∷◌, map}
 use mathlib.Core.Logic.{◌⊎◌, inl, inr}
@@ -10,7 +10,7 @@ use native.Mathlib.Nat.{eq-or-lt_of_le, le_of_suc-le-suc}
 use native.Mathlib.Omega.{arith}
 use lib.Dec.{T, leb, ltb, leb→le, ltb→lt}
 use lib.ListN.{length, get_or}
-use Rattle.base_ascii.specs.Bytes.{between, upper}
+use Rattle.base_ascii.specs.Bytes.{upper}
 use Rattle.word_search.specs.Compare.{begins, same, alike, passes}
 use Rattle.word_search.specs.Find.{Name, meaning}
 use Rattle.word_search.specs.RunHelpers.{Lies, Stored, raised, word_of, passes_at, first_from}

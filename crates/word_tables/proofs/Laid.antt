@@ -3,7 +3,7 @@
 use Prim.Native.Nat.{ℕ, zero, suc, ◌+◌, ◌-◌, ◌*◌, ◌≤◌, ◌<◌}
 use mathlib.Core.Path.{◌≡◌, refl, sym, ap, ◌∙◌}
 use mathlib.Core.Bool.{Bool, true, false}
-use mathlib.Core.List.{List, [], ◌∷◌, ◌++◌, map}
+use mathlib.Core.List.{List, [], ◌∷◌, ◌++◌}
 use native.Mathlib.Nat.{le_of_suc-le-suc}
 use native.Mathlib.Omega.{arith}
 use lib.ListN.{length, get_or, take, drop, length-append, length-map, get_or-append, get_or-map}
@@ -13,10 +13,6 @@ use Rattle.base_ascii.proofs.Ranges.{between_in}
 use Rattle.word_search.specs.Find.{Entry}
 use Rattle.word_search.specs.RunHelpers.{Lies, joined, starts, word_of}
 use Rattle.word_search.proofs.Runs.{length_starts, part, run_lies, run_word}
-use Rattle.word_tables.specs.Rom.{v2_words, operators}
-use Rattle.word_tables.specs.Tsb.{tsb_words}
-use Rattle.word_tables.specs.Escapes.{escape_names}
-use Rattle.word_tables.specs.Basic35.{basic35_words}
 use Rattle.word_tables.specs.WordsHelpers.{Placed, capitals, grouped, stored_words, groups_of, group_at, words_of, SpellsWords}
 use Rattle.word_tables.specs.StoredHelpers.{spelt, tokens, places, bytes_laid, index_laid, groups_from, groups_in, lists, all_groups}
 use Rattle.word_tables.specs.declared.WordList.{WordList}

@@ -2,7 +2,6 @@
 -- itself; so in each the first match is the longest (document 01, "Crunching one body"; document 02, No. 5).
 -- Assumes nothing.
 use Prim.Native.Nat.{ℕ}
-use mathlib.Core.Bool.{true, false}
 use mathlib.Core.List.{List, ◌++◌}
 use lib.Dec.{T}
 use Rattle.base_ascii.specs.Bytes.{between, upper}

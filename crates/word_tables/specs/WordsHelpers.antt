@@ -1,7 +1,7 @@
 -- For the helpers that are lent the two tables of words, and for no promise of a public call: what makes the tables the documents' lists,
 -- grouped by first byte (document 02, No. 11: "grouped by first byte, keeping the old order within a group").
 -- Assumes nothing.
-use Rattle.std.specs.Prelude.{ℕ, zero, suc, ◌+◌, ◌-◌, ◌≤◌, ◌<◌, ◌≡◌, Bool, true, false, ◌&&◌, List, [], ◌∷◌, map, eqb, length, get_or}
+use Rattle.std.specs.Prelude.{ℕ, zero, suc, ◌+◌, ◌-◌, ◌≤◌, ◌<◌, ◌≡◌, true, false, List, [], ◌∷◌, map, eqb, length, get_or}
 use Rattle.base_ascii.specs.Bytes.{between, upper}
 use Rattle.word_search.specs.Find.{Entry}
 use Rattle.word_search.specs.RunHelpers.{Lies, word_of}

@@ -1,6 +1,5 @@
 -- `word_search::begins` meets its contract.
 -- Assumes nothing.
-use Prim.Native.Nat.{◌-◌}
 use Rattle.word_search.proofs.Comparing.{compared_start, compared_turn, compared_short, compared_other, compared_end}
 use Rattle.word_search.proofs.begins.Goals as goal
 

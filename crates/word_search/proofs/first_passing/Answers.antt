@@ -1,6 +1,5 @@
 -- `word_search::first_passing` meets its contract.
 -- Assumes nothing.
-use Prim.Native.Nat.{◌-◌}
 use Rattle.word_search.proofs.Search.{sought_start, sought_lies, sought_ready, sought_found, sought_turn, sought_end}
 use Rattle.word_search.proofs.first_passing.Goals as goal
 

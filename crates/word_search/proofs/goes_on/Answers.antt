@@ -1,6 +1,5 @@
 -- `word_search::goes_on` meets its contract.
 -- Assumes nothing.
-use Prim.Native.Nat.{◌-◌}
 use Rattle.word_search.proofs.Comparing.{going_start, going_short, going_turn, going_other, going_end}
 use Rattle.word_search.proofs.goes_on.Goals as goal
 
