@@ -1,6 +1,6 @@
 -- The hash value, block by block.
 -- Assumes nothing.
-use Rattle.std.proofs.Common.{◌≡◌, ℕ, zero, suc, ◌+◌, ◌-◌, ◌*◌, ◌/◌, ◌<◌, ◌≤◌, List, ◌++◌, length, take, drop, sym, refl, ap, ◌∙◌, add-one, arith, length-drop, take-take}
+use Rattle.std.proofs.Common.{◌≡◌, ℕ, ◌+◌, ◌-◌, ◌*◌, ◌/◌, ◌<◌, ◌≤◌, List, length, take, drop, refl, ◌∙◌, add-one, arith, take-take}
 use Rattle.digest_sha256.specs.Sha256.{block, compressed, hashed}
 use Rattle.digest_sha256.specs.declared.compress.Words.{Words}
 

@@ -1,8 +1,7 @@
 -- Words and padding, stored byte by byte; hexadecimal digits.
 -- Assumes nothing.
-use Rattle.std.proofs.Common.{◌≡◌, ℕ, zero, suc, ◌+◌, ◌-◌, ◌*◌, ◌/◌, ◌%◌, ◌^◌, ◌<◌, ◌≤◌, List, [], ◌∷◌, ◌++◌, length, get_or, take, drop, set, replicate, sym, refl, ap, ◌∙◌, append_assoc, append-nil, le_trans, le_of_eq, mul-le-mul_left, mul-one, mul-suc, mul-add, add-one, arith, length-append, length-set, length-take-le, take_all, take-suc, take-suc-set, take_at}
+use Rattle.std.proofs.Common.{◌≡◌, ℕ, zero, suc, ◌+◌, ◌-◌, ◌*◌, ◌/◌, ◌%◌, ◌^◌, ◌<◌, ◌≤◌, List, [], ◌∷◌, ◌++◌, length, get_or, take, drop, set, replicate, sym, refl, ap, ◌∙◌, append_assoc, append-nil, le_trans, le_of_eq, mul-le-mul_left, mul-one, mul-suc, mul-add, add-one, arith, length-append, length-take-le, take_all, take-suc, take_at}
 use mathlib.Core.List.{flat_map}
-use lib.ListN.{length-replicate}
 use lib.Seq.{sets, sets-eq, length-sets}
 use Rattle.digest_sha256.specs.Sha256.{big_endian, padding}
 use Rattle.digest_sha256.specs.StepHelpers.{Pads}

@@ -1,6 +1,6 @@
 -- A piece copied byte by byte.
 -- Assumes nothing.
-use Rattle.std.proofs.Common.{◌≡◌, ℕ, suc, ◌+◌, ◌<◌, ◌≤◌, List, length, get_or, set, add-one, arith}
+use Rattle.std.proofs.Common.{◌≡◌, ℕ, ◌+◌, ◌<◌, ◌≤◌, List, length, get_or, set, add-one, arith}
 use lib.Seq.{paste, paste-zero, paste-suc}
 
 pub record Copied (d : List ℕ) (at : ℕ) (piece buffer : List ℕ) (i : ℕ) : Type 0 where

@@ -1,6 +1,6 @@
 -- The message schedule, filled word by word.
 -- Assumes nothing.
-use Rattle.std.proofs.Common.{◌≡◌, ℕ, zero, suc, ◌+◌, ◌-◌, ◌*◌, ◌<◌, ◌≤◌, cond, ltb, List, [], ◌∷◌, ◌++◌, length, take, set, replicate, sym, refl, ap, ◌∙◌, add-one, arith, length-append, length-set, take_all, get_or-take, take-suc-set, le-ltb, lt-ltb}
+use Rattle.std.proofs.Common.{◌≡◌, ℕ, ◌+◌, ◌-◌, ◌*◌, ◌<◌, ◌≤◌, cond, ltb, List, take, set, replicate, sym, refl, ◌∙◌, add-one, arith, length-set, take_all, get_or-take, take-suc-set, le-ltb, lt-ltb}
 use Rattle.digest_sha256.specs.Sha256.{block_word, next_word, scheduled}
 use Rattle.digest_sha256.specs.StepHelpers.{Filled}
 

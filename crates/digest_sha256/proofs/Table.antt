@@ -1,6 +1,6 @@
 -- Published examples, computed: the message of no bytes, and two of FIPS 180-4's own, "abc" and the message of 448 bits, which takes two blocks.
 -- Assumes nothing.
-use Rattle.std.proofs.Common.{◌≡◌, ℕ, List, [], ◌∷◌, refl}
+use Rattle.std.proofs.Common.{◌≡◌, [], ◌∷◌, refl}
 use mathlib.Core.List.{flat_map}
 use Rattle.digest_sha256.specs.Constants.{divided, primes_below, root, fraction, constants, initials}
 use Rattle.digest_sha256.specs.Sha256.{big_endian, padding, padded, block, block_word, next_word, scheduled, turned, after_turns, added_words, compressed, initial_hash, hashed, digest_of}

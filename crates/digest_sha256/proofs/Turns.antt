@@ -1,8 +1,8 @@
 -- Turns, eight at a time.
 -- Assumes nothing.
-use Rattle.std.proofs.Common.{◌≡◌, ℕ, zero, suc, ◌+◌, ◌%◌, ◌<◌, ◌≤◌, List, [], ◌∷◌, sym, refl, ap, ◌∙◌, add-zero, add-suc, arith}
+use Rattle.std.proofs.Common.{◌≡◌, ℕ, zero, suc, ◌+◌, ◌%◌, ◌<◌, ◌≤◌, List, refl, ◌∙◌, add-zero, add-suc, arith}
 use Rattle.digest_sha256.specs.Constants.{constants}
-use Rattle.digest_sha256.specs.Sha256.{turned, after_turns}
+use Rattle.digest_sha256.specs.Sha256.{after_turns}
 use Rattle.digest_sha256.specs.StepHelpers.{turns_from}
 use Rattle.digest_sha256.proofs.Roots.{table, table_right}
 use Rattle.digest_sha256.specs.declared.compress.Words.{Words}

@@ -2,7 +2,7 @@
 -- Assumes nothing.
 use Prim.Native.Nat.{ℕ, zero, suc, ◌+◌, ◌-◌, ◌*◌, ◌≤◌, ◌<◌}
 use mathlib.Core.Path.{◌≡◌, refl, sym, ap, ◌∙◌}
-use mathlib.Core.List.{List, [], ◌∷◌, ◌++◌}
+use mathlib.Core.List.{List, [], ◌∷◌, ◌++◌, append_assoc}
 use lib.ListN.{length, get_or, take, drop, set, replicate, length-take, length-drop, drop_of_length-le}
 use lib.Seq.{sets, sets-eq, length-sets, take-length, take_all, drop-cons, drop-drop}
 use native.Mathlib.Numerals.{add-one}
@@ -15,15 +15,11 @@ use Rattle.disk_chains.specs.ChainHelpers.{Sectors}
 
 -- bytes copied to a part that starts at a place
 pub stored : (d text : List ℕ) (at : ℕ) {part : List ℕ} → at + length text ≤ length d
-    → part ≡ take (length text) text ++ drop (length text) (mid_of at (length d - at) d) → put_mid at (length d - at) d part ≡ sets d at text
-stored d text at h e =
-    let rest : List ℕ = mid_of at (length d - at) d in
-    let long : length rest ≡ length d - at = omega (arith, length-take (length d - at) (drop at d), length-drop at d) in
-    let room : 0 + length text ≤ length rest = omega arith in
-    let z : 0 + length text ≡ length text = omega arith in
-    let s : sets rest 0 text ≡ text ++ drop (length text) rest = sets-eq text rest 0 room ∙ ap (λ (k : ℕ). text ++ drop k rest) z in
-    let y : at + 0 ≡ at = omega arith in
-    tail_put d at 0 text (e ∙ ap (λ (t : List ℕ). t ++ drop (length text) rest) (take-length text) ∙ sym s) ∙ ap (λ (k : ℕ). sets d k text) y
+    → part ≡ text → put_mid at ((at + length text) - at) d part ≡ sets d at text
+stored d text at {part} h e =
+    let k : (at + length text) - at ≡ length text = omega arith in
+    rw (k, e)
+    (ap (λ (t : List ℕ). take at d ++ (text ++ t)) (drop-drop (length text) at d) ∙ sym (sets-eq text d at h ∙ append_assoc (take at d) text (drop (at + length text) d)))
 
 pub drop_replicate : (k n a : ℕ) → drop k (replicate n a) ≡ replicate (n - k) a
 drop_replicate zero n a = let e : n - 0 ≡ n = omega arith in rw e

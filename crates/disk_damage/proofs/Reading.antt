@@ -121,7 +121,7 @@ module _ {changes : ℕ → Bool} (d name now image : List ℕ) (e : file_bytes 
   read_now : file_bytes now name ≡ done found
   unfolding file_bytes
   read_now =
-      rw (worn_sound d now w.disk x.is_sound, x.is_name, named_stay d now w.disk name, x.named)
+      rw (worn_sound d now w.disk x.is_sound, x.is_name_lem, named_stay d now w.disk name, x.named)
       (ap (λ (k : Chain). done (chain_bytes now k.sectors)) (entries_stay d now w.disk x.at in_list).chain)
 
   long_now : length found ≡ length image

@@ -126,12 +126,12 @@ module _ (d name image made : List ℕ) (p : ℕ) (e : saved d name image ≡ do
   pub name_new : name_at made p ≡ name
   unfolding name_at
   name_new =
-      let short : length name ≤ 16 = name_short name t.is_name in
+      let short : length name ≤ 16 = name_short name t.is_name_lem in
       let padded : List ℕ = name ++ replicate (16 - length name) 0xA0 in
       let long : length padded ≡ 16 = length-append name (replicate (16 - length name) 0xA0) ∙ omega (arith, length-replicate {A = ℕ} (16 - length name) 0xA0) in
       ap before_a0 (subst (λ (k : ℕ). take k (drop (p + 3) made) ≡ padded) long
       (part_as made padded (p + 3) (omega (arith, w.room, w.size)) (λ i h. at i (omega arith) (omega arith))))
-      ∙ name_before name (16 - length name) (no_a0 name t.is_name) where
+      ∙ name_before name (16 - length name) (no_a0 name t.is_name_lem) where
         at : (i : ℕ) → i < 16 → i < length (name ++ replicate (16 - length name) 0xA0) → get_or made (p + 3 + i) 0 ≡ get_or (name ++ replicate (16 - length name) 0xA0) i 0
         at i h g = let y : p + 3 + i ≡ p + suc (suc (suc i)) = omega arith in ap (λ (j : ℕ). get_or made j 0) y ∙ w.entry (suc (suc (suc i))) (omega arith)
             ∙ get_or-append (name ++ replicate (16 - length name) 0xA0 ++ replicate 9 0) (length (taken d image) % 256 ∷ length (taken d image) / 256 ∷ []) 0 i

@@ -44,7 +44,7 @@ save_adds d name image made e =
       go (p ∷ l) out a b t f =
           let z : sets (written d image) p (entry_bytes name (taken d image)) ≡ made = cc in
           let i : is_in (entries_that false d (directory d).sectors) p ≡ true = ap (λ (x : List ℕ). is_in x p) a ∙ ap (λ (q : Bool). q || is_in l p) (eq-eqb p p refl) in
-          record { at = p; is = subst (λ (x : List ℕ). Added d name image x p) z (entered d name image p (parts d t.is_sound) t.is_name i) }
+          record { at = p; is = subst (λ (x : List ℕ). Added d name image x p) z (entered d name image p (parts d t.is_sound) t.is_name_lem i) }
       go [] [] a b t f = absurd (let z : ◌≡◌ {A = ℕ} 0 1 = cc in omega arith)
       go [] (n ∷ ns) a b t f =
           let z : sets (grown (written d image) (get_or (directory d).sectors (length (directory d).sectors - 1) 0) n) (256 * n + 2) (entry_bytes name (taken d image)) ≡ made = cc in
@@ -55,7 +55,7 @@ save_adds d name image made e =
           in
           record {
             at = 256 * n + 2;
-            is = subst (λ (x : List ℕ). Added d name image x (256 * n + 2)) z (grown_added d name image n (parts d t.is_sound) t.is_name r.0 r.1 o);
+            is = subst (λ (x : List ℕ). Added d name image x (256 * n + 2)) z (grown_added d name image n (parts d t.is_sound) t.is_name_lem r.0 r.1 o);
           }
 
 -- a save that is done leaves a disk on which the check holds

@@ -110,7 +110,7 @@ module _ (d name image made : List ℕ) (e : saved d name image ≡ done made) w
   -- "a saved file reads back exactly its bytes"
   pub reads_back : file_bytes made name ≡ done image
   reads_back =
-      read_one made name a.at (saved_sound d name image made e) t.is_name named_one
+      read_one made name a.at (saved_sound d name image made e) t.is_name_lem named_one
       ∙ ap (λ (c : Chain). done (chain_bytes made c.sectors)) (chain_new d name image made a.at e a.is)
       ∙ ap done (saved_bytes d name image made e)
 
@@ -142,7 +142,7 @@ bytes_of d image (n ∷ ns) s a b y = lies_bytes d n ns image s b (omega arith) 
 module _ (d name image : List ℕ) (x : InPlace d name image) where
   pub in_place_reads : file_bytes d name ≡ done image
   in_place_reads =
-      read_one d name x.at x.is_sound x.is_name x.named
+      read_one d name x.at x.is_sound x.is_name_lem x.named
       ∙ ap (λ (c : Chain). done (chain_bytes d c.sectors)) x.chain
       ∙ ap done (bytes_of d image x.sectors (parts d x.is_sound).size x.long below x.lies) where
         below : (m : ℕ) → is_in x.sectors m ≡ true → m < 683
@@ -169,7 +169,7 @@ module _ (d name image : List ℕ) (x : InPlace d name image) where
     at = x.at;
     sectors = x.sectors;
     is_sound = ap sound (sym e) ∙ sound_kept d c x.is_sound;
-    is_name_lem = x.is_name;
+    is_name_lem = x.is_name_lem;
     named = g ∙ x.named;
     chain = s.chain ∙ x.chain;
     long = x.long;
@@ -241,7 +241,7 @@ reads_back_later d name image made e cs s =
       at = w.at;
       sectors = taken d image;
       is_sound = saved_sound d name image made e;
-      is_name_lem = (was_tested d name image made e).is_name;
+      is_name_lem = (was_tested d name image made e).is_name_lem;
       named = named_one d name image made e;
       chain = chain_new d name image made w.at e w.is;
       long = taken_long d name image made e;

@@ -12,9 +12,9 @@ use Rattle.base_refusals.specs.Numbers.{bad_disk, bad_name, name_taken, director
 use Rattle.base_refusals.specs.Answer.{Answer, done, refused}
 use Rattle.disk_rules.specs.Lists.{numbers_from, some, is_in}
 use Rattle.disk_rules.specs.Entries.{directory, entries_of, entry_at, is_listed, entries_that, listed, is_named}
-use Rattle.disk_rules.specs.Free.{free_sectors}
+use Rattle.disk_rules.specs.Free.{free_sectors, marked_all}
 use Rattle.disk_rules.specs.Check.{sound}
-use Rattle.disk_rules.specs.Calls.{is_file_name, on_sound, sectors_for, taken, outside, with_entry, with_file, saved}
+use Rattle.disk_rules.specs.Calls.{laid, entry_bytes, is_file_name, on_sound, sectors_for, taken, outside, with_entry, with_file, saved}
 use Rattle.disk_saves.specs.SaveHelpers.{saved_new}
 use Rattle.disk_rules.proofs.Counting.{count, count_not, stand_few, numbers_long}
 
@@ -46,7 +46,7 @@ placed disk entry sectors [] (n ∷ out) h = record { made = _; is = refl }
 
 -- "below 144 files there is always an entry or a sector to grow by"
 pub always_placed : (d name image chosen : List ℕ) → length (listed d) < 144 → IsDone (with_file d name image chosen)
-always_placed d name image chosen h = placed _ _ (directory d).sectors (entries_that false d (directory d).sectors) (outside (directory d).sectors) (room_to_grow d (directory d).sectors h)
+always_placed d name image chosen h = placed (marked_all (laid d chosen image) chosen false) (entry_bytes name chosen) (directory d).sectors (entries_that false d (directory d).sectors) (outside (directory d).sectors) (room_to_grow d (directory d).sectors h)
 
 -- the tests in their order, passed
 passed : (p q r t : Bool) (a : Answer (List ℕ)) → p ≡ true → q ≡ true → r ≡ false → t ≡ false

@@ -158,7 +158,7 @@ module _ (d name image made : List ℕ) (e : saved d name image ≡ done made) w
   made_byte : (n j : ℕ) → is_in (taken d image) n ≡ true → Within n j → get_or made j 0 ≡ get_or (laid d (taken d image) image) j 0
   made_byte n j i w =
       sym (ap (λ (a : Answer (List ℕ)). get_or (onto_disk a (laid d (taken d image) image)).disk j 0) t.file)
-      ∙ file_18 d name image size t.is_name j (sector_off n j w (and_right (ltb n 683) (off_track18 n) (taken_held d image n i))) (laid d (taken d image) image) refl
+      ∙ file_18 d name image size t.is_name_lem j (sector_off n j w (and_right (ltb n 683) (off_track18 n) (taken_held d image n i))) (laid d (taken d image) image) refl
 
   pub all_lie : LieAll made (taken d image) image
   all_lie = laid_lies d (taken d image) image made size (taken_below d image) (taken_once d image) made_byte

@@ -19,13 +19,14 @@ digest_long m = refl
 pub no_room_lem : (m out : List ℕ) → length out < 32 → ◌≡◌ {A = Lent} (record { answer = refused (no_room 32); buffer = out }) (into_buffer (done (digest_of m)) out)
 no_room_lem m out h = into_none out (done (digest_of m)) (ap done (digest_long m)) h
 
-pub digest_put : (m out : List ℕ) {d after : List ℕ} → d ≡ digest_of m → after ≡ take (length d) d ++ drop (length d) out → 32 ≤ length out
-    → ◌≡◌ {A = Lent} (record { answer = done 32; buffer = after }) (into_buffer (done (digest_of m)) out)
-digest_put m out {d} {after} e p h =
+pub digest_put : (m out : List ℕ) {d part : List ℕ} → d ≡ digest_of m → part ≡ d → 32 ≤ length out
+    → ◌≡◌ {A = Lent} (record { answer = done 32; buffer = part ++ drop 32 out }) (into_buffer (done (digest_of m)) out)
+digest_put m out {d} {part} e p h =
     let fits : 0 + length (digest_of m) ≤ length out = omega (arith, digest_long m) in
     let sum : length (digest_of m) ≡ 0 + length (digest_of m) = omega arith in
+    let long : 32 ≡ length (digest_of m) = digest_long m in
     into_done out (done (digest_of m)) refl (record { room = fits })
     (record {
       ends = digest_long m ∙ sum;
-      stored = p ∙ rw e (ap₂ (λ (l : List ℕ) (k : ℕ). l ++ drop k out) (take_all (length (digest_of m)) (digest_of m) (omega arith)) sum ∙ sym (sets-eq (digest_of m) out 0 fits));
+      stored = ap₂ (λ (l : List ℕ) (k : ℕ). l ++ drop k out) (p ∙ e) (long ∙ sum) ∙ sym (sets-eq (digest_of m) out 0 fits);
     })

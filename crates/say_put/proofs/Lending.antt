@@ -1,6 +1,6 @@
 -- A whole text lent: all of it is stored, or nothing.
 -- Assumes nothing.
-use Prim.Native.Nat.{ℕ, ◌+◌, ◌*◌, ◌≤◌, ◌<◌, min}
+use Prim.Native.Nat.{ℕ, ◌+◌, ◌≤◌, ◌<◌}
 use mathlib.Core.Path.{◌≡◌, refl, sym, ap, ◌∙◌}
 use mathlib.Core.List.{List, [], ◌∷◌, ◌++◌}
 use native.Mathlib.Omega.{arith}
@@ -11,7 +11,6 @@ use mir.Val.{Fits}
 use Rattle.base_refusals.specs.Answer.{done, refused}
 use Rattle.base_refusals.specs.Numbers.{no_room}
 use Rattle.base_lent.specs.Lent.{Lent, into_buffer}
-use Rattle.base_lent.specs.Stores.{Put}
 use Rattle.base_lent.proofs.Outcomes.{into_none, into_done}
 use Rattle.say_put.specs.Clipped.{Clipped}
 use Rattle.say_put.specs.Rows.{filled, row_text}

@@ -1,12 +1,12 @@
 -- What is shown has no control.
 -- Assumes nothing.
 use Prim.Native.Nat.{ℕ, ◌+◌, ◌/◌, ◌%◌, ◌<◌, ◌≤◌}
-use mathlib.Core.Path.{◌≡◌, refl, ◌∙◌}
+use mathlib.Core.Path.{◌≡◌, refl}
 use mathlib.Core.Bool.{Bool, true, false, cond}
 use mathlib.Core.List.{List, [], ◌∷◌, ◌++◌}
 use native.Mathlib.Omega.{arith}
 use lib.Dec.{eqb, ltb}
-use borrow.Author.Tests.{ltb-true, ltb-false, eqb-true, le-ltb, ne_eqb}
+use borrow.Author.Tests.{ltb-true, eqb-true, le-ltb, ne_eqb}
 use Rattle.say_shown.specs.Shown.{is_control, capital_digit, shown_byte, shown, is_plain}
 
 plain_above : (b : ℕ) → 0x20 ≤ b → b < 0x7F → is_control b ≡ false

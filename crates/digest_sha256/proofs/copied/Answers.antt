@@ -1,6 +1,6 @@
 -- `digest_sha256::copied` meets its contract.
 -- Assumes nothing.
-use Rattle.std.proofs.Common.{◌-◌, rules}
+use Rattle.std.proofs.Common.{rules}
 use Rattle.digest_sha256.proofs.Copies.{copied_none, copied_more, copied_all}
 use Rattle.digest_sha256.proofs.copied.Goals as goal
 

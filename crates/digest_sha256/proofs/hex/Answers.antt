@@ -1,6 +1,6 @@
 -- `digest_sha256::hex` meets its contract.
 -- Assumes nothing.
-use Rattle.std.proofs.Common.{◌-◌, refl, arith, rules}
+use Rattle.std.proofs.Common.{refl, arith, rules}
 use Rattle.digest_sha256.proofs.Bytes.{hex_start, hex_more, spread_all}
 use Rattle.digest_sha256.proofs.hex.Goals as goal
 

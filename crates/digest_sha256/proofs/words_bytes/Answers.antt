@@ -1,6 +1,6 @@
 -- `digest_sha256::words_bytes` meets its contract.
 -- Assumes nothing.
-use Rattle.std.proofs.Common.{◌-◌, refl, arith}
+use Rattle.std.proofs.Common.{refl, arith}
 use Rattle.digest_sha256.proofs.Bytes.{words_start, words_more, spread_all, spread_long, long_4}
 use Rattle.digest_sha256.proofs.words_bytes.Goals as goal
 

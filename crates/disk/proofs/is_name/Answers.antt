@@ -1,4 +1,4 @@
--- `disk::is_name_lem` meets its contract.
+-- `disk::is_name` meets its contract.
 -- Assumes nothing.
 use Rattle.disk.proofs.Locating.{no_empty, no_long, some_name}
 use Rattle.disk.proofs.is_name.Goals as goal

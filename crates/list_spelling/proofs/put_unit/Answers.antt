@@ -54,3 +54,6 @@ returns-in-Lone c = search (put_of, lone_text)
 
 pub returns-in-Remarked : goal.returns-in-Remarked
 returns-in-Remarked c = search (put_of, remarked_text)
+
+pub slice_bounds-put-end-in-Remarked : goal.slice_bounds-put-end-in-Remarked
+slice_bounds-put-end-in-Remarked c = search (held_long, remark_text_short)

@@ -1,6 +1,5 @@
 -- `say_put::fill` meets its contract.
 -- Assumes nothing.
-use Prim.Native.Nat.{◌-◌}
 use Rattle.say_put.proofs.Clipping.{clip_long}
 use Rattle.say_put.proofs.Filling.{filling_start, filling_mark, filling_byte, filling_lf, filling_end}
 use Rattle.say_put.proofs.fill.Goals as goal

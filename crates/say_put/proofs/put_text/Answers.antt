@@ -1,6 +1,5 @@
 -- `say_put::put_text` meets its contract.
 -- Assumes nothing.
-use Prim.Native.Nat.{◌-◌}
 use Rattle.say_put.proofs.Clipping.{copied_start, copied_turn, copied_full, copied_end, clip_long}
 use Rattle.say_put.proofs.put_text.Goals as goal
 

@@ -1,6 +1,5 @@
 -- `say_shown::put_shown` meets its contract.
 -- Assumes nothing.
-use Prim.Native.Nat.{◌-◌}
 use Rattle.say_put.proofs.Clipping.{clip_long}
 use Rattle.say_shown.proofs.Showing.{showing_start, showing_turn, showing_end}
 use Rattle.say_shown.proofs.put_shown.Goals as goal

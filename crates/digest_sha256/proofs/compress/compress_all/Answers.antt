@@ -1,6 +1,6 @@
 -- `digest_sha256::compress::compress_all` meets its contract.
 -- Assumes nothing.
-use Rattle.std.proofs.Common.{◌-◌, arith, length-drop, length-take}
+use Rattle.std.proofs.Common.{arith, length-drop, length-take}
 use Rattle.digest_sha256.proofs.Blocks.{hashing_start, hashing_turn, hashing_end}
 use Rattle.digest_sha256.proofs.compress.compress_all.Goals as goal
 

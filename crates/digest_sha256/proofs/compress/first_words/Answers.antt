@@ -1,6 +1,6 @@
 -- `digest_sha256::compress::first_words` meets its contract.
 -- Assumes nothing.
-use Rattle.std.proofs.Common.{◌-◌, arith}
+use Rattle.std.proofs.Common.{arith}
 use Rattle.digest_sha256.proofs.Schedule.{none_filled, word_filled, words_filled}
 use Rattle.digest_sha256.proofs.compress.first_words.Goals as goal
 

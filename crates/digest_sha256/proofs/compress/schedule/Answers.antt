@@ -1,6 +1,6 @@
 -- `digest_sha256::compress::schedule` meets its contract.
 -- Assumes nothing.
-use Rattle.std.proofs.Common.{◌-◌, arith}
+use Rattle.std.proofs.Common.{arith}
 use Rattle.digest_sha256.proofs.Schedule.{next_filled, all_filled}
 use Rattle.digest_sha256.proofs.compress.schedule.Goals as goal
 

@@ -1,6 +1,5 @@
 -- `digest_sha256::compress::turns` meets its contract.
 -- Assumes nothing.
-use Rattle.std.proofs.Common.{◌-◌}
 use Rattle.digest_sha256.proofs.Turns.{turning_start, turning_turn, turning_low, turning_end}
 use Rattle.digest_sha256.proofs.compress.turns.Goals as goal
 

@@ -1,0 +1,7 @@
+-- `moldthatch::counts::moldthatch_count` meets its contract.
+-- Assumes nothing.
+use Rattle.moldthatch.proofs.Telling.{tells_totals}
+use Rattle.moldthatch.proofs.counts.moldthatch_count.Goals as goal
+
+pub returns : goal.returns
+returns c = search tells_totals

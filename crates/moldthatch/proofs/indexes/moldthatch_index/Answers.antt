@@ -1,0 +1,7 @@
+-- `moldthatch::indexes::moldthatch_index` meets its contract.
+-- Assumes nothing.
+use Rattle.moldthatch.proofs.Telling.{tells}
+use Rattle.moldthatch.proofs.indexes.moldthatch_index.Goals as goal
+
+pub returns : goal.returns
+returns c = search tells
