@@ -16,7 +16,11 @@ pub returns-then-is_long_dash : goal.returns-then-is_long_dash
 returns-then-is_long_dash c = search kind_dash
 
 pub returns-then-width-gt1 : goal.returns-then-width-gt1
-returns-then-width-gt1 c = search kind_character
+returns-then-width-gt1 c =
+    kind_character c.args.text.now c.if-width-gt1.true c.width.ensures c.if-is_long_dash.false c.is_long_dash.ensures c.if-is_no_break_space.false c.is_no_break_space.ensures
+    c.if-is_curly_quote.false c.is_curly_quote.ensures c.if-begins.false c.begins.ensures
 
 pub returns : goal.returns
-returns c = search kind_byte
+returns c =
+    kind_byte c.args.text.now c.if-width-gt1.false c.width.ensures c.if-is_long_dash.false c.is_long_dash.ensures c.if-is_no_break_space.false c.is_no_break_space.ensures
+    c.if-is_curly_quote.false c.is_curly_quote.ensures c.if-begins.false c.begins.ensures
