@@ -16,7 +16,7 @@ use Rattle.image_bytes.specs.ImageBytes.{target_at}
 use Rattle.image_readers.specs.declared.Line.{Line}
 use Rattle.image_readers.specs.Chain.{Chain, here, on, Leads}
 use Rattle.image_readers.specs.Image.{Found, line, end}
-use Rattle.image_readers.specs.Lined.{Ending, ended, faulted, Lined, lined_from}
+use Rattle.image_readers.specs.Lined.{Ending, ended, faulted, Lined}
 use Rattle.image_readers.specs.Lines.{lines_of}
 use Rattle.image_readers.specs.Links.{link_step}
 use Rattle.image_readers.proofs.ByLinks.{link_sound}

@@ -1,7 +1,7 @@
 -- Every line's offset fits its 16 bits (document 02, No. 13: "That every line's offset fits is proved"), and so does its number: a line that
 -- is found lies five bytes or more before where its link leads, and a link of 16 bits leads no further than offset 65,537.
 -- Assumes nothing.
-use Prim.Native.Nat.{ℕ, ◌+◌, ◌-◌, ◌*◌, ◌<◌}
+use Prim.Native.Nat.{ℕ, ◌+◌, ◌<◌}
 use mathlib.Core.Path.{◌≡◌}
 use mathlib.Core.List.{List}
 use native.Mathlib.Omega.{arith}

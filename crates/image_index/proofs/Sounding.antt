@@ -4,7 +4,6 @@ use Prim.Native.Nat.{ℕ}
 use mathlib.Core.Path.{◌≡◌, refl, sym, ap, ◌∙◌}
 use mathlib.Core.List.{List, [], ◌∷◌}
 use native.Mathlib.Omega.{arith}
-use Rattle.base_refusals.specs.Numbers.{Numbered}
 use Rattle.base_refusals.specs.Answer.{Answer, done, refused, map_done, numbered}
 use Rattle.base_refusals.specs.declared.Refusal.{Refusal}
 use Rattle.image_readers.specs.declared.Line.{Line}

@@ -1,6 +1,6 @@
 -- Reading an index back gives the same lines and jumps (document 02, No. 13: "reading the index back gives the same entries").
 -- Assumes nothing.
-use Prim.Native.Nat.{ℕ, zero, suc, ◌+◌, ◌-◌, ◌*◌, ◌/◌, ◌^◌, ◌≤◌, ◌<◌, min}
+use Prim.Native.Nat.{ℕ, ◌+◌, ◌-◌, ◌*◌, ◌/◌, ◌^◌, ◌<◌, min}
 use mathlib.Core.Path.{◌≡◌, refl, sym, ap, ◌∙◌}
 use mathlib.Core.List.{List, [], ◌∷◌, ◌++◌, map, append_assoc}
 use native.Mathlib.Omega.{arith}
@@ -12,8 +12,7 @@ use Rattle.base_bits.proofs.Bytes.{Padded, packed_back, length_bits}
 use Rattle.base_bits.proofs.Reading.{number_bits, length_bytes}
 use Rattle.image_readers.specs.IndexLines.{IndexLine}
 use Rattle.image_index.specs.Index.{IndexJump, LineIndex, line_fields, jump_fields, index_fields}
-use Rattle.image_index_entries.specs.declared.Held.{Held}
-use Rattle.image_index_entries.specs.Entries.{Two, two_at, pairs_read, count_held, line_pairs, jump_pairs, line_of, jump_of, lines_held, jumps_held, first_line, look_up}
+use Rattle.image_index_entries.specs.Entries.{Two, pairs_read, count_held, line_pairs, jump_pairs, line_of, jump_of, lines_held, jumps_held, first_line, look_up}
 
 -- ---- a field behind other bits
 

@@ -7,22 +7,22 @@ use mathlib.Core.List.{List, [], ◌∷◌, ◌++◌, map}
 use native.Mathlib.Omega.{arith}
 use lib.Dec.{ltb}
 use lib.ListN.{length, get_or, length-map}
-use borrow.Author.Tests.{ltb-true, ltb-false}
-use Rattle.base_refusals.specs.Numbers.{Numbered, too_many_lines, target_too_high}
+use borrow.Author.Tests.{ltb-false}
+use Rattle.base_refusals.specs.Numbers.{too_many_lines, target_too_high}
 use Rattle.base_refusals.specs.Answer.{Answer, done, refused, and_then}
 use Rattle.image_readers.specs.declared.Line.{Line}
 use Rattle.image_readers.specs.Bodies.{body_of}
 use Rattle.image_readers.specs.Chain.{Chain, here, on, Leads}
-use Rattle.image_readers.specs.Lines.{lines_from, lines_of}
+use Rattle.image_readers.specs.Lines.{lines_of}
 use Rattle.image_readers.specs.Links.{link_step}
 use Rattle.image_readers.proofs.ByLinks.{link_sound}
 use Rattle.image_readers.proofs.Reading.{lines_lead}
 use Rattle.image_jumps.specs.Jumps.{jumps_of}
 use Rattle.base_bits.specs.Bits.{packed}
-use Rattle.image_readers.specs.IndexLines.{IndexLine, index_line}
+use Rattle.image_readers.specs.IndexLines.{index_line}
 use Rattle.image_index.specs.Index.{IndexJump, LineIndex, jump_to, jumps_in, any_too_high, index_lines, indexed, index_fields}
 use Rattle.image_index.proofs.Fitting.{offset_fits, number_fits}
-use Rattle.image_index_entries.specs.Entries.{Two, lines_held, jumps_held, first_line, look_up}
+use Rattle.image_index_entries.specs.Entries.{lines_held, jumps_held, first_line, look_up}
 use Rattle.image_index_entries.proofs.Back.{Fit, Fits, line_two, jump_two, lines_back, jumps_back, look_up_searches}
 
 -- ---- lines

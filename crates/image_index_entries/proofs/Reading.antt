@@ -13,10 +13,9 @@ use borrow.Author.Tests.{eq-eqb, ne_eqb}
 use Rattle.base_bits.specs.Bits.{bits_of, bytes_bits, number_from, field_at}
 use Rattle.base_bits.proofs.Bytes.{length_bits}
 use Rattle.base_bits.proofs.Reading.{number_bits}
-use Rattle.image_readers.specs.IndexLines.{IndexLine}
 use Rattle.image_index_entries.specs.declared.Held.{Held}
 use Rattle.image_index_entries.specs.declared.Held.TheVariants.{Nothing, Numbers}
-use Rattle.image_index_entries.specs.Entries.{Two, two_at, line_of, pairs_read, count_held, line_pairs, jump_pairs, entry_in, lines_held, first_line, look_up}
+use Rattle.image_index_entries.specs.Entries.{Two, two_at, line_of, pairs_read, count_held, line_pairs, jump_pairs, entry_in, first_line, look_up}
 
 -- ---- behind whole bytes
 

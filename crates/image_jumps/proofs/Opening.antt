@@ -2,7 +2,6 @@
 -- Assumes nothing.
 use Prim.Native.Nat.{ℕ, ◌+◌, ◌-◌, ◌≤◌, ◌<◌}
 use mathlib.Core.Path.{◌≡◌, refl, sym, ap, ◌∙◌, subst}
-use mathlib.Core.Bool.{true, false, cond}
 use mathlib.Core.List.{List, [], ◌∷◌, ◌++◌}
 use native.Mathlib.Omega.{arith}
 use mir.Syntax.{w64}
@@ -14,7 +13,7 @@ use Rattle.base_ascii.specs.Search.{equals, front, past}
 use Rattle.base_ascii.proofs.Searching.{here, tail, front_le}
 use Rattle.image_units.specs.declared.Mode.{Mode}
 use Rattle.image_units.specs.declared.Mode.TheVariants.{Plain, Quoted, Remark, Data, QuotedData}
-use Rattle.image_units.specs.Units.{mode_behind, unquoted_unit, unit_at}
+use Rattle.image_units.specs.Units.{mode_behind, unit_at}
 use Rattle.image_jumps.specs.declared.Part.TheVariants.{Empty}
 use Rattle.image_jumps.specs.declared.Opened.{Opened}
 use Rattle.image_jumps.specs.declared.Opened.TheVariants.{List as ListAt, Nothing}

@@ -1,14 +1,13 @@
 -- The targets of a list, case by case; and that cutting a value before its other digits are read changes no value that is cut.
 -- Assumes nothing.
-use Prim.Native.Nat.{ℕ, ◌+◌, ◌-◌, ◌*◌, ◌≤◌, ◌<◌, min}
+use Prim.Native.Nat.{ℕ, ◌-◌}
 use mathlib.Core.Path.{◌≡◌, refl, sym, ap, ◌∙◌}
 use mathlib.Core.Bool.{Bool, true, false}
 use mathlib.Core.List.{List, [], ◌∷◌, map}
 use native.Mathlib.Omega.{arith}
 use lib.Dec.{eqb}
 use borrow.Author.Tests.{eq-eqb, ne_eqb, eqb-true, eqb-false}
-use Rattle.base_ascii.specs.Bytes.{between, is_digit}
-use Rattle.base_ascii.proofs.Ranges.{between_in}
+use Rattle.base_ascii.specs.Bytes.{is_digit}
 use Rattle.image_jumps.specs.declared.Part.{Part}
 use Rattle.image_jumps.specs.declared.Part.TheVariants.{Empty, Worth}
 use Rattle.image_jumps.specs.Jumps.{with_digit, jump_told, targets_from, low}

@@ -1,24 +1,24 @@
 -- Walking over a body: the jumps of bytes are those of the list that the first unit opens, and those of what is left behind the unit;
 -- and a byte that opens nothing, quotes nothing and ends nothing may be passed.
 -- Assumes nothing.
-use Prim.Native.Nat.{ℕ, suc, ◌+◌, ◌-◌, ◌≤◌, ◌<◌}
+use Prim.Native.Nat.{ℕ, suc, ◌<◌}
 use mathlib.Core.Path.{◌≡◌, refl, sym, ap, ◌∙◌}
-use mathlib.Core.Bool.{Bool, true, false, cond}
+use mathlib.Core.Bool.{Bool, true, false}
 use mathlib.Core.List.{List, [], ◌∷◌, ◌++◌}
 use native.Mathlib.Omega.{arith}
 use lib.Dec.{eqb}
 use lib.ListN.{length, drop, length-drop}
-use borrow.Author.Tests.{eq-eqb, ne_eqb, eqb-true, eqb-false}
+use borrow.Author.Tests.{ne_eqb, eqb-true}
 use Rattle.base_steps.proofs.Nearer.{Nearer, again_on}
 use Rattle.base_ascii.specs.Search.{equals, front, past}
 use Rattle.base_ascii.proofs.Searching.{front_more, front_none}
 use Rattle.image_units.specs.declared.Mode.{Mode}
 use Rattle.image_units.specs.declared.Mode.TheVariants.{Plain, Quoted, Remark, Data, QuotedData}
 use Rattle.image_units.specs.declared.Taken.{Taken}
-use Rattle.image_units.specs.Units.{mode_behind, unquoted_unit, quoted_unit, unit_at}
+use Rattle.image_units.specs.Units.{mode_behind, unit_at}
 use Rattle.image_units.proofs.Walking.{unit_takes}
 use Rattle.image_jumps.specs.declared.Part.TheVariants.{Empty}
-use Rattle.image_jumps.specs.Jumps.{targets_from, list_behind, opened_list, heeded, jumps_on, jumps_from}
+use Rattle.image_jumps.specs.Jumps.{targets_from, opened_list, heeded, jumps_on, jumps_from}
 use Rattle.image_jumps.proofs.Targets.{targets_none}
 
 nearer : Nearer (λ (x : Mode × List ℕ). length x.1) (λ f x. jumps_on f x.0 x.1)

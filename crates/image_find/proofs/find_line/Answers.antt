@@ -1,6 +1,5 @@
 -- `image_find::find_line` meets its contract.
 -- Assumes nothing.
-use Prim.Native.Nat.{◌-◌}
 use Rattle.image_find.proofs.Seeking.{sought_long, sought_short, none_start, line_limit, line_found, none_turn, next_less, visit_fits, end_nowhere, fault_limit, fault_refused}
 use borrow.Author.Rules.{rules}
 use Rattle.image_find.proofs.find_line.Goals as goal

@@ -1,6 +1,5 @@
 -- `image_index::count_jumps` meets its contract.
 -- Assumes nothing.
-use Prim.Native.Nat.{◌-◌}
 use Rattle.image_index.proofs.Counting.{lines_start, body_runs, body_within, body_low, count_low, lines_high, lines_turn, lines_less, lines_end, lines_fault}
 use Rattle.image_index.proofs.count_jumps.Goals as goal
 

@@ -1,7 +1,6 @@
 -- `image_index::put_jumps` meets its contract.
 -- Assumes nothing.
 use Rattle.base_bits.proofs.Pens.{drawn_same}
-use Prim.Native.Nat.{◌-◌}
 use Rattle.image_index.proofs.Putting.{jumps_start, jumps_runs, jumps_within, jumps_less, place_fits, jumps_ready, jumps_turn, jumps_end, jumps_fault}
 use Rattle.image_index.proofs.put_jumps.Goals as goal
 

@@ -1,7 +1,6 @@
 -- `image_index::put_lines` meets its contract.
 -- Assumes nothing.
 use Rattle.base_bits.proofs.Pens.{drawn_same}
-use Prim.Native.Nat.{◌-◌}
 use Rattle.image_index.proofs.Putting.{lines_start, line_low, line_less, line_ready, line_turn, line_end, line_fault}
 use borrow.Author.Rules.{rules}
 use Rattle.image_index.proofs.put_lines.Goals as goal

@@ -1,6 +1,5 @@
 -- `image_index_entries::look_up` meets its contract.
 -- Assumes nothing.
-use Prim.Native.Nat.{◌-◌}
 use native.Mathlib.Omega.{arith}
 use Rattle.image_index_entries.proofs.Reading.{looking_start, looking_found, looking_turn, looking_end}
 use Rattle.image_index_entries.proofs.look_up.Goals as goal

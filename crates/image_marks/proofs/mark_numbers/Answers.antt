@@ -1,6 +1,5 @@
 -- `image_marks::mark_numbers` meets its contract.
 -- Assumes nothing.
-use Prim.Native.Nat.{◌-◌}
 use native.Mathlib.Omega.{arith}
 use lib.ListN.{length-set}
 use Rattle.image_marks.proofs.Marking.{marks_start, marks_turn, marks_past, marks_less, marks_end, marks_fault}
