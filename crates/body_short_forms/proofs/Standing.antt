@@ -24,7 +24,7 @@ use Rattle.word_search.proofs.Comparing.{raise_shortens}
 use Rattle.word_search.proofs.Search.{and_left, and_right}
 use Rattle.word_tables.specs.Rom.{v2_words}
 use Rattle.word_tables.specs.Tsb.{tsb_words}
-use Rattle.body_short_forms.specs.Forms.{is_small, is_capital, letters_of, form_letters, stands_for, word_for, short_form, tsb_there, form_word}
+use Rattle.body_short_forms.specs.Forms.{is_small, is_capital, form_letters, stands_for, word_for, short_form, tsb_there, form_word}
 use Rattle.word_tables.specs.WordsHelpers.{capitals}
 use Rattle.word_match.specs.declared.sets.Sets.{Sets}
 use Rattle.word_match.proofs.Storage.{first_capitals}

@@ -1,10 +1,9 @@
 -- Short forms by computation: the place of the word in the list, the letters used up, and the token.
 -- Assumes nothing.
-use Prim.Native.Nat.{ℕ}
 use Prim.Native.String.{String}
 use mathlib.Core.Path.{◌≡◌, refl}
 use mathlib.Core.Bool.{true, false}
-use mathlib.Core.List.{List, []}
+use mathlib.Core.List.{[]}
 use Rattle.base_ascii.specs.Bytes.{between, upper}
 use Rattle.base_ascii.specs.Search.{front}
 use Rattle.word_search.specs.Spelling.{bytes_of}

@@ -1,6 +1,6 @@
 -- For helpers of crunching alone: what the { in front of one } share.
 -- Assumes nothing.
-use Rattle.std.specs.Prelude.{ℕ, ◌+◌, ◌-◌, ◌≤◌, ◌<◌, ◌≡◌, List, length, get_or, take, drop}
+use Rattle.std.specs.Prelude.{ℕ, ◌+◌, ◌-◌, ◌≤◌, ◌<◌, ◌≡◌, List, get_or, take, drop}
 use Rattle.base_ascii.specs.Search.{equals, before}
 use Rattle.escapes.specs.TailHelpers.{TailOf}
 use Rattle.body_steps.specs.declared.string.Span.{Span}

@@ -4,12 +4,10 @@ use Prim.Native.Nat.{ℕ, zero, suc}
 use mathlib.Core.Path.{◌≡◌, refl, sym, ap, ◌∙◌}
 use mathlib.Core.Bool.{Bool, true, false, cond}
 use mathlib.Core.List.{List, [], ◌∷◌, ◌++◌}
-use mathlib.Core.Option.{Option}
 use lib.Dec.{eqb}
 use lib.ListN.{length, drop}
 use Rattle.base_steps.specs.Again.{again}
 use Rattle.base_refusals.specs.Answer.{Answer, done, refused, map_done, and_then}
-use Rattle.word_search.specs.declared.Match.{Match}
 use Rattle.word_search.specs.declared.Match.TheVariants.{Word, Nothing}
 use Rattle.word_match.specs.Sets.{live_word, plain_word, with_forms}
 use Rattle.word_match.specs.declared.sets.Sets.{Sets}
@@ -23,17 +21,16 @@ use Rattle.text_lines.specs.TextLines.{text_lines}
 use Rattle.guess.specs.Guess.{evidence, names, none_demoted, word_sets}
 use Rattle.body.specs.Body.{written, move_then, crunch_on, crunched_from, crunched_body}
 use Rattle.body_rules.specs.Lexicon.{Lexicon, lexicon}
-use Rattle.body_rules.specs.Steps.{first, one, token, opened, sign_step, form_step, plain_step, string_step, data_step, data_quote_step, crunch_step}
+use Rattle.body_rules.specs.Steps.{first, one, token, opened, sign_step, form_step, plain_step, crunch_step}
 use Rattle.body_rules.specs.declared.Mode.{Mode}
 use Rattle.body_rules.specs.declared.Mode.TheVariants.{Plain, String, Remark, Data, DataQuote}
 use Rattle.body_rules.specs.declared.Move.{Move}
 use Rattle.image_readers.specs.NumberedBody.{NumberedBody}
 use Rattle.image_layout.specs.Layout.{image_of}
 use Rattle.image_layout.specs.Reads.{lines_at}
-use Rattle.crunch_profile.specs.Profile.{line_allowed, allowed, least_behind}
+use Rattle.crunch_profile.specs.Profile.{allowed, least_behind}
 use Rattle.crunch_rules.specs.Crunched.{lines_read, text_line, line_under, last_link, crunch_lines, text_lexicon, crunched_lines, crunched}
 use Rattle.crunch_rules.specs.Measured.{nonblank_lines, with_text_lines, entry_from, measured_lines, line_measured}
-use Rattle.crunch_rules.specs.declared.MeasuredLine.{MeasuredLine}
 use Rattle.crunch_rules.specs.declared.Options.{Options}
 use Rattle.crunch_laws.specs.BeforeShortForms.{plain_before, step_before, on_before, body_before, line_before, line_under_before, lines_before, crunched_before}
 

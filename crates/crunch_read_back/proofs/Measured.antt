@@ -3,7 +3,7 @@
 use Prim.Native.Nat.{ℕ, suc, ◌+◌, ◌-◌, ◌≤◌}
 use mathlib.Core.Path.{◌≡◌, refl, sym, ap, ◌∙◌, subst}
 use mathlib.Core.Bool.{Bool}
-use mathlib.Core.List.{List, [], ◌∷◌, ◌++◌, map}
+use mathlib.Core.List.{List, [], ◌∷◌, ◌++◌}
 use native.Mathlib.Omega.{arith}
 use lib.ListN.{length, length-append}
 use Rattle.base_refusals.specs.Answer.{Answer, done, refused, map_done, and_then}
@@ -15,7 +15,7 @@ use Rattle.body_rules.specs.Lexicon.{Lexicon}
 use Rattle.image_bytes.specs.ImageBytes.{address_at}
 use Rattle.image_readers.specs.declared.Line.{Line}
 use Rattle.image_readers.specs.NumberedBody.{NumberedBody}
-use Rattle.image_layout.specs.Layout.{end_address, image_of}
+use Rattle.image_layout.specs.Layout.{image_of}
 use Rattle.image_layout.specs.Reads.{least_load, lines_at, LinksLead}
 use Rattle.image_layout.proofs.ReadBack.{links_lead, marker_read, end_marker}
 use Rattle.crunch_profile.specs.Profile.{least_behind}
@@ -27,7 +27,7 @@ use Rattle.crunch_rules.specs.declared.Options.{Options}
 use Rattle.crunch_rules.proofs.Lining.{Taken, taken, under_plain, cons_taken, cons_refused}
 use Rattle.crunch_rules.proofs.Placing.{lines_at_length, as_many}
 use Rattle.crunch_read_back.specs.MeasuredBack.{AscendFrom, image_lines, origins, ComeFrom, MeasuredBack}
-use Rattle.crunch_read_back.proofs.Demand.{Behind, behind, crunched_laid, read_back}
+use Rattle.crunch_read_back.proofs.Demand.{behind, crunched_laid, read_back}
 
 -- ---- the places of nonblank lines ascend
 

@@ -10,7 +10,7 @@ use lib.ListN.{length, take}
 use lib.Seq.{sets, length-sets, length-take-le}
 use borrow.Author.Tests.{leb-true}
 use Rattle.base_refusals.specs.Numbers.{no_room}
-use Rattle.base_refusals.specs.Answer.{Answer, done, refused, numbered}
+use Rattle.base_refusals.specs.Answer.{Answer, done, refused}
 use Rattle.base_lent.specs.Lent.{Lent, into_buffer, left}
 use Rattle.base_lent.specs.declared.Outcome.{Outcome}
 use Rattle.base_lent.specs.declared.Outcome.TheVariants.{Done, Refused}

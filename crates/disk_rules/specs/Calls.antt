@@ -1,13 +1,12 @@
 -- What the five calls do to a disk, and answer (docs/RULES.md, "Disks").
 -- Assumes nothing.
-use Rattle.std.specs.Prelude.{ℕ, zero, suc, ◌+◌, ◌-◌, ◌*◌, ◌/◌, ◌%◌, max, Bool, true, false, cond, not, ◌&&◌, ◌||◌, List, [], ◌∷◌, ◌++◌, leb, ltb, eqb, length, get_or, take, drop, replicate, set}
+use Rattle.std.specs.Prelude.{ℕ, zero, suc, ◌+◌, ◌-◌, ◌*◌, ◌/◌, ◌%◌, max, Bool, true, false, cond, not, ◌&&◌, List, [], ◌∷◌, ◌++◌, leb, ltb, eqb, length, get_or, take, drop, replicate, set}
 use Rattle.std.proofs.lemmas.List.Edits.{sets}
-use Rattle.base_refusals.specs.Numbers.{Numbered, bad_disk, bad_name, name_taken, no_such_file, directory_full, disk_full}
+use Rattle.base_refusals.specs.Numbers.{bad_disk, bad_name, name_taken, no_such_file, directory_full, disk_full}
 use Rattle.base_refusals.specs.Answer.{Answer, done, refused, numbered}
 use Rattle.disk_rules.specs.Places.{track_of, sector_of}
 use Rattle.disk_rules.specs.Map.{marked}
 use Rattle.disk_rules.specs.Lists.{numbers_from, those, some, is_in}
-use Rattle.disk_rules.specs.Chains.{Chain}
 use Rattle.disk_rules.specs.Free.{free_sectors, marked_all}
 use Rattle.disk_rules.specs.Entries.{directory, listed, entries_that, is_named, chain_of}
 use Rattle.disk_rules.specs.Check.{sound}

@@ -1,10 +1,10 @@
 -- The map beside the chains (docs/RULES.md, "Disks", "The check": "for every track but 18 the 24 bits are 1 exactly for its sectors in no chain, bits beyond
 -- its sectors 0"), and the sectors that it calls free.
 -- Assumes nothing.
-use Rattle.std.specs.Prelude.{ℕ, ◌+◌, ◌/◌, ◌%◌, Bool, true, false, cond, not, ◌&&◌, ◌||◌, List, [], ◌∷◌, ltb, eqb}
+use Rattle.std.specs.Prelude.{ℕ, ◌+◌, ◌/◌, ◌%◌, Bool, cond, not, ◌&&◌, ◌||◌, List, [], ◌∷◌, ltb, eqb}
 use Rattle.disk_rules.specs.Places.{sectors_on, sector_at}
 use Rattle.disk_rules.specs.Map.{bit_at, is_free, marked}
-use Rattle.disk_rules.specs.Lists.{numbers_from, those, every, is_in}
+use Rattle.disk_rules.specs.Lists.{numbers_from, those, every}
 
 -- the bit of the sector s of track t, where a test says which sectors are in a chain
 abbrev pub bit_agrees : List ℕ → (ℕ → Bool) → ℕ → ℕ → Bool

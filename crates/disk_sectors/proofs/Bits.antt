@@ -1,16 +1,16 @@
 -- Bits of a byte: one that is 0 leaves room for its power, one that is 1 holds it; and a byte with a bit changed.
 -- Assumes nothing.
-use Prim.Native.Nat.{ℕ, zero, suc, ◌+◌, ◌-◌, ◌*◌, ◌/◌, ◌%◌, ◌^◌, ◌≤◌, ◌<◌}
-use mathlib.Core.Path.{◌≡◌, refl, sym, ap, ◌∙◌}
-use mathlib.Core.Bool.{Bool, true, false, cond}
+use Prim.Native.Nat.{ℕ, zero, suc, ◌+◌, ◌-◌, ◌/◌, ◌%◌, ◌^◌, ◌≤◌, ◌<◌}
+use mathlib.Core.Path.{◌≡◌, ap}
+use mathlib.Core.Bool.{Bool, true, false}
 use mathlib.Core.List.{List}
 use lib.Dec.{eqb}
 use lib.ListN.{get_or, set}
-use borrow.Author.Tests.{le-ltb, lt-ltb, lt-leb, le-leb, eq-eqb, ne_eqb}
+use borrow.Author.Tests.{le-ltb, lt-ltb, eq-eqb, ne_eqb}
 use native.Mathlib.Omega.{arith}
 use mir.Val.{Fits}
 use mir.Syntax.{w8}
-use Rattle.disk_rules.specs.Places.{track_of, sector_of, off_track18}
+use Rattle.disk_rules.specs.Places.{track_of, sector_of}
 use Rattle.disk_rules.specs.Map.{bit_of, ones, with_bit, map_at, bit_at, is_free, marked}
 
 pub bit_room : (b k : ℕ) → k < 8 → b < 256 → bit_of b k < 1 → b + 2 ^ k < 256

@@ -1,14 +1,13 @@
 -- The four zones of a disk: what is chosen by them, and what a track and a sector link to.
 -- Assumes nothing.
 use Prim.Native.Nat.{ℕ, ◌+◌, ◌≤◌, ◌<◌}
-use mathlib.Core.Path.{◌≡◌, refl, sym}
+use mathlib.Core.Path.{◌≡◌}
 use mathlib.Core.Bool.{cond}
 use lib.Dec.{ltb}
 use borrow.Author.Tests.{lt-ltb, le-ltb, lt-leb, le-leb, eq-eqb, ne_eqb}
 use native.Mathlib.Omega.{arith}
 use Rattle.disk_rules.specs.Places.{sectors_on, sectors_before}
 use Rattle.disk_rules.specs.Links.{link_to}
-use Rattle.disk_rules.specs.declared.Link.{Link}
 use Rattle.disk_rules.specs.declared.Link.TheVariants.{Last, To, Astray}
 
 -- one of four by three bounds

@@ -1,6 +1,6 @@
 -- The line that decides the dialect of a text (document 01, "Guessing the dialect").
 -- Assumes nothing.
-use Rattle.std.specs.Prelude.{ℕ, suc, ◌+◌, true, false, List, [], ◌∷◌}
+use Rattle.std.specs.Prelude.{ℕ, ◌+◌, true, false, List, [], ◌∷◌}
 use Rattle.word_search.specs.Find.{word_in}
 use Rattle.word_search.specs.declared.Match.TheVariants.{Word, Nothing}
 use Rattle.word_tables.specs.Tsb.{tsb_words}

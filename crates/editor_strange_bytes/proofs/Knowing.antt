@@ -2,17 +2,17 @@
 -- Assumes nothing.
 use Prim.Native.Nat.{ℕ, ◌+◌, ◌-◌, ◌≤◌, ◌<◌}
 use mathlib.Core.Path.{◌≡◌, refl, sym, ap, ◌∙◌}
-use mathlib.Core.Bool.{Bool, true, false, cond, not, ◌&&◌, ◌||◌, false≢true, true≢false}
+use mathlib.Core.Bool.{Bool, true, false, cond, not, false≢true, true≢false}
 use mathlib.Core.List.{List, [], ◌∷◌}
 use native.Mathlib.Omega.{arith}
-use lib.Dec.{leb, ltb}
+use lib.Dec.{ltb}
 use lib.ListN.{length, get_or, take, drop, get_or-eq_default, drop_of_length-le, length-drop}
 use borrow.Author.Tests.{le-leb, lt-leb, lt-ltb, le-ltb, ltb-true}
 use mir.Syntax.{w64}
 use mir.Val.{Fits}
 use Rattle.base_refusals.specs.Answer.{Answer, done, refused, numbered}
 use Rattle.base_refusals.specs.Code.{code_of}
-use Rattle.base_refusals.specs.Numbers.{Numbered, bad_byte, text_too_long}
+use Rattle.base_refusals.specs.Numbers.{Numbered, bad_byte}
 use Rattle.base_refusals.specs.declared.Code.{Code}
 use Rattle.base_refusals.specs.declared.Refusal.{Refusal}
 use Rattle.base_ascii.specs.Bytes.{between}
@@ -25,7 +25,6 @@ use Rattle.base_ascii.proofs.Choice.{taken, left}
 use Rattle.editor_strange_bytes.specs.Foreign.{is_inner, inner_behind, inner_asked, width_of, is_utf16, is_mark_of_order, is_curly_quote, is_no_break_space, is_long_dash, kind_of, stranger_in, first_stranger}
 use Rattle.editor_strange_bytes.specs.declared.Foreign.{Foreign}
 use Rattle.editor_strange_bytes.specs.declared.Foreign.TheVariants.{OrderMark, CurlyQuote, NoBreakSpace, LongDash, Character, LoneByte}
-use Rattle.editor_strange_bytes.specs.declared.Stranger.{Stranger}
 use Rattle.editor_strange_bytes.specs.declared.Stranger.TheVariants.{There, Nowhere, TooLong}
 
 pub byte_behind : (t : List ℕ) {i : ℕ} → length t ≤ i → 0 ≡ get_or t i 0

@@ -9,7 +9,6 @@ use native.Mathlib.Omega.{arith}
 use lib.ListN.{length, length-take, length-drop}
 use Rattle.base_ascii.specs.Bytes.{is_letter, is_space}
 use Rattle.base_ascii.specs.Search.{equals, other, front, before, past, last, past_end}
-use Rattle.base_ascii.specs.declared.search.Found.{Found}
 use Rattle.base_ascii.specs.declared.search.Found.TheVariants.{At, Nowhere}
 use Rattle.base_ascii.proofs.Searching.{front_le, front_drop, before_take, end_take}
 use Rattle.base_ascii.specs.Trim.{trim}
@@ -19,7 +18,7 @@ use Rattle.word_search.specs.declared.Match.TheVariants.{Word, Nothing}
 use Rattle.word_tables.specs.Escapes.{escape_names}
 use Rattle.escape_numbers.specs.Numbers.{number_of, hex_of}
 use Rattle.escape_bytes.specs.Keys.{key_names, key_with, keyed, key_escape}
-use Rattle.escape_bytes.specs.Escape.{name_escape, starred, counted_name, counted_escape, escape_of}
+use Rattle.escape_bytes.specs.Escape.{name_escape, counted_name, escape_of}
 use Rattle.escape_bytes.specs.declared.Key.{Key}
 use Rattle.escape_bytes.specs.declared.Key.TheVariants.{Control, Commodore, Shift}
 use Rattle.escape_numbers.specs.declared.Number.{Number}

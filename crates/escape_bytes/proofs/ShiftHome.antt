@@ -1,13 +1,13 @@
 -- `sh home` gives 93, the code of CLR, where the Rust's list gives 53; every other escape gives what it gave (document 02, No. 3).
 -- Assumes nothing.
-use Prim.Native.Nat.{ℕ, zero, suc, ◌-◌, ◌≤◌}
+use Prim.Native.Nat.{ℕ, suc}
 use mathlib.Core.Path.{◌≡◌, refl, sym, ap, ◌∙◌}
 use mathlib.Core.Bool.{Bool, true, false, ◌&&◌, false≢true}
 use mathlib.Core.List.{List, [], ◌∷◌}
 use native.Mathlib.Omega.{arith}
-use lib.Dec.{eqb, ltb}
+use lib.Dec.{eqb}
 use lib.ListN.{length}
-use borrow.Author.Tests.{eq-eqb, ne_eqb, eqb-true, le-ltb}
+use borrow.Author.Tests.{ne_eqb, eqb-true, le-ltb}
 use Rattle.base_ascii.specs.Bytes.{between, is_digit, upper}
 use Rattle.base_ascii.specs.Trim.{trim}
 use Rattle.base_ascii.proofs.Ranges.{between_in}
@@ -24,7 +24,7 @@ use Rattle.escape_bytes.specs.Keys.{key_escape}
 use Rattle.escape_bytes.specs.Escape.{name_escape_in, name_escape, Counted, counted_name, escape_in, escape_of}
 use Rattle.escape_numbers.specs.declared.Number.TheVariants.{Value, Missing}
 use Rattle.escape_bytes.specs.declared.Escape.{Escape}
-use Rattle.escape_bytes.specs.declared.Escape.TheVariants.{Byte, Unknown}
+use Rattle.escape_bytes.specs.declared.Escape.TheVariants.{Byte}
 use Rattle.escape_numbers.proofs.Counting.{no_digit}
 
 -- ---- a list with another code for one name

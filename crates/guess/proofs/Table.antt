@@ -6,13 +6,12 @@ use mathlib.Core.Bool.{Bool, true, false}
 use mathlib.Core.List.{List, [], ◌∷◌, ◌++◌}
 use Rattle.base_ascii.specs.Bytes.{between, upper}
 use Rattle.word_search.specs.Find.{Entry}
-use Rattle.base_refusals.specs.Answer.{Answer, done}
+use Rattle.base_refusals.specs.Answer.{done}
 use Rattle.word_search.specs.Spelling.{bytes_of}
 use Rattle.word_tables.specs.Tsb.{tsb_words}
-use Rattle.word_dialects.specs.declared.Dialect.{Dialect}
 use Rattle.word_dialects.specs.declared.Dialect.TheVariants.{Auto, BasicV2, Tsb}
 use Rattle.text_lines.specs.declared.LineRule.TheVariants.{AsGiven, AfterCr}
-use Rattle.guess.specs.Guess.{evidence, names, resolved, word_sets}
+use Rattle.guess.specs.Guess.{evidence, resolved, word_sets}
 
 -- the words of a list that a set holds
 unfoldable pub held : List Bool → List Entry → List (List ℕ)

@@ -3,10 +3,10 @@
 use Prim.Native.Nat.{ℕ, ◌-◌, ◌≤◌, ◌<◌}
 use mathlib.Core.Path.{◌≡◌, refl, sym, ap, ◌∙◌}
 use mathlib.Core.Bool.{Bool, true, false}
-use mathlib.Core.List.{List, [], ◌∷◌}
+use mathlib.Core.List.{List}
 use native.Mathlib.Omega.{arith}
 use lib.ListN.{length, take, drop}
-use Rattle.base_refusals.specs.Answer.{Answer, done, refused, numbered}
+use Rattle.base_refusals.specs.Answer.{done, refused, numbered}
 use Rattle.base_refusals.specs.declared.Refusal.{Refusal}
 use Rattle.word_dialects.specs.Dialects.{is_basic35}
 use Rattle.word_dialects.specs.declared.Dialect.{Dialect}

@@ -1,7 +1,7 @@
 -- The dialect of a text and the TSB words that are live in it (document 01, "Guessing the dialect"; document 02, No. 5: "Auto never guesses
 -- it", "No TSB word is live under it").
 -- Assumes nothing.
-use Rattle.std.specs.Prelude.{ℕ, ◌≡◌, Bool, true, false, List, [], ◌∷◌, replicate}
+use Rattle.std.specs.Prelude.{ℕ, Bool, true, false, List, [], ◌∷◌, replicate}
 use Rattle.base_refusals.specs.Answer.{Answer, done, refused, numbered, and_then}
 use Rattle.word_dialects.specs.declared.Dialect.{Dialect}
 use Rattle.word_dialects.specs.declared.Dialect.TheVariants.{Auto, BasicV2, Tsb, Basic35}

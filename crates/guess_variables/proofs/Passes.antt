@@ -8,7 +8,7 @@ use native.Mathlib.Nat.{add-zero}
 use native.Mathlib.Omega.{arith}
 use lib.Dec.{eqb}
 use lib.ListN.{length, get_or, take, drop, set, drop_of_length-le, length-drop, length-set, length-reverse}
-use lib.Seq.{drop-drop, get_or-drop, take-add, take-take, take_all, length-take-le}
+use lib.Seq.{drop-drop, get_or-drop, take-add, take-take, length-take-le}
 use borrow.Author.Tests.{eq-eqb, ne_eqb, le-leb, lt-leb}
 use mir.Syntax.{w64}
 use mir.Val.{Fits}
@@ -34,7 +34,7 @@ use Rattle.guess_variables.specs.declared.Pass.{Pass}
 use Rattle.guess_variables.specs.declared.Pass.TheVariants.{Remark, On, Name}
 use Rattle.guess_uses.proofs.Behind.{rest, rest_long}
 use Rattle.guess_places.proofs.Places.{Same, stretch}
-use Rattle.guess_places.proofs.Words.{Bounded, begins_long, word_bounds, no_letter, not_rem, not_data, letter_high}
+use Rattle.guess_places.proofs.Words.{begins_long, word_bounds, no_letter, not_rem, not_data, letter_high}
 
 -- what a line has in front of a place, from the last byte back to the first
 abbrev pub passed_at : List ℕ → ℕ → List ℕ

@@ -4,8 +4,8 @@ use Prim.Native.Nat.{ℕ, ◌+◌, ◌≤◌, ◌<◌}
 use mathlib.Core.Path.{◌≡◌, refl, sym, ap, ap₂, ◌∙◌}
 use mathlib.Core.List.{List, ◌++◌, flat_map}
 use native.Mathlib.Omega.{arith}
-use lib.ListN.{length, take, drop}
-use lib.Seq.{sets, sets-eq, take_all}
+use lib.ListN.{length, drop}
+use lib.Seq.{sets-eq}
 use Rattle.base_refusals.specs.Answer.{done, refused}
 use Rattle.base_refusals.specs.Numbers.{no_room}
 use Rattle.base_lent.specs.Lent.{Lent, into_buffer}

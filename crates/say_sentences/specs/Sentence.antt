@@ -1,6 +1,6 @@
 -- The sentence of a refusal, and the line that a person reads.
 -- Assumes nothing.
-use Rattle.std.specs.Prelude.{ℕ, zero, suc, Bool, true, false, cond, List, [], ◌∷◌, ◌++◌, eqb}
+use Rattle.std.specs.Prelude.{ℕ, zero, suc, true, false, cond, List, [], ◌∷◌, ◌++◌, eqb}
 use Rattle.base_refusals.specs.declared.Code.{Code}
 use Rattle.word_search.specs.Spelling.{bytes_of}
 use Rattle.base_steps.specs.Decimal.{decimal}

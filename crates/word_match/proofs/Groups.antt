@@ -1,15 +1,15 @@
 -- The search in the group of a text's first byte is the search in the whole list: one law for every list and every test.
 -- Assumes nothing.
-use Prim.Native.Nat.{ℕ, zero, suc, ◌+◌, ◌-◌, ◌≤◌, ◌<◌}
+use Prim.Native.Nat.{ℕ, zero, suc, ◌+◌, ◌≤◌, ◌<◌}
 use mathlib.Core.Path.{◌≡◌, refl, sym, ap, ◌∙◌}
 use mathlib.Core.Bool.{Bool, true, false, ◌&&◌, false≢true}
 use mathlib.Core.List.{List, [], ◌∷◌, map}
 use native.Mathlib.Omega.{arith}
-use lib.Dec.{T, ltb, eqb, lt→ltb, eqb→eq}
-use lib.ListN.{length, get_or, take}
+use lib.Dec.{T, ltb, eqb, lt→ltb}
+use lib.ListN.{length, get_or}
 use borrow.Author.Tests.{lt-ltb, le-ltb, ltb-true, eq-eqb, eqb-true, eqb-false}
 use Rattle.base_ascii.specs.Bytes.{between, upper}
-use Rattle.word_search.specs.Compare.{begins, alike, same, shortens, passes}
+use Rattle.word_search.specs.Compare.{begins, alike, shortens, passes}
 use Rattle.word_search.specs.Find.{Entry, first_that}
 use Rattle.word_search.specs.RunHelpers.{Ready, raised, word_of, first_from}
 use Rattle.word_search.specs.declared.Match.{Match}
@@ -18,7 +18,7 @@ use Rattle.word_search.specs.declared.Test.{Test}
 use Rattle.word_search.specs.declared.Test.TheVariants.{Begins, Alike, Same, Shortens}
 use Rattle.word_search.proofs.Comparing.{raise_raised}
 use Rattle.word_search.proofs.Search.{and_left, and_right}
-use Rattle.word_search.proofs.Sameness.{same_eq, T_true}
+use Rattle.word_search.proofs.Sameness.{same_eq}
 use Rattle.word_tables.specs.WordsHelpers.{Placed, capitals, initial, grouped, stored_words, word_found}
 use Rattle.word_tables.proofs.Ranged.{ranged}
 

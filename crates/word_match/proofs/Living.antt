@@ -1,6 +1,6 @@
 -- The live word that a text begins with, by the first word that it begins with and the demoted ones among the others.
 -- Assumes nothing.
-use Prim.Native.Nat.{ℕ, zero, suc, ◌+◌, ◌-◌, ◌≤◌, ◌<◌}
+use Prim.Native.Nat.{ℕ, suc, ◌+◌, ◌-◌, ◌≤◌, ◌<◌}
 use mathlib.Core.Path.{◌≡◌, refl, sym, ap, ◌∙◌}
 use mathlib.Core.Bool.{Bool, true, false, not, ◌&&◌, false≢true}
 use mathlib.Core.List.{List, [], ◌∷◌}
@@ -10,7 +10,7 @@ use borrow.Author.Tests.{not-true, not-false}
 use mir.Syntax.{w64}
 use mir.Val.{Fits}
 use Rattle.word_search.specs.Compare.{begins, passes}
-use Rattle.word_search.specs.Find.{Entry, first_that, among_in, word_in}
+use Rattle.word_search.specs.Find.{Entry, first_that, among_in}
 use Rattle.word_search.specs.RunHelpers.{Stored, word_of, passes_at, first_from}
 use Rattle.word_search.specs.declared.Match.{Match}
 use Rattle.word_search.specs.declared.Match.TheVariants.{Word, Nothing}

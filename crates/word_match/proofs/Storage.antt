@@ -22,13 +22,8 @@ use Rattle.word_search.specs.declared.Test.{Test}
 use Rattle.word_search.specs.declared.Test.TheVariants.{Begins, Alike}
 use Rattle.word_search.proofs.Comparing.{raise_begins, raise_alike}
 use Rattle.word_search.proofs.Search.{and_left, and_right, first_from_lem}
-use Rattle.word_tables.specs.Rom.{v2_words, operators}
-use Rattle.word_tables.specs.Tsb.{tsb_words}
-use Rattle.word_tables.specs.Escapes.{escape_names}
-use Rattle.word_tables.specs.Basic35.{basic35_words}
 use Rattle.word_tables.specs.WordsHelpers.{Placed, capitals, initial, groups_of, group_at, word_found, Held, words_of, SpellsWords}
 use Rattle.word_tables.specs.declared.WordList.{WordList}
-use Rattle.word_tables.specs.declared.WordList.TheVariants.{V2, Operators, Tsb, Escapes, Basic35}
 use Rattle.word_tables.proofs.Ranged.{ranged_list, groups_within}
 use Rattle.word_match.proofs.Groups.{first_placed, Confined, first_grouped, confined_test, good, all_good, grouped_good, stored_at, good_at, passes_placed, answer, first_stored, ready_word}
 

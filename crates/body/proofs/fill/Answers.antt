@@ -1,6 +1,5 @@
 -- `body::fill` meets its contract.
 -- Assumes nothing.
-use Prim.Native.Nat.{◌-◌}
 use native.Mathlib.Omega.{arith}
 use Rattle.body.proofs.Writing.{filling_start, filling_turn, filling_end, fill_room}
 use Rattle.body.proofs.fill.Goals as goal

@@ -1,6 +1,5 @@
 -- `body::measure_body` meets its contract.
 -- Assumes nothing.
-use Prim.Native.Nat.{◌-◌}
 use lib.ListN.{length}
 use mir.Syntax.{w64}
 use mir.Val.{Fits}

@@ -1,6 +1,6 @@
 -- `body::write_body` meets its contract.
 -- Assumes nothing.
-use Prim.Native.Nat.{◌-◌, ◌<◌}
+use Prim.Native.Nat.{◌<◌}
 use lib.ListN.{length}
 use mir.Syntax.{w64}
 use mir.Val.{Fits}

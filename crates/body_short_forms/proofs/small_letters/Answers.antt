@@ -1,6 +1,5 @@
 -- `body_short_forms::small_letters` meets its contract.
 -- Assumes nothing.
-use Prim.Native.Nat.{◌-◌}
 use Rattle.base_ascii.proofs.Searching.{onward_start, front_turn, front_found, front_end}
 use Rattle.body_short_forms.proofs.small_letters.Goals as goal
 

@@ -1,6 +1,5 @@
 -- `crunch_measure::measure` meets its contract.
 -- Assumes nothing.
-use Prim.Native.Nat.{◌-◌}
 use native.Mathlib.Omega.{arith}
 use Rattle.crunch_measure.proofs.Measuring.{measured_low, measured_end, measured_start, measured_blank, measured_refused, measured_span, measured_here, measured_past}
 use Rattle.guess.proofs.Texts.{line_high, line_less, line_up}

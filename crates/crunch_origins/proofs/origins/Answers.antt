@@ -1,6 +1,5 @@
 -- `crunch_origins::origins` meets its contract.
 -- Assumes nothing.
-use Prim.Native.Nat.{◌-◌}
 use Rattle.guess.proofs.Texts.{line_high, line_less, line_up}
 use Rattle.say_put.proofs.Clipping.{clip_long}
 use Rattle.crunch_origins.proofs.Pairing.{pairing_start, pairing_turn, pairing_end}

@@ -1,6 +1,5 @@
 -- `crunch_write::write` meets its contract.
 -- Assumes nothing.
-use Prim.Native.Nat.{◌-◌}
 use lib.ListN.{length}
 use mir.Syntax.{w64}
 use mir.Val.{Fits}

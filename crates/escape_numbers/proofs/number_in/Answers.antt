@@ -1,6 +1,5 @@
 -- `escape_numbers::number_in` meets its contract: a number past the limit stays past it.
 -- Assumes nothing.
-use Prim.Native.Nat.{◌-◌}
 use native.Mathlib.Omega.{arith}
 use Rattle.escape_numbers.proofs.Numbering.{number_empty, made_start, made_other, made_over, made_fits, made_turn, made_end}
 use Rattle.escape_numbers.proofs.number_in.Goals as goal

@@ -1,6 +1,5 @@
 -- `guess_evidence::marked_place` meets its contract.
 -- Assumes nothing.
-use Prim.Native.Nat.{◌-◌}
 use Rattle.guess_evidence.proofs.Steps.{scanned_start, gap_turn, scanned_proved, scanned_remark, scanned_stretch, scanned_end, on_fits, behind_some, behind_within}
 use Rattle.guess_uses.proofs.Behind.{rest_some}
 use Rattle.guess_uses.proofs.Marks.{marks_rest}

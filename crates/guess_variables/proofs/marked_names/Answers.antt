@@ -1,6 +1,5 @@
 -- `guess_variables::marked_names` meets its contract.
 -- Assumes nothing.
-use Prim.Native.Nat.{◌-◌}
 use Rattle.guess_variables.proofs.Passes.{passing_start, passing_remark, name_place, passing_name, passing_end, name_fits, name_less, pass_fits, behind_some, behind_within, passing_stretch}
 use Rattle.guess_places.proofs.Places.{stretch_fits, stretch_less}
 use Rattle.guess_variables.proofs.marked_names.Goals as goal

@@ -1,6 +1,5 @@
 -- `say_sentences::behind_rows` meets its contract.
 -- Assumes nothing.
-use Prim.Native.Nat.{◌-◌}
 use Rattle.say_sentences.proofs.Skipping.{skipping_start, skipping_lf, skipping_on, skipping_there, skipping_end}
 use Rattle.say_sentences.proofs.behind_rows.Goals as goal
 

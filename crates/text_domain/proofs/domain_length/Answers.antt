@@ -1,6 +1,5 @@
 -- `text_domain::domain_length` meets its contract.
 -- Assumes nothing.
-use Prim.Native.Nat.{◌-◌}
 use Rattle.text_domain.proofs.Limits.{domain_low, domain_byte, domain_pi, domain_stop, domain_end}
 use Rattle.text_domain.proofs.domain_length.Goals as goal
 

@@ -1,6 +1,5 @@
 -- `text_domain::passed_by_eights` meets its contract.
 -- Assumes nothing.
-use Prim.Native.Nat.{◌-◌}
 use native.Mathlib.Omega.{arith}
 use Rattle.text_domain.proofs.Limits.{low_sixteen, low_within}
 use Rattle.text_domain.proofs.passed_by_eights.Goals as goal

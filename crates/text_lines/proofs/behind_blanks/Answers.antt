@@ -1,6 +1,5 @@
 -- `text_lines::behind_blanks` meets its contract.
 -- Assumes nothing.
-use Prim.Native.Nat.{◌-◌}
 use Rattle.base_ascii.proofs.Searching.{front_turn, from_found, from_end}
 use Rattle.text_lines.proofs.Blanks.{blanks_beyond, blanks_none, blanks_run}
 use Rattle.text_lines.proofs.behind_blanks.Goals as goal

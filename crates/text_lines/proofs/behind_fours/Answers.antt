@@ -1,6 +1,5 @@
 -- `text_lines::behind_fours` meets its contract.
 -- Assumes nothing.
-use Prim.Native.Nat.{◌-◌}
 use Rattle.text_lines.proofs.Splitting.{above_none, above_first, first_above, two_above, three_above, four_above}
 use borrow.Author.Rules.{rules}
 use Rattle.text_lines.proofs.behind_fours.Goals as goal

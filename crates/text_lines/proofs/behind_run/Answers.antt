@@ -1,6 +1,5 @@
 -- `text_lines::behind_run` meets its contract.
 -- Assumes nothing.
-use Prim.Native.Nat.{◌-◌}
 use Rattle.base_ascii.proofs.Searching.{onward_start, run_turn}
 use Rattle.text_lines.proofs.Blanks.{run_on_lem}
 use borrow.Author.Rules.{rules}

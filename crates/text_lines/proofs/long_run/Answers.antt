@@ -1,6 +1,5 @@
 -- `text_lines::long_run` meets its contract.
 -- Assumes nothing.
-use Prim.Native.Nat.{◌-◌}
 use Rattle.base_ascii.proofs.Searching.{onward_start}
 use Rattle.text_lines.proofs.Blanks.{run_four}
 use borrow.Author.Rules.{rules}

@@ -1,6 +1,5 @@
 -- `text_lines::next_line` meets its contract.
 -- Assumes nothing.
-use Prim.Native.Nat.{◌-◌}
 use native.Mathlib.Omega.{arith}
 use Rattle.text_lines.proofs.Splitting.{seeking_none, seeking_start, seeking_passed, passed_less, seeking_turn, seeking_found, seeking_end, mark_small}
 use Rattle.text_lines.proofs.next_line.Goals as goal

@@ -1,6 +1,5 @@
 -- `text_numbers::digits_in` meets its contract.
 -- Assumes nothing.
-use Prim.Native.Nat.{◌-◌}
 use Rattle.text_numbers.proofs.Numbers.{valued_start, valued_stop, digit_low, valued_turn, valued_end}
 use Rattle.text_numbers.proofs.digits_in.Goals as goal
 

@@ -1,6 +1,5 @@
 -- `text_places::place_of` meets its contract.
 -- Assumes nothing.
-use Prim.Native.Nat.{◌-◌}
 use Rattle.text_places.proofs.Placing.{passed_start, passed_turn, passed_there, passed_end}
 use Rattle.text_places.proofs.place_of.Goals as goal
 

@@ -1,6 +1,5 @@
 -- `word_match::match_live` meets its contract: the loop goes from one word that the text begins with to the next.
 -- Assumes nothing.
-use Prim.Native.Nat.{◌-◌}
 use Rattle.word_match.proofs.Storage.{match_stored}
 use Rattle.word_match.proofs.Living.{live_dead, living_start, living_turn, living_demoted, living_less, living_stored, living_placed, living_place, living_next, first_held, living_word, living_none, index_long_lem}
 use Rattle.word_match.proofs.match_live.Goals as goal

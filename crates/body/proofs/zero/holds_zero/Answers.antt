@@ -1,6 +1,5 @@
 -- `body::zero::holds_zero` meets its contract.
 -- Assumes nothing.
-use Prim.Native.Nat.{◌-◌}
 use lib.ListN.{length}
 use mir.Syntax.{w64}
 use mir.Val.{Fits}

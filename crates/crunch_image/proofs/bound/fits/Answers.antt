@@ -1,6 +1,5 @@
 -- `crunch_image::bound::fits` meets its contract.
 -- Assumes nothing.
-use Prim.Native.Nat.{◌-◌}
 use native.Mathlib.Omega.{arith}
 use Rattle.crunch_image.proofs.Bounding.{bound_start, bound_low, bound_turn, bound_end}
 use Rattle.guess.proofs.Texts.{line_high, line_less, line_up}

@@ -1,6 +1,5 @@
 -- `editor_findings::deciding::deciding_with` meets its contract.
 -- Assumes nothing.
-use Prim.Native.Nat.{◌-◌}
 use Rattle.guess.proofs.Texts.{line_low, line_high, line_less}
 use Rattle.editor_findings.proofs.Undecided.{undecided_start, undecided_found, undecided_turn, undecided_end, count_fits}
 use Rattle.editor_findings.proofs.deciding.deciding_with.Goals as goal

@@ -1,6 +1,5 @@
 -- `editor_findings::sights::sight_with` meets its contract.
 -- Assumes nothing.
-use Prim.Native.Nat.{◌-◌}
 use mathlib.Core.Path.{refl}
 use Rattle.body_steps.proofs.Braces.{spans_on}
 use Rattle.editor_findings.proofs.Walking.{step_fits, step_less, walked_start, walked_seen, walked_turn, walked_end}

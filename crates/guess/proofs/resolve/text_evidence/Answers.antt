@@ -1,6 +1,5 @@
 -- `guess::resolve::text_evidence` meets its contract.
 -- Assumes nothing.
-use Prim.Native.Nat.{◌-◌}
 use Rattle.guess.proofs.Texts.{unproved_start, unproved_found, unproved_turn, unproved_end, line_high, line_less, line_up}
 use Rattle.guess.proofs.resolve.text_evidence.Goals as goal
 

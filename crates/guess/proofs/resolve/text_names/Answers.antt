@@ -1,6 +1,5 @@
 -- `guess::resolve::text_names` meets its contract.
 -- Assumes nothing.
-use Prim.Native.Nat.{◌-◌}
 use Rattle.guess.proofs.Texts.{gathered_start, gathered_turn, gathered_end, gathered_room, line_high, line_less, line_low}
 use Rattle.guess.proofs.resolve.text_names.Goals as goal
 

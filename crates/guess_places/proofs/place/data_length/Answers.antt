@@ -1,6 +1,5 @@
 -- `guess_places::place::data_length` meets its contract.
 -- Assumes nothing.
-use Prim.Native.Nat.{◌-◌}
 use Rattle.base_ascii.proofs.Searching.{onward_start, front_end}
 use Rattle.guess_places.proofs.Places.{data_turn, data_end_quote, data_end_colon}
 use Rattle.guess_places.proofs.place.data_length.Goals as goal

@@ -1,6 +1,5 @@
 -- `guess_uses::ahead::closing` meets its contract.
 -- Assumes nothing.
-use Prim.Native.Nat.{◌-◌}
 use Rattle.guess_uses.proofs.Behind.{listed_start, listed_closed, listed_up, listed_down, listed_on, listed_end, listed_above}
 use Rattle.guess_uses.proofs.ahead.closing.Goals as goal
 

@@ -1,6 +1,5 @@
 -- `guess_uses::lists::mark_lists` meets its contract.
 -- Assumes nothing.
-use Prim.Native.Nat.{◌-◌}
 use Rattle.guess_uses.proofs.Marks.{marking_start, marking_space, marking_close, marking_open, marking_on, marking_end}
 use Rattle.guess_uses.proofs.lists.mark_lists.Goals as goal
 
