@@ -1,6 +1,6 @@
 -- For what the programs write, and for no promise of an entry point: how the word PART says that OUT is written.
 -- Assumes nothing.
-use Rattle.std.specs.Prelude.{ℕ, Bool, cond, List, [], ◌∷◌, eqb}
+use Rattle.std.specs.Prelude.{ℕ, cond, List, [], ◌∷◌, eqb}
 use Rattle.desk.specs.declared.names.Way.{Way}
 use Rattle.desk.specs.declared.names.Way.TheVariants.{Beside, InPlace, Nowhere}
 
