@@ -1,8 +1,8 @@
 -- A body in which no } stands behind a * is never longer than its text: each step writes no more bytes than it takes. A TSB word gives
 -- two bytes, and has two; an escape without a count gives one.
 -- Assumes nothing.
-use Prim.Native.Nat.{ℕ, suc, zero, ◌+◌, ◌-◌, ◌≤◌, ◌<◌, min}
-use mathlib.Core.Path.{◌≡◌, refl, sym, ap, ◌∙◌}
+use Prim.Native.Nat.{ℕ, suc, zero, ◌+◌, ◌-◌, ◌≤◌, ◌<◌}
+use mathlib.Core.Path.{◌≡◌, refl, ap}
 use mathlib.Core.Bool.{Bool, true, false, not, ◌&&◌}
 use mathlib.Core.List.{List, [], ◌∷◌, ◌++◌}
 use native.Mathlib.Decide.{dec_lt, dec_le}
@@ -249,13 +249,3 @@ module _ (s : List ℕ) {n : ℕ} where
       → ltb r (length (take (length s - n) (drop n s))) ≡ may_repeat s
   unfolding may_repeat
   repeat_told q e = rw (q, tail s n, e)
-
-module _ (w : Sets) (s : List ℕ) where
-  pub bound_text : {r : Bool} → length s ≤ 65536 → r ≡ false → r ≡ may_repeat s → (min (length (crunched_body (lexicon w) s)) 65536 ≤ length s) × (length s ≤ 65536)
-  bound_text h f e = (omega (arith, body_bound w s (sym e ∙ f)), h)
-
-  pub bound_measured : {r : ℕ} → r ≡ min (length (crunched_body (lexicon w) s)) 65536 → (min (length (crunched_body (lexicon w) s)) 65536 ≤ r) × (r ≤ 65536)
-  bound_measured e = (omega (arith, e), omega (arith, e))
-
-  pub bound_most : (min (length (crunched_body (lexicon w) s)) 65536 ≤ 65536) × (65536 ≤ 65536)
-  bound_most = (omega arith, omega arith)

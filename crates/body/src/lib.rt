@@ -51,6 +51,7 @@ pub fn measure_body(text: &[u8], bytes: &[u8], index: &[u16], sets: Sets) -> usi
 }
 
 // A length that the body does not pass, or 65,536: that of its text, where no } stands behind a *.
+#[tactic(auto, using(crate::proofs::Bound::body_bound))]
 pub fn bound_body(text: &[u8], bytes: &[u8], index: &[u16], sets: Sets) -> usize
     requires { SpellsWords bytes.now index.now }
     ensures { (min (length (crunched_body (lexicon sets) text.now)) 65536 ≤ result) × (result ≤ 65536) }
