@@ -8,11 +8,10 @@ use mathlib.Core.Bool.{Bool, true, false, not, cond, ◌&&◌, ◌||◌, false�
 use mathlib.Core.List.{List, [], ◌∷◌, ◌++◌}
 use native.Mathlib.Omega.{arith}
 use lib.Dec.{eqb, leb}
-use lib.ListN.{length}
-use borrow.Author.Tests.{eqb-true, ne_eqb, leb-false, ltb-false}
+use borrow.Author.Tests.{eqb-true, ne_eqb, leb-false}
 use Rattle.base_refusals.specs.Answer.{Answer, done, refused, map_done}
 use Rattle.base_ascii.specs.Bytes.{between}
-use Rattle.list_bytes.specs.ByteTexts.{byte_text, remark_text}
+use Rattle.list_bytes.specs.ByteTexts.{remark_text}
 use Rattle.word_dialects.specs.Dialects.{is_basic35}
 use Rattle.word_dialects.specs.declared.Dialect.{Dialect}
 use Rattle.word_dialects.specs.declared.Dialect.TheVariants.{Auto, BasicV2, Tsb, Basic35}

@@ -1,15 +1,14 @@
 -- The text of one byte, held in an array of six.
 -- Assumes nothing.
-use Prim.Native.Nat.{ℕ, ◌+◌, ◌-◌, ◌≤◌}
-use mathlib.Core.Path.{◌≡◌, refl, sym, ap, ◌∙◌}
+use Prim.Native.Nat.{ℕ, ◌+◌, ◌≤◌}
+use mathlib.Core.Path.{◌≡◌, sym, ap, ◌∙◌}
 use mathlib.Core.Bool.{Bool, true, false, cond}
-use mathlib.Core.List.{List, [], ◌∷◌, ◌++◌}
+use mathlib.Core.List.{List}
 use native.Mathlib.Omega.{arith}
 use lib.Dec.{eqb}
 use lib.ListN.{length, take, drop, replicate}
-use lib.Seq.{sets, sets-eq, length-sets, take-append_seam}
+use lib.Seq.{sets-eq, length-sets, take-append_seam}
 use Rattle.base_ascii.specs.Bytes.{between}
-use Rattle.word_search.specs.Spelling.{bytes_of}
 use Rattle.list_bytes.specs.ByteTexts.{hex_byte, byte_text, remark_text}
 use Rattle.list_bytes.specs.HeldHelpers.{held}
 use Rattle.list_bytes.specs.declared.ByteText.{ByteText}

@@ -33,7 +33,7 @@ use Rattle.list_lines.specs.LineHelpers.{head_listing, rest_listing}
 use Rattle.list_image.specs.Listing.{lines_listing, listing_by}
 use Rattle.list_options.specs.Modes.{rules_under}
 use Rattle.list_image.specs.Listing.{listing_under}
-use Rattle.list_stretches.specs.Stretch.{Run, no_run, run_from, Stretched, ended, body_stretch, number_before, stretch_of, stretch_answer, left_to_list, InStretches, over, more, LinesInStretches, no_lines, line_more, joined_parts, place_left, stretches_from, stretches_of}
+use Rattle.list_stretches.specs.Stretch.{Run, run_from, Stretched, body_stretch, number_before, stretch_of, stretch_answer, left_to_list, InStretches, over, more, LinesInStretches, no_lines, line_more, joined_parts, place_left, stretches_from, stretches_of}
 use Rattle.list_options.specs.declared.ListOptions.{ListOptions}
 use Rattle.list_stretches.specs.declared.Place.{Place}
 use Rattle.list_stretches.specs.declared.Place.TheVariants.{Number, Body, Over}

@@ -24,7 +24,7 @@ use Rattle.list_spelling.specs.ItselfHelpers.{lists_as_itself}
 use Rattle.list_spelling.specs.Pieces.{unit_text, spelt}
 use Rattle.list_spelling.proofs.Itself.{ListsItself, itself}
 use Rattle.list_spelling.proofs.Short.{unit_short}
-use Rattle.list_spelling.proofs.Owed.{Owed, owed_start, owed_room, owed_turn, owed_end}
+use Rattle.list_spelling.proofs.Owed.{Owed, owed_start, owed_turn, owed_end}
 use Rattle.base_lent.specs.Stores.{Room, Put}
 use Rattle.base_lent.proofs.Storing.{put_long, sets_append}
 use Rattle.list_stretches.specs.Stretch.{Run, no_run, unit_before, run_on, run_from, Stretched, body_stretch, stretch_of, stretch_answer}

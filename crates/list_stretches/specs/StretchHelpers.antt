@@ -1,10 +1,9 @@
 -- For helpers of `list_stretch` alone: runs and stretches stored from a place of a buffer on.
 -- Assumes nothing.
-use Rattle.std.specs.Prelude.{ℕ, ◌+◌, ◌-◌, ◌≤◌, ◌≡◌, List, length, drop}
+use Rattle.std.specs.Prelude.{ℕ, ◌+◌, ◌-◌, ◌≡◌, List, length, drop}
 use Rattle.std.proofs.lemmas.List.Edits.{sets}
-use Rattle.image_units.specs.declared.Mode.{Mode}
 use Rattle.image_units.specs.declared.Rules.{Rules}
-use Rattle.list_stretches.specs.Stretch.{Run, run_from, Stretched, body_stretch}
+use Rattle.list_stretches.specs.Stretch.{Run, run_from, Stretched}
 use Rattle.list_stretches.specs.declared.Spot.{Spot}
 use Rattle.list_stretches.specs.declared.Stretch.{Stretch}
 

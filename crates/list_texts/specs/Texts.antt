@@ -1,7 +1,7 @@
 -- The texts of listing (document 01, "Reading and listing": "from the 128 texts in tokens.rs"; document 02, No. 5: "shows its words instead
 -- of `{CC}` to `{FD}`").
 -- Assumes nothing.
-use Rattle.std.specs.Prelude.{ℕ, ◌-◌, cond, List, [], ◌∷◌, ◌++◌, eqb, ltb, get_or}
+use Rattle.std.specs.Prelude.{ℕ, ◌-◌, cond, List, [], ◌++◌, eqb, ltb, get_or}
 use Rattle.base_ascii.specs.Bytes.{between}
 use Rattle.word_search.specs.Spelling.{bytes_of}
 use Rattle.word_tables.specs.Rom.{rom_words}

@@ -1,6 +1,5 @@
 -- `list_image::measure` meets its contract.
 -- Assumes nothing.
-use Prim.Native.Nat.{◌-◌}
 use Rattle.image_readers.proofs.Steps.{found_runs, found_within, found_nearer}
 use Rattle.list_image.proofs.Whole.{found_short, counted_start, counted_turn, counted_fits, counted_end, counted_refused}
 use Rattle.list_image.proofs.measure.Goals as goal

@@ -3,7 +3,6 @@
 use Prim.Native.Nat.{◌-◌}
 use lib.ListN.{length}
 use Rattle.list_image.proofs.Whole.{LinesCounted}
-use borrow.Author.Rules.{rules}
 use Rattle.list_image.proofs.measure.Given as goal
 
 abbrev pub invariant-loop-line : goal.invariant-loop-line

@@ -1,6 +1,5 @@
 -- `list_image::write` meets its contract.
 -- Assumes nothing.
-use Prim.Native.Nat.{◌-◌}
 use Rattle.image_readers.proofs.Steps.{found_runs, found_within, found_nearer}
 use Rattle.list_image.proofs.Whole.{found_short, written_start, written_head, written_rest, written_turn, written_end, written_refused, written_long}
 use Rattle.list_image.proofs.write.Goals as goal

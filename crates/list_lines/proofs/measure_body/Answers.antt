@@ -1,6 +1,5 @@
 -- `list_lines::measure_body` meets its contract.
 -- Assumes nothing.
-use Prim.Native.Nat.{◌-◌}
 use Rattle.image_units.proofs.Walking.{unit_nearer}
 use Rattle.list_lines.proofs.Progress.{counted_start, counted_place, counted_fits, counted_turn, counted_itself, itself_fits, counted_end}
 use Rattle.list_lines.proofs.measure_body.Goals as goal

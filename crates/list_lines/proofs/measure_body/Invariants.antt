@@ -3,7 +3,6 @@
 use Prim.Native.Nat.{◌-◌}
 use lib.ListN.{length}
 use Rattle.list_lines.proofs.Progress.{BodyCounted}
-use borrow.Author.Rules.{rules}
 use Rattle.list_lines.proofs.measure_body.Given as goal
 
 abbrev pub invariant-loop-i : goal.invariant-loop-i

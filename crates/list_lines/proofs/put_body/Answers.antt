@@ -1,6 +1,5 @@
 -- `list_lines::put_body` meets its contract.
 -- Assumes nothing.
-use Prim.Native.Nat.{◌-◌}
 use native.Mathlib.Omega.{arith}
 use Rattle.image_units.proofs.Walking.{unit_nearer}
 use Rattle.list_lines.proofs.Progress.{written_start, written_room, written_place, written_turn, written_itself, itself_room, written_end, written_long}

@@ -1,6 +1,5 @@
 -- `list_spelling::copy` meets its contract.
 -- Assumes nothing.
-use Prim.Native.Nat.{◌-◌}
 use Rattle.list_spelling.proofs.Copying.{copied_start, copied_turn, copied_end}
 use Rattle.list_spelling.proofs.copy.Goals as goal
 

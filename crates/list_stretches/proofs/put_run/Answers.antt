@@ -1,6 +1,5 @@
 -- `list_stretches::put_run` meets its contract.
 -- Assumes nothing.
-use Prim.Native.Nat.{◌-◌}
 use native.Mathlib.Omega.{arith}
 use Rattle.image_units.proofs.Walking.{unit_nearer}
 use Rattle.list_stretches.proofs.Stretches.{stored_start, stored_end, stored_long, stored_full, stored_room, stored_turn, stored_place, itself_place, stored_itself}

@@ -3,7 +3,6 @@
 use Prim.Native.Nat.{◌-◌}
 use lib.ListN.{length}
 use Rattle.list_stretches.proofs.Stretches.{RunStored}
-use borrow.Author.Rules.{rules}
 use Rattle.list_stretches.proofs.put_run.Given as goal
 
 abbrev pub invariant-loop-at : goal.invariant-loop-at
