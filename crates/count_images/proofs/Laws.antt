@@ -1,10 +1,9 @@
 -- What totals promise (document 02, No. 12): the order of images does not matter, and the totals of two parts are the sum of theirs.
 -- Assumes nothing.
-use Prim.Native.Nat.{ℕ, ◌+◌, ◌-◌}
+use Prim.Native.Nat.{ℕ}
 use mathlib.Core.Path.{◌≡◌, refl, sym, ap, ◌∙◌}
 use mathlib.Core.List.{List, [], ◌∷◌, ◌++◌, flat_map, append_assoc, Permᴰ}
 use native.Mathlib.Omega.{arith}
-use Rattle.base_refusals.specs.Answer.{refused}
 use Rattle.count_tokens.specs.Tokens.{tokens_in}
 use Rattle.count_images.specs.Tallies.{occurrences, tally, added}
 use Rattle.count_images.specs.Totals.{image_marks, totals_of}

@@ -2,7 +2,7 @@
 -- Assumes nothing.
 use Prim.Native.Nat.{ℕ, suc, ◌+◌, ◌*◌, ◌≤◌, ◌<◌}
 use mathlib.Core.Path.{◌≡◌, refl, sym, ap, ◌∙◌}
-use mathlib.Core.List.{List, [], ◌∷◌, ◌++◌}
+use mathlib.Core.List.{List, [], ◌∷◌}
 use native.Mathlib.Omega.{arith}
 use lib.ListN.{length, take}
 use lib.Seq.{sets, set_out}
@@ -11,7 +11,6 @@ use mir.Val.{Fits}
 use Rattle.base_refusals.specs.Answer.{Answer, done, refused}
 use Rattle.base_refusals.specs.Numbers.{no_room}
 use Rattle.base_lent.specs.Lent.{Lent, into_buffer, room_for}
-use Rattle.base_lent.specs.Stores.{Put}
 use Rattle.base_lent.proofs.Outcomes.{into_none, into_done}
 use Rattle.say_put.specs.Clipped.{Clipped}
 use Rattle.say_put.specs.Rows.{filled}

@@ -2,8 +2,7 @@
 -- Assumes nothing.
 use mathlib.Core.Path.{◌≡◌, refl}
 use mathlib.Core.Bool.{true, false}
-use mathlib.Core.List.{List, [], ◌∷◌, ◌++◌}
-use Prim.Native.Nat.{ℕ}
+use mathlib.Core.List.{[], ◌∷◌, ◌++◌}
 use Rattle.word_search.specs.Spelling.{bytes_of}
 use Rattle.image_readers.specs.declared.Line.{Line}
 use Rattle.image_rows.specs.Found.{found_row, missing_row}

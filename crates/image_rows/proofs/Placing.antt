@@ -1,9 +1,8 @@
 -- The rows of an image's lines, one behind the other.
 -- Assumes nothing.
-use Prim.Native.Nat.{ℕ, suc, ◌+◌, ◌*◌, ◌-◌, ◌≤◌, ◌<◌}
+use Prim.Native.Nat.{ℕ, ◌+◌, ◌*◌, ◌≤◌, ◌<◌}
 use mathlib.Core.Path.{◌≡◌, refl, sym, ap, ◌∙◌}
 use mathlib.Core.List.{List, [], ◌∷◌, ◌++◌, append_assoc, append-nil}
-use native.Mathlib.Numerals.{add-one}
 use native.Mathlib.Omega.{arith}
 use lib.ListN.{length, get_or, drop, drop_of_length-le}
 use lib.Seq.{drop-cons, drop-drop}
@@ -24,7 +23,7 @@ use Rattle.image_readers.specs.declared.Checked.TheVariants.{Image, Refused as R
 use Rattle.image_readers.specs.Answers.{step_answer, checked_answer}
 use Rattle.image_readers.specs.Lines.{lines_from, lines_of, overview_of, overview}
 use Rattle.image_readers.specs.Readers.{step_by}
-use Rattle.image_readers.proofs.Equations.{LiesAt, Sound, lines_line, lines_end, lines_refused}
+use Rattle.image_readers.proofs.Equations.{LiesAt, lines_line, lines_end, lines_refused}
 use Rattle.image_readers.proofs.Finding.{told, told_checked}
 use Rattle.image_readers.proofs.Steps.{by_sound, found_lies}
 use Rattle.image_rows.specs.Places.{place_text, place_rows, places_shown}

@@ -12,7 +12,7 @@ use mir.Val.{Fits}
 use borrow.Author.Tests.{eq-eqb, ne_eqb}
 use Rattle.base_steps.specs.Each.{Each}
 use Rattle.word_search.specs.Spelling.{bytes_of}
-use Rattle.base_refusals.specs.Answer.{Answer, done, refused}
+use Rattle.base_refusals.specs.Answer.{done, refused}
 use Rattle.base_refusals.specs.Numbers.{no_room}
 use Rattle.base_lent.specs.Lent.{Lent, into_buffer}
 use Rattle.base_lent.specs.Stores.{Put}

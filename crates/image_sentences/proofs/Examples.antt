@@ -1,13 +1,11 @@
 -- Lines as docs/DESK.md shows them, computed.
 -- Assumes nothing.
 use mathlib.Core.Path.{◌≡◌, refl}
-use mathlib.Core.Bool.{true, false}
+use mathlib.Core.Bool.{false}
 use mathlib.Core.List.{[], ◌∷◌, ◌++◌}
 use Rattle.word_search.specs.Spelling.{bytes_of}
-use Rattle.base_steps.specs.Decimal.{decimal}
-use Rattle.say_put.specs.Rows.{filled, row_text}
 use Rattle.image_faults.specs.declared.Fault.TheVariants.{ZeroInBody, NoTarget}
-use Rattle.image_sentences.specs.Sentences.{target_sentence, fault_sentence, program_sentence, disk_sentence}
+use Rattle.image_sentences.specs.Sentences.{fault_sentence, program_sentence, disk_sentence}
 
 zero_told : fault_sentence (bytes_of "accident.prg") (ZeroInBody 10 2056)
     ≡ bytes_of "accident.prg: line 10: it holds a zero at address 2056: the machine ends it there, and the two readers part" ++ (0x0A ∷ [])

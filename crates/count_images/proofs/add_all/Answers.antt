@@ -1,6 +1,5 @@
 -- `count_images::add_all` meets its contract.
 -- Assumes nothing.
-use Prim.Native.Nat.{◌-◌}
 use native.Mathlib.Omega.{arith}
 use lib.ListN.{length-set}
 use Rattle.count_images.proofs.Adding.{adding_start, adding_fits, adding_turn, adding_end}

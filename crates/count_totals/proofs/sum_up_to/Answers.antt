@@ -1,6 +1,5 @@
 -- `count_totals::sum_up_to` meets its contract.
 -- Assumes nothing.
-use Prim.Native.Nat.{◌-◌}
 use Rattle.count_totals.proofs.Sums.{summed_start, summed_turn, summed_over, summed_end}
 use Rattle.count_totals.proofs.sum_up_to.Goals as goal
 

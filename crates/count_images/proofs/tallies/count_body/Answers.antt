@@ -1,6 +1,5 @@
 -- `count_images::tallies::count_body` meets its contract.
 -- Assumes nothing.
-use Prim.Native.Nat.{◌-◌}
 use Rattle.image_units.proofs.Walking.{unit_nearer}
 use Rattle.count_images.proofs.Bodies.{body_start, body_room, body_place, body_turn, body_end_lem}
 use Rattle.count_images.proofs.tallies.count_body.Goals as goal

@@ -3,7 +3,6 @@
 use Prim.Native.Nat.{◌-◌}
 use lib.ListN.{length}
 use Rattle.count_images.proofs.Bodies.{BodyTallied}
-use borrow.Author.Rules.{rules}
 use Rattle.count_images.proofs.tallies.count_body.Given as goal
 
 abbrev pub invariant-loop-i : goal.invariant-loop-i

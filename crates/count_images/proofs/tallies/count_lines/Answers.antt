@@ -1,6 +1,5 @@
 -- `count_images::tallies::count_lines` meets its contract.
 -- Assumes nothing.
-use Prim.Native.Nat.{◌-◌}
 use Rattle.image_readers.proofs.Steps.{found_runs, found_within, found_nearer}
 use Rattle.count_images.proofs.Bodies.{image_start, line_room, image_turn, image_end, image_refused}
 use Rattle.count_images.proofs.tallies.count_lines.Goals as goal

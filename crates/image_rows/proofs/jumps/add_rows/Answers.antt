@@ -1,6 +1,5 @@
 -- `image_rows::jumps::add_rows` meets its contract.
 -- Assumes nothing.
-use Prim.Native.Nat.{◌-◌}
 use Rattle.base_lent.proofs.Storing.{put_long}
 use Rattle.image_references.proofs.Rows.{row_nearer}
 use Rattle.image_rows.proofs.Threading.{rowing_start, rowing_room, rowing_sources, rowing_end_room, rowing_turn, rowing_fits, rowing_end}

@@ -1,6 +1,5 @@
 -- `image_rows::places::add_places` meets its contract.
 -- Assumes nothing.
-use Prim.Native.Nat.{◌-◌}
 use Rattle.image_readers.proofs.Steps.{found_nearer}
 use Rattle.image_rows.proofs.Placing.{placing_start, placing_room, placing_few, placing_turn, placing_end, placing_refused}
 use Rattle.image_rows.proofs.places.add_places.Goals as goal
