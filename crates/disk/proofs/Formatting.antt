@@ -1,6 +1,6 @@
 -- A disk cleared, and a fresh one.
 -- Assumes nothing.
-use Prim.Native.Nat.{ℕ, ◌+◌, ◌-◌, ◌≤◌, ◌<◌}
+use Prim.Native.Nat.{ℕ, ◌+◌, ◌≤◌, ◌<◌}
 use mathlib.Core.Path.{◌≡◌, refl, sym, ap, ◌∙◌}
 use mathlib.Core.Bool.{Bool, cond}
 use mathlib.Core.List.{List, [], ◌∷◌, ◌++◌, append-nil}
@@ -10,7 +10,7 @@ use native.Mathlib.Omega.{arith}
 use borrow.Author.Fill.{fill_none, fill_more}
 use borrow.Author.Tests.{eq-eqb, ne_eqb}
 use Rattle.base_refusals.specs.Numbers.{bad_disk}
-use Rattle.base_refusals.specs.Answer.{Answer, done, refused}
+use Rattle.base_refusals.specs.Answer.{done, refused}
 use Rattle.disk_rules.specs.Calls.{fresh_header, fresh, formatted, After, onto_disk}
 
 pub record Clearing (d₀ d : List ℕ) (i : ℕ) : Type 0 where

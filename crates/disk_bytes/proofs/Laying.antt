@@ -4,11 +4,10 @@ use Prim.Native.Nat.{ℕ, zero, suc, ◌+◌, ◌-◌, ◌*◌, ◌≤◌, ◌<�
 use mathlib.Core.Path.{◌≡◌, refl, sym, ap, ◌∙◌}
 use mathlib.Core.List.{List, [], ◌∷◌, ◌++◌, append_assoc}
 use lib.ListN.{length, get_or, take, drop, set, replicate, length-take, length-drop, drop_of_length-le}
-use lib.Seq.{sets, sets-eq, length-sets, take-length, take_all, drop-cons, drop-drop}
+use lib.Seq.{sets, sets-eq, length-sets, take_all, drop-cons, drop-drop}
 use native.Mathlib.Numerals.{add-one}
 use native.Mathlib.Omega.{arith}
-use borrow.Rule.Slice.PartMut.{mid_of, put_mid}
-use Rattle.base_lent.proofs.Storing.{tail_put}
+use borrow.Rule.Slice.PartMut.{put_mid}
 use Rattle.disk_rules.specs.Places.{track_of, sector_of}
 use Rattle.disk_rules.specs.Calls.{sector_bytes, link_bytes, laid}
 use Rattle.disk_chains.specs.ChainHelpers.{Sectors}

@@ -1,6 +1,6 @@
 -- What is shown can be given back: a name that is shown, taken as a text, stands for that name.
 -- Assumes nothing.
-use Prim.Native.Nat.{ℕ, zero, suc, ◌+◌, ◌*◌, ◌/◌, ◌%◌, ◌≤◌, ◌<◌}
+use Prim.Native.Nat.{ℕ, zero, suc, ◌+◌, ◌*◌, ◌/◌, ◌%◌, ◌<◌}
 use mathlib.Core.Path.{◌≡◌, refl, sym, ap, subst, ◌∙◌}
 use mathlib.Core.Bool.{Bool, true, false, cond, not, ◌&&◌}
 use mathlib.Core.List.{List, [], ◌∷◌, ◌++◌}
@@ -14,8 +14,7 @@ use Rattle.base_ascii.specs.Bytes.{between, upper}
 use Rattle.base_ascii.proofs.Ranges.{between_in}
 use Rattle.word_search.proofs.Search.{and_left, and_right}
 use Rattle.list_bytes.specs.ByteTexts.{hex_digits, hex_byte}
-use Rattle.disk_names.specs.Names.{digit_value, byte_form, character_byte, name_behind, name_given, is_shown, byte_shown, name_shown}
-use Rattle.disk_names.specs.declared.Form.{Form}
+use Rattle.disk_names.specs.Names.{digit_value, byte_form, character_byte, name_behind, name_given, byte_shown, name_shown}
 use Rattle.disk_names.specs.declared.Form.TheVariants.{Byte, Nothing}
 use Rattle.disk_names.proofs.Naming.{form_short, form_open, form_byte}
 

@@ -2,7 +2,7 @@
 -- other character from space to _ is itself; two hex digits between braces are any byte; what stands for no byte gives A0". And as
 -- they are shown: "the characters from space to _, but =, are themselves, and every other byte stands in braces".
 -- Assumes nothing.
-use Rattle.std.specs.Prelude.{ℕ, zero, suc, ◌+◌, ◌-◌, ◌*◌, Bool, true, false, cond, not, ◌&&◌, List, [], ◌∷◌, ◌++◌, leb, ltb, eqb, length, get_or}
+use Rattle.std.specs.Prelude.{ℕ, zero, suc, ◌+◌, ◌-◌, ◌*◌, Bool, cond, not, ◌&&◌, List, [], ◌∷◌, ◌++◌, leb, eqb, length, get_or}
 use Rattle.base_ascii.specs.Bytes.{between, upper, is_digit}
 use Rattle.list_bytes.specs.ByteTexts.{hex_byte}
 use Rattle.disk_names.specs.declared.Form.{Form}

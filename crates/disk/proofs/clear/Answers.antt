@@ -1,6 +1,5 @@
 -- `disk::clear` meets its contract.
 -- Assumes nothing.
-use Prim.Native.Nat.{◌-◌}
 use Rattle.disk.proofs.Formatting.{clear_start, clear_turn, clear_end}
 use Rattle.disk.proofs.clear.Goals as goal
 

@@ -1,6 +1,5 @@
 -- `disk::has_a0` meets its contract.
 -- Assumes nothing.
-use Prim.Native.Nat.{◌-◌}
 use Rattle.disk_saves.proofs.Lowest.{stand_start, stand_found, stand_turn, stand_end}
 use Rattle.disk.proofs.has_a0.Goals as goal
 

@@ -1,6 +1,5 @@
 -- `disk_bytes::lay` meets its contract.
 -- Assumes nothing.
-use Prim.Native.Nat.{◌-◌}
 use Rattle.disk_bytes.proofs.Laying.{lay_start, lay_long, lay_below, lay_next, lay_part, lay_rest, lay_turn, lay_last, lay_end}
 use Rattle.disk_bytes.proofs.lay.Goals as goal
 

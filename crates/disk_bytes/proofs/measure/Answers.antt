@@ -1,6 +1,5 @@
 -- `disk_bytes::measure` meets its contract.
 -- Assumes nothing.
-use Prim.Native.Nat.{◌-◌}
 use Rattle.disk_bytes.proofs.Taking.{measure_start, measure_below, measure_turn, measure_end}
 use borrow.Author.Rules.{rules}
 use Rattle.disk_bytes.proofs.measure.Goals as goal

@@ -1,6 +1,5 @@
 -- `disk_directory::put_files` meets its contract.
 -- Assumes nothing.
-use Prim.Native.Nat.{◌-◌}
 use Rattle.say_put.proofs.Clipping.{clip_long}
 use Rattle.disk_directory.proofs.Lining.{lining_start, lining_turn, lining_end, entry_listed}
 use borrow.Author.Rules.{rules}

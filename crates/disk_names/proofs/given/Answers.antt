@@ -1,6 +1,5 @@
 -- `disk_names::given` meets its contract.
 -- Assumes nothing.
-use Prim.Native.Nat.{◌-◌}
 use Rattle.say_put.proofs.Clipping.{clip_long}
 use Rattle.disk_names.proofs.Naming.{giving_start, giving_form, giving_character, giving_end}
 use Rattle.disk_names.proofs.given.Goals as goal

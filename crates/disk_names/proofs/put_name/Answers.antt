@@ -1,6 +1,5 @@
 -- `disk_names::put_name` meets its contract.
 -- Assumes nothing.
-use Prim.Native.Nat.{◌-◌}
 use Rattle.say_put.proofs.Clipping.{clip_long}
 use Rattle.disk_names.proofs.Showing.{showing_start, showing_turn, showing_end}
 use Rattle.disk_names.proofs.put_name.Goals as goal

@@ -1,6 +1,5 @@
 -- `disk_saves::lowest_outside` meets its contract.
 -- Assumes nothing.
-use Prim.Native.Nat.{◌-◌}
 use Rattle.disk_saves.proofs.Lowest.{low_start, low_found, low_turn, low_end}
 use Rattle.disk_saves.proofs.lowest_outside.Goals as goal
 

@@ -1,6 +1,5 @@
 -- `disk_saves::stands_in` meets its contract.
 -- Assumes nothing.
-use Prim.Native.Nat.{◌-◌}
 use Rattle.disk_saves.proofs.Lowest.{stand_start, stand_found, stand_turn, stand_end}
 use Rattle.disk_saves.proofs.stands_in.Goals as goal
 
