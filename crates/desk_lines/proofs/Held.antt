@@ -1,16 +1,13 @@
 -- A stretch lies within its buffer, and one after the other brings a line to its end.
 -- Assumes nothing.
-use Prim.Native.Nat.{ℕ, ◌+◌, ◌-◌, ◌≤◌, ◌<◌}
+use Prim.Native.Nat.{ℕ, ◌≤◌, ◌<◌}
 use mathlib.Core.Path.{◌≡◌, refl, ap, ◌∙◌}
-use mathlib.Core.List.{List, [], ◌∷◌}
+use mathlib.Core.List.{List}
 use native.Mathlib.Omega.{arith}
 use lib.ListN.{length}
 use lib.Seq.{sets, length-sets}
 use mir.Syntax.{w16}
 use mir.Val.{Fits}
-use types.Run.{OneOf, miss}
-use denote.Enum.Declared.{tag_of}
-use Rattle.list_stretches.specs.contracts.Place.{the_type}
 use Rattle.list_options.specs.declared.ListOptions.{ListOptions}
 use Rattle.list_stretches.specs.declared.Place.{Place}
 use Rattle.list_stretches.specs.declared.Place.TheVariants.{Number, Body, Over}
@@ -33,15 +30,11 @@ number_left body n = omega arith
 pub writing_start : (body out : List ℕ) (n : ℕ) → Fits w16 n → 9 ≤ length out → Writing body out out (Number n)
 writing_start body out n f e = record { kept = refl; large = e; small = omega (arith, f); more = number_left body n }
 
--- the variants that a match has left behind `Over`
-abbrev pub NotOver : Place → Type 0
-NotOver q = OneOf (0 ∷ 1 ∷ []) (tag_of the_type q)
-
-more_left : (body : List ℕ) (q : Place) → NotOver q → 0 < place_left body q
+more_left : (body : List ℕ) (q : Place) → (q ≡ Over → ⊥) → 0 < place_left body q
 unfolding place_left
 more_left body (Number n) h = omega arith
 more_left body (Body at mode) h = omega arith
-more_left body Over h = absurd (miss (0 ∷ 1 ∷ []) 2 tt h)
+more_left body Over h = absurd (h refl)
 
 none_left : (body : List ℕ) → place_left body Over ≡ 0
 unfolding place_left
@@ -55,7 +48,7 @@ module _ (o : ListOptions) (body first out : List ℕ) (place : Place) {r : Stre
   pub stretch_within : r.length ≤ length after
   stretch_within = omega (arith, stretch_held o body (length out) place is, same_long)
 
-  pub writing_turn : NotOver r.place → Writing body first out place → Writing body first after r.place
+  pub writing_turn : (r.place ≡ Over → ⊥) → Writing body first out place → Writing body first after r.place
   writing_turn h w = record {
     kept = same_long ∙ w.kept;
     large = omega (arith, same_long, w.large);

@@ -1,0 +1,7 @@
+-- `desk_check::walk` is safe and ends.
+-- Assumes nothing.
+use Rattle.desk_check.proofs.Fewer.{fewer_left}
+use Rattle.desk_check.proofs.walk.Goals as goal
+
+pub loop-fault-smaller : goal.loop-fault-smaller
+loop-fault-smaller c = search fewer_left

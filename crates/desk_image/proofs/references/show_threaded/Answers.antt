@@ -1,0 +1,9 @@
+-- `desk_image::references::show_threaded` is safe and ends. The array's length comes by a law: counted out, it is beyond what a search takes.
+-- Assumes nothing.
+use Prim.Native.Nat.{ℕ}
+use mathlib.Core.Path.{sym}
+use lib.ListN.{length-replicate}
+use Rattle.desk_image.proofs.references.show_threaded.Goals as goal
+
+pub slice_bounds-show_rows-end : goal.slice_bounds-show_rows-end
+slice_bounds-show_rows-end c = sym (length-replicate {A = ℕ} 524288 0)

@@ -1,0 +1,8 @@
+-- `desk_text::checks::check_lines` is safe and ends.
+-- Assumes nothing.
+use Prim.Native.Nat.{◌-◌}
+use Rattle.guess.proofs.Texts.{line_less}
+use Rattle.desk_text.proofs.checks.check_lines.Goals as goal
+
+pub loop-at-smaller : goal.loop-at-smaller
+loop-at-smaller c = search line_less
