@@ -9,6 +9,7 @@ ghost use Rattle.crunch_rules.specs.Measured.{unless_blank, nonblank_lines};
 use text_lines::LineRule;
 
 // Stores a text line's number from a place on, unless the line is blank or there is no room, and answers the place behind it.
+#[tactic(auto, using(crate::proofs::Pairing::blank_put))]
 fn put_origin(out: &mut [usize], to: usize, number: usize, line: &[u8]) -> usize
     requires { to ≤ length out.old }
     ensures { Clipped out.old to (unless_blank number (trim_of line.now)) result out.new }

@@ -7,7 +7,7 @@ use mathlib.Core.List.{List, [], ◌∷◌}
 use native.Mathlib.Omega.{arith}
 use lib.Dec.{ltb}
 use lib.ListN.{length, take, drop}
-use borrow.Author.Tests.{lt-ltb, le-ltb, ltb-true, ltb-false}
+use borrow.Author.Tests.{ltb-true, ltb-false}
 use Rattle.base_refusals.specs.Numbers.{Numbered as RefusalAsNumbered, address_overflow}
 use Rattle.base_refusals.specs.Answer.{Answer, done, refused, map_done, and_then}
 use Rattle.base_refusals.specs.declared.Refusal.{Refusal}
@@ -120,14 +120,6 @@ module _ (profile : Bool) (words : Lexicon) (k least : ℕ) (line : List ℕ) (a
       sized_not y =
           ap (λ (a : Answer (List NumberedBody)). and_then a (last_link address))
           (under_says (says_is ∙ ap (λ (v : Allowed). and_then (allowed_answer v) (λ _. done tt)) y))
-
--- the address behind a line
-module _ (address number size : ℕ) where
-  pub size_over : 0xFFFF < address + 5 + size → SizedAsRefused AddressOverflow ≡ sized_at address number size
-  size_over h = rw (lt-ltb 0xFFFF (address + 5 + size) h)
-
-  pub size_here : address + 5 + size ≤ 0xFFFF → SizedAsNumbered number (address + 5 + size) ≡ sized_at address number size
-  size_here h = rw (le-ltb 0xFFFF (address + 5 + size) h)
 
 -- a line that was measured is taken
 unfoldable pub taken_line : {profile : Bool} {words : Lexicon} {k least address : ℕ} {line : List ℕ} {number behind : ℕ} (s : LineSized address (line_under profile words k least line) number behind)

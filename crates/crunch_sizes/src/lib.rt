@@ -32,6 +32,7 @@ pub struct Spot {
 }
 
 // A text line.
+#[tactic(auto, using(crate::proofs::Sizing::sized_plain))]
 pub fn measure_line(line: &[u8], spot: Spot, bytes: &[u8], index: &[u16], sets: Sets) -> Sized
     requires { SpellsWords bytes.now index.now × (spot.address ≤ 0xFFFF) }
     ensures { SizedAs spot.address (line_under spot.profile (lexicon sets) spot.k spot.least line.now) result }

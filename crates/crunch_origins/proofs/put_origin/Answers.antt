@@ -1,10 +1,7 @@
 -- `crunch_origins::put_origin` meets its contract.
 -- Assumes nothing.
-use Rattle.crunch_origins.proofs.Pairing.{blank_put, line_put, line_over}
+use Rattle.crunch_origins.proofs.Pairing.{line_put, line_over}
 use Rattle.crunch_origins.proofs.put_origin.Goals as goal
-
-pub returns-then-trim-eq0 : goal.returns-then-trim-eq0
-returns-then-trim-eq0 c = search blank_put
 
 pub returns-then-to-out : goal.returns-then-to-out
 returns-then-to-out c = search line_over

@@ -1,7 +1,6 @@
 -- `crunch_sizes::measure_line` meets its contract: the numbering of the line says which case holds, and then the profile, if it is asked.
 -- Assumes nothing.
-use borrow.Author.Tests.{not-true, not-false}
-use Rattle.crunch_sizes.proofs.Sizing.{sized_blank, sized_missing, sized_range, sized_plain, sized_allowed, sized_not}
+use Rattle.crunch_sizes.proofs.Sizing.{sized_blank, sized_missing, sized_range, sized_allowed, sized_not}
 use Rattle.crunch_rules.proofs.Lining.{body_up, body_within}
 use Rattle.crunch_sizes.proofs.measure_line.Goals as goal
 
@@ -13,9 +12,6 @@ slice_bounds-measure_body-start c = search body_up
 
 pub slice_bounds-measure_body-end : goal.slice_bounds-measure_body-end
 slice_bounds-measure_body-end c = search body_within
-
-pub returns-then-not-profile : goal.returns-then-not-profile
-returns-then-not-profile c = search (sized_plain, not-true)
 
 pub slice_bounds-holds_zero-count : goal.slice_bounds-holds_zero-count
 slice_bounds-holds_zero-count c = search body_up
@@ -36,7 +32,7 @@ pub returns-in-OutOfRange : goal.returns-in-OutOfRange
 returns-in-OutOfRange c = search sized_range
 
 pub returns-in-Yes : goal.returns-in-Yes
-returns-in-Yes c = search (sized_allowed, not-false)
+returns-in-Yes c = search sized_allowed
 
 pub returns-in-Refused : goal.returns-in-Refused
-returns-in-Refused c = search (sized_not, not-false)
+returns-in-Refused c = search sized_not
