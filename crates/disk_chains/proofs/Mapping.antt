@@ -1,10 +1,10 @@
 -- The map's bits beside marks.
 -- Assumes nothing.
-use Prim.Native.Nat.{ℕ, ◌+◌, ◌*◌, ◌-◌, ◌≤◌, ◌<◌}
-use mathlib.Core.Path.{◌≡◌, refl, sym, ap, ◌∙◌, fun_ext}
-use mathlib.Core.Bool.{Bool, true, false, not, cond, ◌&&◌}
+use Prim.Native.Nat.{ℕ, ◌+◌, ◌≤◌, ◌<◌}
+use mathlib.Core.Path.{◌≡◌, sym, ap, ◌∙◌, fun_ext}
+use mathlib.Core.Bool.{Bool, true, false, not, ◌&&◌}
 use mathlib.Core.List.{List}
-use lib.Dec.{ltb, eqb}
+use lib.Dec.{eqb}
 use lib.ListN.{length, get_or}
 use native.Mathlib.Decide.{dec_lt}
 use native.Mathlib.Omega.{arith}
@@ -13,8 +13,7 @@ use Rattle.disk_rules.specs.Places.{sectors_on, sectors_before}
 use Rattle.disk_rules.specs.Lists.{is_in, none_twice}
 use Rattle.disk_rules.specs.Map.{bit_at}
 use Rattle.disk_rules.specs.Free.{bit_agrees, map_agrees}
-use Rattle.disk_sectors.proofs.Geometry.{zone_1, zone_2, zone_3, zone_4}
-use Rattle.disk_chains.specs.ChainHelpers.{Marks, Marked}
+use Rattle.disk_chains.specs.ChainHelpers.{Marked}
 
 -- a track's sectors end with the disk at the latest
 pub on_room : (t : ℕ) → 1 ≤ t → t ≤ 35 → sectors_before t + sectors_on t ≤ 683

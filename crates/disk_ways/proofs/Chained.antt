@@ -5,7 +5,7 @@ use mathlib.Core.Path.{◌≡◌, refl, sym, ap, subst, ◌∙◌}
 use mathlib.Core.Bool.{Bool, true, false, not, cond, ◌&&◌, ◌||◌, and-false}
 use mathlib.Core.List.{List, [], ◌∷◌}
 use lib.Dec.{eqb}
-use lib.ListN.{length, get_or}
+use lib.ListN.{length}
 use native.Mathlib.Omega.{arith}
 use borrow.Author.Tests.{eqb-true, eq-eqb}
 use Rattle.base_steps.specs.Again.{again}
@@ -18,10 +18,9 @@ use Rattle.disk_rules.specs.CountedHelpers.{chain_within}
 use Rattle.disk_rules.specs.Entries.{chain_by, chain_of}
 use Rattle.disk_rules.proofs.Counting.{never}
 use Rattle.disk_rules.proofs.Ends.{ends_once, most, chain_any, chain_counted}
-use Rattle.disk_ways.specs.Ways.{tracks_over, may_go, link_on, link_there, Way, stopped, stray_at, refused_at, way_onward, way, way_by, way_of, ends_as}
+use Rattle.disk_ways.specs.Ways.{tracks_over, may_go, link_on, link_there, Way, stopped, refused_at, way_onward, way, way_by, way_of, ends_as}
 use Rattle.disk_ways.specs.declared.Over.{Over}
-use Rattle.disk_ways.specs.declared.Stop.{Stop}
-use Rattle.disk_ways.specs.declared.Stop.TheVariants.{Ended, Astray, Barred, Again}
+use Rattle.disk_ways.specs.declared.Stop.TheVariants.{Ended, Barred, Again}
 
 -- what a way with one sector more has not met
 or_false : (a b : Bool) → (a || b) ≡ false → (a ≡ false) × (b ≡ false)

@@ -8,11 +8,10 @@ use native.Mathlib.Decide.{dec_lt}
 use native.Mathlib.Omega.{arith}
 use borrow.Author.Tests.{lt-ltb, le-ltb, le-leb, lt-leb, leb-true, ltb-true, eq-eqb, ne_eqb}
 use Rattle.disk_rules.specs.Places.{sectors_on, sectors_before, sector_at}
-use Rattle.disk_rules.specs.declared.Link.{Link}
 use Rattle.disk_rules.specs.declared.Link.TheVariants.{Last, To, Astray}
 use Rattle.disk_ways.specs.Ways.{may_go, link_on, refused_at, ends_as}
 use Rattle.disk_ways.specs.declared.Over.{Over}
-use Rattle.disk_ways.specs.declared.Over.TheVariants.{Directory, Files, Tracks}
+use Rattle.disk_ways.specs.declared.Over.TheVariants.{Directory, Files}
 use Rattle.disk_ways.specs.declared.Stop.{Stop}
 use Rattle.disk_ways.specs.declared.Stop.TheVariants.{Ended, Barred, Again}
 

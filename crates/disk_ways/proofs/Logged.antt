@@ -1,17 +1,17 @@
 -- The sectors of a way are the disk's, and a log's start is what was logged.
 -- Assumes nothing.
 use Prim.Native.Nat.{ℕ, zero, suc, ◌+◌, ◌*◌, ◌≤◌, ◌<◌}
-use mathlib.Core.Path.{◌≡◌, refl, sym, ap, ◌∙◌}
+use mathlib.Core.Path.{◌≡◌, refl, sym}
 use mathlib.Core.Bool.{Bool, true, false, not, cond, ◌&&◌, ◌||◌}
-use mathlib.Core.List.{List, [], ◌∷◌}
+use mathlib.Core.List.{List}
 use lib.Dec.{eqb}
 use lib.ListN.{length, get_or, take, drop}
-use lib.Seq.{sets, sets-eq, take_at}
+use lib.Seq.{sets-eq, take_at}
 use native.Mathlib.Omega.{arith}
 use Rattle.base_steps.specs.Each.{Each}
 use Rattle.disk_rules.specs.declared.Link.{Link}
 use Rattle.disk_rules.specs.declared.Link.TheVariants.{Last, To, Astray as NoSector}
-use Rattle.disk_ways.specs.Ways.{tracks_over, sectors_over, may_go, link_on, link_there, Way, stopped, refused_at, way_onward, way, way_by, way_of}
+use Rattle.disk_ways.specs.Ways.{tracks_over, sectors_over, may_go, link_there, Way, stopped, refused_at, way_onward, way, way_by, way_of}
 use Rattle.disk_ways.specs.WayHelpers.{Follows}
 use Rattle.disk_ways.specs.declared.Over.{Over}
 use Rattle.disk_ways.specs.declared.Followed.{Followed}

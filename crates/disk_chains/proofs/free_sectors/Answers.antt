@@ -1,6 +1,5 @@
 -- `disk_chains::free_sectors` meets its contract.
 -- Assumes nothing.
-use Prim.Native.Nat.{◌-◌}
 use Rattle.disk_chains.proofs.Runs.{pick_start, pick_in, pick_out, pick_end, free_listed}
 use Rattle.disk_chains.proofs.free_sectors.Goals as goal
 

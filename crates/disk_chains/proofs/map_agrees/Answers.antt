@@ -1,6 +1,5 @@
 -- `disk_chains::map_agrees` meets its contract.
 -- Assumes nothing.
-use Prim.Native.Nat.{◌-◌}
 use Rattle.disk_rules.specs.Free.{map_agrees}
 use Rattle.disk_chains.proofs.Runs.{left_start, left_turn, left_failed, left_end}
 use Rattle.disk_chains.proofs.map_agrees.Goals as goal

@@ -1,6 +1,5 @@
 -- `disk_chains::mark_all` meets its contract.
 -- Assumes nothing.
-use Prim.Native.Nat.{◌-◌}
 use Rattle.disk_chains.proofs.Marking.{set_start, set_long, set_below, set_turn, set_end}
 use Rattle.disk_chains.proofs.mark_all.Goals as goal
 

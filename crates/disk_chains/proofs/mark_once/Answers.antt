@@ -1,6 +1,5 @@
 -- `disk_chains::mark_once` meets its contract.
 -- Assumes nothing.
-use Prim.Native.Nat.{◌-◌}
 use native.Mathlib.Omega.{arith}
 use lib.ListN.{length-set}
 use Rattle.disk_chains.proofs.Marking.{mark_start, mark_in, mark_twice, mark_turn, mark_end}

@@ -1,6 +1,5 @@
 -- `disk_chains::mark_once` meets its contract.
 -- Assumes nothing.
-use Prim.Native.Nat.{◌-◌}
 use mathlib.Core.Path.{◌≡◌}
 use lib.ListN.{length}
 use Rattle.disk_chains.proofs.Marking.{Marking}

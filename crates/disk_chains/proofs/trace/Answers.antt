@@ -1,6 +1,5 @@
 -- `disk_chains::trace` meets its contract.
 -- Assumes nothing.
-use Prim.Native.Nat.{◌-◌}
 use native.Mathlib.Omega.{arith}
 use lib.ListN.{length-set}
 use Rattle.disk_chains.proofs.Tracing.{trace_start, trace_full, trace_not, trace_fits, trace_room, trace_last, trace_astray, trace_turn}

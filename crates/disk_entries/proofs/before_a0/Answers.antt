@@ -1,6 +1,5 @@
 -- `disk_entries::before_a0` meets its contract.
 -- Assumes nothing.
-use Prim.Native.Nat.{◌-◌}
 use Rattle.disk_entries.proofs.Naming.{pass_start, pass_end, pass_a0, pass_turn}
 use Rattle.disk_entries.proofs.before_a0.Goals as goal
 

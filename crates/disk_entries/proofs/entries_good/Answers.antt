@@ -1,6 +1,5 @@
 -- `disk_entries::entries_good` meets its contract.
 -- Assumes nothing.
-use Prim.Native.Nat.{◌-◌}
 use Rattle.disk_entries.proofs.Finding.{test_start, entry_in_lem, entry_first, test_tail, test_type, test_twice, test_turn, test_end}
 use borrow.Author.Rules.{rules}
 use Rattle.disk_entries.proofs.entries_good.Goals as goal

@@ -1,6 +1,5 @@
 -- `disk_entries::entries_that` meets its contract.
 -- Assumes nothing.
-use Prim.Native.Nat.{◌-◌}
 use mathlib.Core.Path.{refl}
 use Rattle.disk_chains.proofs.Runs.{pick_start, pick_in, pick_out, pick_end}
 use Rattle.disk_entries.proofs.Placing.{that_stored}

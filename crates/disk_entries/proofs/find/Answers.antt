@@ -1,6 +1,5 @@
 -- `disk_entries::find` meets its contract.
 -- Assumes nothing.
-use Prim.Native.Nat.{◌-◌}
 use Rattle.disk_entries.proofs.Finding.{seek_start, seek_found, seek_turn, seek_end, entry_in_lem}
 use Rattle.disk_entries.proofs.find.Goals as goal
 

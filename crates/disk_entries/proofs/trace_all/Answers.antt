@@ -1,6 +1,5 @@
 -- `disk_entries::trace_all` meets its contract.
 -- Assumes nothing.
-use Prim.Native.Nat.{◌-◌}
 use Rattle.disk_entries.proofs.Following.{follow_start, follow_room, follow_in, follow_end, follow_broken, follow_turn}
 use borrow.Author.Rules.{rules}
 use Rattle.disk_entries.proofs.trace_all.Goals as goal

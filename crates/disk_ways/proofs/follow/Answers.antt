@@ -1,6 +1,5 @@
 -- `disk_ways::follow` meets its contract.
 -- Assumes nothing.
-use Prim.Native.Nat.{◌-◌}
 use native.Mathlib.Omega.{arith}
 use lib.ListN.{length-set}
 use Rattle.disk_ways.proofs.Following.{follow_start, follow_mark, follow_full, follow_barred, follow_again, follow_last, follow_astray, follow_turn, follow_room, follow_fits}
