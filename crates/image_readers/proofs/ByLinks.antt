@@ -14,7 +14,7 @@ use Rattle.image_readers.specs.declared.Line.{Line}
 use Rattle.image_readers.specs.Image.{line, end}
 use Rattle.image_readers.proofs.Equations.{LiesAt, Sound}
 use Rattle.image_readers.specs.Links.{linked_line, follow, link_step}
-use Rattle.image_readers.proofs.Finding.{sized_long, sized_short, RightLength, Knows, cond_by, sized_knows, knows_length, knows_line}
+use Rattle.image_readers.proofs.Finding.{sized_long, sized_short, Knows, cond_by, sized_knows, knows_length, knows_line}
 
 module _ (s : List ℕ) (p : ℕ) where
   pub link_long : 1048576 < length s → refused (image_too_long (length s)) ≡ link_step s p

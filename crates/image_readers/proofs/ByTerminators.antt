@@ -15,7 +15,7 @@ use Rattle.image_readers.specs.declared.Line.{Line}
 use Rattle.image_readers.specs.Image.{line_at, line, end}
 use Rattle.image_readers.proofs.Equations.{LiesAt, Sound}
 use Rattle.image_readers.specs.Terminators.{terminated_line, terminator_step}
-use Rattle.image_readers.proofs.Finding.{sized_long, sized_short, RightLength, Knows, cond_by, sized_knows, knows_length, knows_line}
+use Rattle.image_readers.proofs.Finding.{sized_long, sized_short, Knows, cond_by, sized_knows, knows_length, knows_line}
 
 -- ---- the answers
 

@@ -1,6 +1,6 @@
 -- The loop that reads a whole image, by either reader: its invariant, a turn, and its two ends.
 -- Assumes nothing.
-use Prim.Native.Nat.{ℕ, ◌+◌, ◌-◌, ◌≤◌, ◌<◌}
+use Prim.Native.Nat.{ℕ, ◌+◌, ◌≤◌}
 use mathlib.Core.Path.{◌≡◌, refl, sym, ap, ◌∙◌}
 use mathlib.Core.List.{List, ◌∷◌}
 use native.Mathlib.Omega.{arith}
@@ -17,7 +17,7 @@ use Rattle.image_readers.specs.Answers.{step_answer}
 use Rattle.image_bytes.specs.ImageBytes.{low_first_at}
 use Rattle.image_readers.specs.Lines.{lines_from, Overview, overview_of, overview}
 use Rattle.image_readers.specs.Readers.{step_by}
-use Rattle.image_readers.proofs.Equations.{LiesAt, Sound, lines_line, lines_end, lines_refused}
+use Rattle.image_readers.proofs.Equations.{LiesAt, lines_line, lines_end, lines_refused}
 use Rattle.image_readers.proofs.Finding.{told}
 use Rattle.image_readers.proofs.Steps.{by_sound}
 

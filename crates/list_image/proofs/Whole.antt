@@ -31,7 +31,7 @@ use Rattle.image_units.specs.declared.Rules.{Rules}
 use Rattle.list_spelling.proofs.Owed.{Owed, owed_start, owed_room, owed_turn, owed_end}
 use Rattle.list_lines.specs.Body.{line_listing}
 use Rattle.list_lines.specs.LineHelpers.{head_listing, rest_listing, LineLength}
-use Rattle.list_options.specs.Modes.{rules_under, original_options}
+use Rattle.list_options.specs.Modes.{rules_under, original_options, heeds_prefix}
 use Rattle.list_options.specs.declared.ListOptions.{ListOptions}
 use Rattle.list_image.specs.Listing.{lines_listing, listing_by, listing, listing_under}
 use Rattle.list_lines.proofs.Lining.{line_parts}
@@ -206,9 +206,9 @@ module _ (o : ListOptions) (image : List ℕ) {rules : Rules} (is : rules ≡ ru
 
 module _ (image : List ℕ) {o : ListOptions} (is : o ≡ original_options) where
   pub original_room : {a : Answer ℕ} → a ≡ room_for (listing_under o image) → a ≡ room_for (listing image)
-  unfolding listing listing_under
-  original_room e = rw is at e
+  unfolding listing listing_under heeds_prefix
+  original_room {a = a} e = subst (λ (x : ListOptions). a ≡ room_for (listing_under x image)) is e
 
   pub original_listing : (buffer : List ℕ) {a : Lent} → a ≡ into_buffer (listing_under o image) buffer → a ≡ into_buffer (listing image) buffer
-  unfolding listing listing_under
-  original_listing buffer e = rw is at e
+  unfolding listing listing_under heeds_prefix
+  original_listing buffer {a = a} e = subst (λ (x : ListOptions). a ≡ into_buffer (listing_under x image) buffer) is e

@@ -1,6 +1,5 @@
 -- `image_bytes::before_zero` meets its contract.
 -- Assumes nothing.
-use Prim.Native.Nat.{◌-◌}
 use Rattle.image_bytes.proofs.Zeros.{passed_none, passed_zero, passed_turn, passed_end}
 use Rattle.image_bytes.proofs.before_zero.Goals as goal
 

@@ -1,6 +1,5 @@
 -- `image_readers::check_by` meets its contract.
 -- Assumes nothing.
-use Prim.Native.Nat.{◌-◌}
 use Rattle.image_readers.proofs.Counting.{passed_start, passed_turn, passed_fits, passed_end, passed_refused}
 use Rattle.image_readers.proofs.Steps.{found_nearer, end_long}
 use Rattle.image_readers.proofs.check_by.Goals as goal

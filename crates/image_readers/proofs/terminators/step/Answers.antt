@@ -1,5 +1,6 @@
 -- `image_readers::terminators::step` meets its contract: the tests that were passed say which answer is given.
 -- Assumes nothing.
+use Rattle.std.proofs.Common.{◌+◌, ◌≢◌, get_or, arith}
 use Rattle.image_readers.proofs.ByTerminators.{terminator_long, terminator_short, terminator_beyond, terminator_lone, terminator_end, terminator_cut, terminator_line}
 use Rattle.image_readers.proofs.terminators.step.Goals as goal
 
@@ -19,7 +20,11 @@ pub returns-then-image-offset-eq0 : goal.returns-then-image-offset-eq0
 returns-then-image-offset-eq0 c = search terminator_end
 
 pub returns-then-length-offset-lt4 : goal.returns-then-length-offset-lt4
-returns-then-length-offset-lt4 c = search (terminator_cut, c.if-image-offset-eq0.false)
+returns-then-length-offset-lt4 c =
+    let ne : get_or c.args.image.now (c.args.offset + 1) 0 ≢ 0 = omega arith in
+    search (terminator_cut, ne)
 
 pub returns : goal.returns
-returns c = search (terminator_line, c.if-image-offset-eq0.false)
+returns c =
+    let ne : get_or c.args.image.now (c.args.offset + 1) 0 ≢ 0 = omega arith in
+    search (terminator_line, ne)
