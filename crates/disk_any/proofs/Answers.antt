@@ -1,12 +1,11 @@
 -- What is answered of the entry at a place.
 -- Assumes nothing.
-use Prim.Native.Nat.{ℕ, ◌+◌, ◌*◌, ◌≤◌, ◌<◌}
-use mathlib.Core.Path.{◌≡◌, refl, sym, ap, ◌∙◌}
-use mathlib.Core.List.{List, []}
+use Prim.Native.Nat.{ℕ, ◌+◌, ◌*◌, ◌≤◌}
+use mathlib.Core.Path.{◌≡◌, sym, ap, ◌∙◌}
+use mathlib.Core.List.{List}
 use lib.ListN.{length, get_or, take}
-use native.Mathlib.Omega.{arith}
 use Rattle.disk_rules.specs.Entries.{name_at}
-use Rattle.disk_any.specs.Any.{disk_kind, directory_on, stop_by, any_listed, spot_from, any_spot, entry_told, name_of, file_on, ReadInto, read_by, read_at, any_file}
+use Rattle.disk_any.specs.Any.{disk_kind, directory_on, stop_by, any_listed, any_spot, entry_told, name_of, file_on, ReadInto, read_by, read_at, any_file}
 use Rattle.disk_ways.specs.declared.Stop.{Stop}
 use Rattle.disk_any.specs.AnyHelpers.{Placed}
 use Rattle.disk_any.specs.declared.DiskKind.{DiskKind}

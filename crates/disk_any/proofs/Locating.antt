@@ -2,9 +2,8 @@
 -- Assumes nothing.
 use Prim.Native.Nat.{ℕ, zero, suc, ◌+◌, ◌-◌, ◌*◌, ◌/◌, ◌%◌, ◌≤◌, ◌<◌}
 use mathlib.Core.Path.{◌≡◌, refl, sym, ap, subst, ◌∙◌, fun_ext}
-use mathlib.Core.Bool.{Bool, true, false, not, cond}
+use mathlib.Core.Bool.{Bool, true, false, not}
 use mathlib.Core.List.{List, [], ◌∷◌, map}
-use lib.Dec.{eqb, leb}
 use lib.ListN.{length, get_or, take, replicate}
 use lib.Seq.{sets}
 use native.Mathlib.Omega.{arith}
@@ -15,23 +14,20 @@ use Rattle.base_steps.specs.Each.{Each}
 use Rattle.base_steps.proofs.Each.{each_at}
 use Rattle.disk_rules.specs.Places.{sectors_before}
 use Rattle.disk_rules.specs.Lists.{numbers_from, those}
-use Rattle.disk_rules.specs.Entries.{entry_at, is_that, entries_that, name_at}
+use Rattle.disk_rules.specs.Entries.{entry_at, is_that, entries_that}
 use Rattle.disk_rules.specs.Calls.{chain_bytes}
-use Rattle.disk_ways.specs.Ways.{none_met, Way, way, way_of, ends_as, sectors_over}
+use Rattle.disk_ways.specs.Ways.{none_met, Way, way, way_of, ends_as}
 use Rattle.disk_ways.specs.WayHelpers.{Follows}
 use Rattle.disk_ways.specs.declared.Over.TheVariants.{Tracks}
 use Rattle.disk_ways.specs.declared.Followed.{Followed}
 use Rattle.disk_ways.proofs.Logged.{Of, way_each, entry_each, followed_start}
-use Rattle.disk_any.specs.Any.{disk_kind, directory_on, listed_by, any_listed, spot_from, any_spot, entry_told, name_of, file_on, ReadInto, read_by, read_at, any_file}
+use Rattle.disk_any.specs.Any.{disk_kind, directory_on, listed_by, any_listed, spot_from, file_on, ReadInto, read_by}
 use Rattle.disk_any.specs.AnyHelpers.{Holds, Below, Placed}
 use Rattle.disk_any.specs.declared.DiskKind.{DiskKind}
 use Rattle.disk_any.specs.declared.DiskKind.TheVariants.{D64, D71, D81, Other}
 use Rattle.disk_any.specs.declared.EntrySpot.{EntrySpot}
 use Rattle.disk_any.specs.declared.EntrySpot.TheVariants.{On, Off}
-use Rattle.disk_any.specs.declared.Entry.{Entry}
-use Rattle.disk_any.specs.declared.Entry.TheVariants.{Is, None}
-use Rattle.disk_any.specs.declared.FileRead.{FileRead}
-use Rattle.disk_any.specs.declared.FileRead.TheVariants.{Done, NoEntry, Stopped, NoRoom}
+use Rattle.disk_any.specs.declared.FileRead.TheVariants.{Done, Stopped, NoRoom}
 
 -- ---- a place in a list
 

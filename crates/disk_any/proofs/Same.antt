@@ -1,33 +1,33 @@
 -- On a disk that the check takes, the reader of any disk gives the same directory and the same bytes as the calls over one.
 -- Assumes nothing.
-use Prim.Native.Nat.{ℕ, zero, suc, ◌≤◌}
+use Prim.Native.Nat.{ℕ, zero, suc}
 use mathlib.Core.Path.{◌≡◌, refl, sym, ap, ◌∙◌}
-use mathlib.Core.Bool.{Bool, true, false, not, cond, ◌&&◌, ◌||◌}
-use mathlib.Core.List.{List, [], ◌∷◌, ◌++◌}
+use mathlib.Core.Bool.{Bool, true, false, cond, ◌||◌}
+use mathlib.Core.List.{List, [], ◌∷◌}
 use lib.Dec.{eqb}
 use lib.ListN.{length}
 use native.Mathlib.Omega.{arith}
 use borrow.Author.Tests.{eqb-true, eq-eqb}
-use Rattle.base_refusals.specs.Answer.{Answer, done, refused}
-use Rattle.base_refusals.specs.Numbers.{bad_disk, bad_name, no_such_file}
-use Rattle.disk_rules.specs.Lists.{those, some, is_in, none_twice}
+use Rattle.base_refusals.specs.Answer.{done, refused}
+use Rattle.base_refusals.specs.Numbers.{bad_disk, bad_name}
+use Rattle.disk_rules.specs.Lists.{some, is_in}
 use Rattle.disk_rules.specs.Entries.{directory, listed, entries_that, is_named, chain_of}
 use Rattle.disk_rules.specs.Check.{sound}
 use Rattle.disk_rules.specs.Calls.{is_file_name, of_file, entries_named, chain_bytes, file_bytes}
 use Rattle.disk_rules.proofs.Counting.{never, in_those_list}
-use Rattle.disk_ways.specs.Ways.{none_met, Way, ends_as}
+use Rattle.disk_ways.specs.Ways.{none_met, ends_as}
 use Rattle.disk_ways.specs.declared.Over.TheVariants.{Tracks}
 use Rattle.disk_ways.specs.declared.Stop.{Stop}
 use Rattle.disk_ways.specs.declared.Stop.TheVariants.{Ended, Astray, Barred, Again}
 use Rattle.disk_ways.proofs.Chained.{Walked, chain_walked, entry_walked}
 use Rattle.disk_laws.proofs.Kept.{in_those}
 use Rattle.disk_laws.proofs.Chained.{AllEnd}
-use Rattle.disk_laws.proofs.Parts.{Parts, parts}
-use Rattle.disk_any.specs.Any.{disk_kind, directory_on, listed_by, any_listed, spot_from, any_spot, file_on, ReadInto, lent_bytes, read_by, read_at, any_file}
+use Rattle.disk_laws.proofs.Parts.{parts}
+use Rattle.disk_any.specs.Any.{disk_kind, directory_on, listed_by, any_listed, spot_from, any_spot, file_on, lent_bytes, read_by, read_at, any_file}
 use Rattle.disk_any.specs.declared.DiskKind.{DiskKind}
 use Rattle.disk_any.specs.declared.DiskKind.TheVariants.{D64}
 use Rattle.disk_any.specs.declared.EntrySpot.{EntrySpot}
-use Rattle.disk_any.specs.declared.EntrySpot.TheVariants.{On, Off}
+use Rattle.disk_any.specs.declared.EntrySpot.TheVariants.{On}
 use Rattle.disk_any.proofs.Sizes.{kind_1}
 
 -- a file's chain that ends as it should ends

@@ -1,6 +1,6 @@
 -- Any disk read (docs/RULES.md, "Any disk read"): what can be read of an image that the check may refuse, by the way of each chain, whatever the map says.
 -- Assumes nothing.
-use Rattle.std.specs.Prelude.{ℕ, zero, suc, ◌+◌, ◌*◌, Bool, true, false, cond, List, [], ◌∷◌, leb, eqb, length, get_or}
+use Rattle.std.specs.Prelude.{ℕ, zero, suc, ◌+◌, ◌*◌, true, cond, List, [], ◌∷◌, leb, eqb, length, get_or}
 use Rattle.std.proofs.lemmas.List.Edits.{sets}
 use Rattle.disk_rules.specs.Entries.{entries_that, name_at}
 use Rattle.disk_rules.specs.Calls.{chain_bytes}

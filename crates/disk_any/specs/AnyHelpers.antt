@@ -1,6 +1,6 @@
 -- What the contracts of the helpers in this crate say of lists in the caller's hands.
 -- Assumes nothing.
-use Rattle.std.specs.Prelude.{ℕ, ◌+◌, ◌*◌, ◌≤◌, ◌<◌, ◌≡◌, true, List, length, get_or}
+use Rattle.std.specs.Prelude.{ℕ, ◌+◌, ◌*◌, ◌≤◌, ◌<◌, ◌≡◌, List, length, get_or}
 use Rattle.disk_rules.specs.Places.{sectors_before}
 use Rattle.disk_any.specs.Any.{spot_from}
 use Rattle.disk_any.specs.declared.EntrySpot.{EntrySpot}

@@ -1,22 +1,20 @@
 -- A disk that is changed among the bytes of files has its map, its directory and its chains: it is sound where it was.
 -- Assumes nothing.
 use Prim.Native.Nat.{ℕ, ◌+◌, ◌*◌, ◌/◌, ◌%◌, ◌≤◌, ◌<◌}
-use mathlib.Core.Path.{◌≡◌, refl, sym, ap, ◌∙◌}
+use mathlib.Core.Path.{◌≡◌, refl, ap, ◌∙◌}
 use mathlib.Core.Bool.{Bool, true, false, ◌&&◌}
 use mathlib.Core.List.{List}
-use lib.Dec.{leb, ltb}
+use lib.Dec.{leb}
 use lib.ListN.{length, get_or}
 use native.Mathlib.Omega.{arith}
 use borrow.Author.Tests.{lt-leb, le-ltb}
 use Rattle.disk_rules.specs.Lists.{is_in}
-use Rattle.disk_rules.specs.Places.{off_track18}
 use Rattle.disk_rules.specs.Links.{link_at}
-use Rattle.disk_rules.specs.Free.{map_agrees}
 use Rattle.disk_rules.specs.Chains.{Chain}
-use Rattle.disk_rules.specs.Entries.{directory, listed, entries_that, is_that, is_listed, entry_at}
+use Rattle.disk_rules.specs.Entries.{directory, listed, entries_that, is_listed, entry_at}
 use Rattle.disk_rules.specs.Check.{sound}
 use Rattle.image_layout.specs.Changed.{ChangedAt}
-use Rattle.disk_laws.proofs.Without.{Same, AllSame, those_same, good_same, sectors_same, ends_same}
+use Rattle.disk_laws.proofs.Without.{AllSame, those_same, good_same, sectors_same, ends_same}
 use Rattle.disk_laws.proofs.Chained.{all_sectors}
 use Rattle.disk_laws.proofs.Parts.{Parts, parts, parts_sound, link_same, directory_same, entry_same, map_same, EntryPlace, entry_place, FromRun, that_from}
 use Rattle.disk_damage.specs.Worn.{is_file_byte}

@@ -1,17 +1,16 @@
 -- The first fault of a list, and of each rule: the loops' invariants, a turn, and their ends.
 -- Assumes nothing.
-use Prim.Native.Nat.{ℕ, zero, suc, ◌+◌, ◌-◌, ◌*◌, ◌/◌, ◌%◌, ◌≤◌, ◌<◌}
+use Prim.Native.Nat.{ℕ, zero, suc, ◌+◌, ◌-◌, ◌*◌, ◌≤◌, ◌<◌}
 use mathlib.Core.Path.{◌≡◌, refl, sym, ap, ◌∙◌, fun_ext}
-use mathlib.Core.Bool.{Bool, true, false, not, cond, ◌&&◌, ◌||◌}
+use mathlib.Core.Bool.{Bool, true, false, not, cond}
 use mathlib.Core.List.{List, [], ◌∷◌}
-use lib.Dec.{ltb, eqb}
 use lib.ListN.{length, get_or, take, drop, replicate, drop_of_length-le, length-drop}
 use lib.Seq.{drop-cons, get_or-drop, take_all}
 use native.Mathlib.Numerals.{add-one}
 use native.Mathlib.Omega.{arith}
 use borrow.Author.Tests.{eq-eqb, ne_eqb, lt-ltb, le-ltb, not-true, not-false}
 use Rattle.disk_rules.specs.Places.{sectors_on, sectors_before}
-use Rattle.disk_rules.specs.Lists.{numbers_from, those, is_in}
+use Rattle.disk_rules.specs.Lists.{numbers_from, those}
 use Rattle.disk_rules.specs.Map.{bit_at}
 use Rattle.disk_rules.specs.Free.{bit_agrees}
 use Rattle.disk_rules.specs.Entries.{name_at, is_named}
@@ -20,7 +19,7 @@ use Rattle.disk_entries.specs.EntryHelpers.{Entries, first_entry}
 use Rattle.disk_ways.specs.Ways.{none_met, sectors_over, Way, way_of, ends_as}
 use Rattle.disk_ways.specs.declared.Over.TheVariants.{Files}
 use Rattle.disk_ways.specs.declared.Stop.{Stop}
-use Rattle.disk_why.specs.Why.{is_nothing, or_else, first_fault, same_fault, entry_fault, file_fault, alone_fault, met_behind, crossed_fault, met_by, bit_fault, map_fault}
+use Rattle.disk_why.specs.Why.{is_nothing, or_else, first_fault, same_fault, entry_fault, file_fault, alone_fault, met_behind, crossed_fault, met_by, bit_fault}
 use Rattle.disk_why.specs.BrokenHelpers.{Crosses, Crossed}
 use Rattle.disk_why.specs.declared.Broken.{Broken}
 use Rattle.disk_why.specs.declared.Broken.TheVariants.{Nothing, NotClosed, SameName, File, Free, Used, Beyond}

@@ -16,7 +16,7 @@ use Rattle.disk_rules.specs.Chains.{Chain}
 use Rattle.disk_rules.specs.Entries.{directory, entries_that, listed, name_at, is_named, entries_good, chain_of}
 use Rattle.disk_rules.specs.Check.{sound}
 use Rattle.disk_rules.proofs.Counting.{never, and_left, and_right, in_append}
-use Rattle.disk_ways.specs.Ways.{none_met, Way, way_of, ends_as}
+use Rattle.disk_ways.specs.Ways.{none_met, way_of, ends_as}
 use Rattle.disk_ways.specs.declared.Over.TheVariants.{Directory as DirectoryWay, Files}
 use Rattle.disk_ways.proofs.Chained.{Chained, way_chained, entry_chained, Walked, chain_walked, entry_walked}
 use Rattle.disk_laws.proofs.Without.{Apart, apart_lists, lists_apart_lem}

@@ -1,10 +1,9 @@
 -- The rules one behind the other: what is told at each.
 -- Assumes nothing.
-use Prim.Native.Nat.{ℕ, suc, ◌+◌, ◌*◌, ◌≤◌, ◌<◌}
-use mathlib.Core.Path.{◌≡◌, refl, sym, ap, subst, ◌∙◌, fun_ext}
-use mathlib.Core.Bool.{Bool, true, false, not, cond, ◌&&◌}
+use Prim.Native.Nat.{ℕ, ◌*◌, ◌≤◌}
+use mathlib.Core.Path.{◌≡◌, sym, ap, subst, ◌∙◌, fun_ext}
+use mathlib.Core.Bool.{Bool, true, false, not}
 use mathlib.Core.List.{List}
-use lib.Dec.{eqb}
 use lib.ListN.{length, get_or, take, replicate}
 use native.Mathlib.Omega.{arith}
 use borrow.Author.Tests.{eq-eqb, ne_eqb, not-true, not-false}
@@ -14,15 +13,15 @@ use Rattle.disk_rules.specs.Entries.{entries_that}
 use Rattle.disk_chains.specs.ChainHelpers.{Sectors, Lists}
 use Rattle.disk_entries.specs.EntryHelpers.{Entries}
 use Rattle.disk_check.proofs.Looking.{that_entries, that_few, listed_start}
-use Rattle.disk_ways.specs.Ways.{none_met, way, ends_as, sectors_over}
+use Rattle.disk_ways.specs.Ways.{none_met, way, ends_as}
 use Rattle.disk_ways.specs.WayHelpers.{Follows}
 use Rattle.disk_ways.specs.declared.Over.TheVariants.{Directory as DirectoryWay}
 use Rattle.disk_ways.specs.declared.Followed.{Followed}
 use Rattle.disk_ways.proofs.Logged.{Of, way_each, followed_start}
-use Rattle.disk_why.specs.Why.{is_nothing, or_else, directory_way, entry_fault, alone_fault, crossed_fault, met_by, map_fault, listed_fault, why}
+use Rattle.disk_why.specs.Why.{is_nothing, directory_way, entry_fault, alone_fault, crossed_fault, met_by, map_fault, listed_fault, why}
 use Rattle.disk_why.specs.BrokenHelpers.{Crossed}
 use Rattle.disk_why.specs.declared.Broken.{Broken}
-use Rattle.disk_why.specs.declared.Broken.TheVariants.{Nothing, Length, Start, Directory}
+use Rattle.disk_why.specs.declared.Broken.TheVariants.{Length, Start, Directory}
 use Rattle.disk_why.proofs.Faults.{blank, or_first, or_next}
 
 -- ---- behind the directory

@@ -1,7 +1,7 @@
 -- Why a disk is not in order (docs/RULES.md, "Why a disk is not in order": "the first rule of the check that is broken, in its order, and where").
 -- Each rule is the check's (disk_rules); proofs/Sound.antt: nothing is broken exactly where the check takes the disk.
 -- Assumes nothing.
-use Rattle.std.specs.Prelude.{ℕ, ◌+◌, ◌/◌, ◌%◌, Bool, true, false, cond, not, ◌&&◌, ◌||◌, List, [], ◌∷◌, ltb, eqb, length, get_or}
+use Rattle.std.specs.Prelude.{ℕ, ◌+◌, ◌/◌, ◌%◌, Bool, true, false, cond, ◌&&◌, ◌||◌, List, [], ◌∷◌, ltb, eqb, length, get_or}
 use Rattle.disk_rules.specs.Places.{sectors_on}
 use Rattle.disk_rules.specs.Lists.{numbers_from, those, is_in}
 use Rattle.disk_rules.specs.Map.{bit_at}
@@ -9,7 +9,6 @@ use Rattle.disk_rules.specs.Free.{bit_agrees}
 use Rattle.disk_rules.specs.Entries.{name_at, is_named, entries_that}
 use Rattle.disk_ways.specs.Ways.{none_met, Way, way, way_of, ends_as}
 use Rattle.disk_ways.specs.declared.Over.TheVariants.{Directory as DirectoryWay, Files}
-use Rattle.disk_ways.specs.declared.Stop.{Stop}
 use Rattle.disk_why.specs.declared.Broken.{Broken}
 use Rattle.disk_why.specs.declared.Broken.TheVariants.{Nothing, Length, Start, Directory, NotClosed, SameName, File, Free, Used, Beyond}
 

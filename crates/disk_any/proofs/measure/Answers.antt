@@ -1,6 +1,5 @@
 -- `disk_any::measure` meets its contract.
 -- Assumes nothing.
-use Prim.Native.Nat.{◌-◌}
 use Rattle.disk_any.proofs.Bytes.{measure_start, measure_below, measure_turn, measure_end}
 use borrow.Author.Rules.{rules}
 use Rattle.disk_any.proofs.measure.Goals as goal

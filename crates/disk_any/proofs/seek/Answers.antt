@@ -1,6 +1,5 @@
 -- `disk_any::seek` meets its contract.
 -- Assumes nothing.
-use Prim.Native.Nat.{◌-◌}
 use Rattle.disk_any.proofs.Locating.{seek_start, seek_mul, seek_in, seek_fits, seek_fits_2, seek_fits_3, seek_room, seek_out, seek_found, seek_turn, seek_end}
 use borrow.Author.Rules.{rules}
 use Rattle.disk_any.proofs.seek.Goals as goal

@@ -1,6 +1,5 @@
 -- `disk_any::take_out` meets its contract.
 -- Assumes nothing.
-use Prim.Native.Nat.{◌-◌}
 use Rattle.disk_any.proofs.Bytes.{take_start, take_below, take_room, take_mul, take_add, take_sum, take_within, take_to, take_turn, take_end}
 use borrow.Author.Rules.{rules}
 use Rattle.disk_any.proofs.take_out.Goals as goal

@@ -1,6 +1,5 @@
 -- `disk_why::chain_fault` meets its contract.
 -- Assumes nothing.
-use Prim.Native.Nat.{◌-◌}
 use Rattle.disk_why.proofs.Faults.{alone_start, alone_room, alone_found, alone_turn, alone_end}
 use borrow.Author.Rules.{rules}
 use Rattle.disk_why.proofs.chain_fault.Goals as goal

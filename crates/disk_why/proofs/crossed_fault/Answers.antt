@@ -1,6 +1,5 @@
 -- `disk_why::crossed_fault` meets its contract.
 -- Assumes nothing.
-use Prim.Native.Nat.{◌-◌}
 use Rattle.disk_why.proofs.Faults.{cross_start, cross_room, cross_marks, cross_found, cross_turn, cross_end}
 use borrow.Author.Rules.{rules}
 use Rattle.disk_why.proofs.crossed_fault.Goals as goal

@@ -1,6 +1,5 @@
 -- `disk_why::entry_fault` meets its contract.
 -- Assumes nothing.
-use Prim.Native.Nat.{◌-◌}
 use Rattle.disk_why.proofs.Faults.{test_start, entry_in_lem, entry_first, test_tail, test_type, test_twice, test_turn, test_end}
 use borrow.Author.Rules.{rules}
 use Rattle.disk_why.proofs.entry_fault.Goals as goal

@@ -1,6 +1,5 @@
 -- `disk_why::map_fault` meets its contract.
 -- Assumes nothing.
-use Prim.Native.Nat.{◌-◌}
 use Rattle.disk_why.specs.Why.{map_fault}
 use Rattle.disk_why.proofs.Faults.{map_start, map_found, map_turn, map_end}
 use Rattle.disk_why.proofs.map_fault.Goals as goal
