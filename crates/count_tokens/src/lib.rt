@@ -21,6 +21,7 @@ pub fn count_rules() -> Rules
 }
 
 // The token that a unit counts as; FF, which is no token, where it counts as none.
+#[tactic(auto, using(crate::proofs::UnitTokens::pair_token, crate::proofs::UnitTokens::pair_none))]
 pub fn token_of(bytes: &[u8], starts: &[u16], unit: Unit) -> u8
     requires { SpellsTexts bytes.now starts.now }
     ensures { only result ≡ counted_as unit }

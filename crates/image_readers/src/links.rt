@@ -17,6 +17,7 @@ pub fn check(image: &[u8]) -> Checked
 }
 
 // The line at an offset, any offset.
+#[tactic(auto, using(crate::proofs::ByLinks::link_end))]
 pub fn step(image: &[u8], offset: usize) -> Step
     ensures { step_answer result ≡ link_step image.now offset }
 {

