@@ -3,7 +3,7 @@
 #![tactic(auto)]
 
 ghost use Rattle.std.specs.Prelude.{◌≡◌};
-ghost use Rattle.desk_status.specs.Status.{is_done, number as status_number, worst, written as the_written_Status};
+ghost use Rattle.desk_status.specs.Status.{is_done, number as status_number, worst, written as written_status};
 
 // Where the status goes.
 const STATUS_FILENO: i32 = 3;
@@ -56,7 +56,7 @@ pub fn worse(first: Status, second: Status) -> Status
 
 // What a command comes to that was to write something first.
 pub fn written(done: bool, status: Status) -> Status
-    ensures { result ≡ the_written_Status done status }
+    ensures { result ≡ written_status done status }
 {
     if done { status } else { Status::Failed }
 }

@@ -1,4 +1,4 @@
--- `guess_variables::is_name_lem` meets its contract.
+-- `guess_variables::is_name` meets its contract.
 -- Assumes nothing.
 use Rattle.guess_variables.proofs.Passes.{name_assigned, name_dim}
 use Rattle.guess_uses.proofs.Marks.{marks_rest}

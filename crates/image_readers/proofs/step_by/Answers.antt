@@ -1,4 +1,4 @@
--- `image_readers::step_by_lem` meets its contract.
+-- `image_readers::step_by` meets its contract.
 -- Assumes nothing.
 use Rattle.image_readers.proofs.Steps.{step_terminators, step_links}
 use Rattle.image_readers.proofs.step_by.Goals as goal
