@@ -11,7 +11,6 @@ use image_readers::By;
 use judge_calls::{
     counted, dialects, found, images, indexes, measured, relinked, rooms, texts, words,
 };
-use std::io::Read;
 
 // Answers one request; false where the answer could not be written. A disk that a call changes is copied first: it stands in the payload beside
 // what else the call is lent.
@@ -53,8 +52,8 @@ fn answer_plain(op: u8, payload: &[u8]) -> bool {
 
 // Reads a payload of a size and answers the request; true if another can follow. The buffers' lengths are the frames' limits: that of payload
 // for a payload, that of room for a lent buffer.
-fn serve_op<R: Read>(
-    from: &mut R,
+fn serve_op(
+    rt: &HostRuntime,
     op: u8,
     size: usize,
     payload: &mut [u8],
@@ -67,30 +66,30 @@ fn serve_op<R: Read>(
         judge_frames::reject();
         return false;
     }
-    let Part::Whole = desk_inputs::read_part(from, &mut payload[0..size]) else {
+    let Part::Whole = desk_inputs::read_part(&mut rt.stdin(), &mut payload[0..size]) else {
         return false;
     };
     answer_request(op, &payload[0..size], room, disk)
 }
 
 // Reads a request and answers it.
-fn serve<R: Read>(from: &mut R, payload: &mut [u8], room: &mut [u8], disk: &mut [u8]) -> bool
+fn serve(rt: &HostRuntime, payload: &mut [u8], room: &mut [u8], disk: &mut [u8]) -> bool
     requires { length payload.old ≤ length disk.old }
 {
     let mut head = [0u8; 5];
-    let Part::Whole = desk_inputs::read_part(from, &mut head) else {
+    let Part::Whole = desk_inputs::read_part(&mut rt.stdin(), &mut head) else {
         return false;
     };
     let size = judge_frames::u32_at(&head, 1) as usize;
-    serve_op(from, head[0], size, payload, room, disk)
+    serve_op(rt, head[0], size, payload, room, disk)
 }
 
 // A proved loop has to end, and nothing says that the input does. So the loop counts its requests down, from a number that no run uses up.
-fn serve_all<R: Read>(from: &mut R, payload: &mut [u8], room: &mut [u8], disk: &mut [u8])
+fn serve_all(rt: &HostRuntime, payload: &mut [u8], room: &mut [u8], disk: &mut [u8])
     requires { length payload.old ≤ length disk.old }
 {
     let mut requests = u64::MAX;
-    while requests > 0 && serve(from, payload, room, disk) {
+    while requests > 0 && serve(rt, payload, room, disk) {
         requests -= 1;
     }
 }
@@ -99,5 +98,5 @@ fn main(rt: HostRuntime) {
     let mut payload = [0u8; 1_048_593];
     let mut room = [0u8; 524_288];
     let mut disk = [0u8; 1_048_593];
-    serve_all(&mut rt.stdin(), &mut payload, &mut room, &mut disk);
+    serve_all(&rt, &mut payload, &mut room, &mut disk);
 }
