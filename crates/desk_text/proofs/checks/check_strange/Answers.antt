@@ -1,6 +1,5 @@
 -- `desk_text::checks::check_strange` is safe and ends.
 -- Assumes nothing.
-use Prim.Native.Nat.{◌-◌}
 use Rattle.guess.proofs.Texts.{line_less}
 use Rattle.desk_text.proofs.checks.check_strange.Goals as goal
 

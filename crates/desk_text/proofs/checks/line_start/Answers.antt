@@ -1,6 +1,5 @@
 -- `desk_text::checks::line_start` is safe and ends.
 -- Assumes nothing.
-use Prim.Native.Nat.{◌-◌}
 use Rattle.guess.proofs.Texts.{line_less}
 use Rattle.desk_text.proofs.checks.line_start.Goals as goal
 
