@@ -1,12 +1,15 @@
 -- Trimming, and the test whether each byte is below 80.
 -- Assumes nothing.
 use Prim.Native.Nat.{ℕ, ◌+◌, ◌-◌, ◌≤◌, ◌<◌}
-use mathlib.Core.Path.{◌≡◌, sym, ap, ◌∙◌}
-use mathlib.Core.Bool.{true, false}
-use mathlib.Core.List.{List, ◌∷◌}
+use mathlib.Core.Path.{◌≡◌, refl, sym, ap, ◌∙◌}
+use mathlib.Core.Bool.{Bool, true, false, ◌&&◌}
+use mathlib.Core.List.{List, [], ◌∷◌}
 use native.Mathlib.Omega.{arith}
 use lib.ListN.{length, get_or, take, drop, drop_of_length-le, length-drop}
 use borrow.Author.Tests.{lt-ltb, le-ltb}
+use lib.Dec.{ltb}
+use Rattle.std.specs.Prelude.{nat_lt}
+use Rattle.std.specs.List.{list_all}
 use Rattle.base_ascii.specs.Bytes.{is_space, is_ascii}
 use Rattle.base_ascii.specs.Search.{front, past, past_end}
 use Rattle.base_ascii.specs.Trim.{trim}
@@ -37,22 +40,7 @@ trim_stands s = end_take is_space (past is_space s)
 
 -- ---- each byte below 80
 
--- the i bytes passed are
-pub record Plain (s : List ℕ) (i : ℕ) : Type 0 where
-  pub within : i ≤ length s
-  pub gives : is_ascii (drop i s) ≡ is_ascii s
-
-module _ {s : List ℕ} {i : ℕ} where
-  pub plain_end : length s ≤ i → Plain s i → true ≡ is_ascii s
-  unfolding is_ascii
-  plain_end h p = rw (drop_of_length-le s h) at p.gives
-
-  pub plain_turn : get_or s i 0 < 0x80 → i < length s → Plain s i → Plain s (i + 1)
-  unfolding is_ascii
-  plain_turn l h p =
-      let e : is_ascii (drop i s) ≡ is_ascii (drop (i + 1) s) = rw (here s i h, is_ascii, lt-ltb _ _ l) in
-      record { within = omega arith; gives = sym e ∙ p.gives }
-
-  pub plain_stop : 0x80 ≤ get_or s i 0 → i < length s → Plain s i → false ≡ is_ascii s
-  unfolding is_ascii
-  plain_stop l h p = let e : is_ascii (drop i s) ≡ false = rw (here s i h, is_ascii, le-ltb _ _ l) in sym e ∙ p.gives
+pub ascii_all : (s : List ℕ) → list_all (λ b. nat_lt b 0x80) s ≡ is_ascii s
+unfolding is_ascii
+ascii_all [] = refl
+ascii_all (b ∷ s) = ap (λ (r : Bool). ltb b 0x80 && r) (ascii_all s)

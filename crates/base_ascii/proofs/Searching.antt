@@ -6,14 +6,14 @@ use mathlib.Core.Bool.{Bool, true, false, not, cond, false≢true}
 use mathlib.Core.List.{List, [], ◌∷◌, ◌++◌, reverse, reverse-append, reverse-reverse}
 use native.Mathlib.Numerals.{add-one, unary_clauses}
 use native.Mathlib.Omega.{arith}
-use lib.ListN.{length, get_or, take, drop, drop_of_length-le, length-drop, length-append, take-append-drop}
+use lib.ListN.{length, get_or, take, drop, drop_of_length-le, length-drop, length-append, take-append-drop, length-reverse}
 use lib.Dec.{eqb}
 use lib.Seq.{drop-cons, drop-drop, take-suc, take_all, take-length, length-take-le, take-append_seam}
 use borrow.Author.Tests.{not-true, not-false, eq-eqb}
 use Rattle.base_ascii.specs.Search.{equals, other, of_kind, starts_with, front, before, last, past_end}
 use Rattle.base_ascii.specs.declared.search.Kind.{Kind}
-use Rattle.base_ascii.specs.declared.search.Found.{Found}
-use Rattle.base_ascii.specs.declared.search.Found.TheVariants.{At, Nowhere}
+use Rattle.std.specs.Prelude.{Option, Some, None}
+use Rattle.std.specs.List.{prefix_len}
 
 -- ---- one byte
 
@@ -229,15 +229,15 @@ module _ (p : ℕ → Bool) (b : ℕ) where
   last_other : p b ≡ false → (l : List ℕ) → last p (l ++ (b ∷ [])) ≡ last p l
   unfolding last
   last_other e [] = rw e
-  last_other e (x ∷ l) = ap (λ (f : Found). elim f as (λ _. Found) [ At n ↦ At (suc n) | Nowhere ↦ cond (p x) (At 0) Nowhere ]) (last_other e l)
+  last_other e (x ∷ l) = ap (λ (f : Option ℕ). elim f as (λ _. Option ℕ) [ Some n ↦ Some (suc n) | None ↦ cond (p x) (Some 0) None ]) (last_other e l)
 
-  last_here : p b ≡ true → (l : List ℕ) → last p (l ++ (b ∷ [])) ≡ At (length l)
+  last_here : p b ≡ true → (l : List ℕ) → last p (l ++ (b ∷ [])) ≡ Some (length l)
   unfolding last
   last_here e [] = rw e
-  last_here e (x ∷ l) = ap (λ (f : Found). elim f as (λ _. Found) [ At n ↦ At (suc n) | Nowhere ↦ cond (p x) (At 0) Nowhere ]) (last_here e l)
+  last_here e (x ∷ l) = ap (λ (f : Option ℕ). elim f as (λ _. Option ℕ) [ Some n ↦ Some (suc n) | None ↦ cond (p x) (Some 0) None ]) (last_here e l)
 
 module _ (p : ℕ → Bool) {s : List ℕ} {e : ℕ} where
-  pub last_end : e ≤ 0 → Backward (last p) s e → Nowhere ≡ last p s
+  pub last_end : e ≤ 0 → Backward (last p) s e → None ≡ last p s
   unfolding last
   last_end h k = backward_end k h
 
@@ -245,26 +245,26 @@ module _ (p : ℕ → Bool) {s : List ℕ} {e : ℕ} where
     pub last_turn : r ≡ false → r ≡ p (get_or s (e - 1) 0) → 0 < e → Backward (last p) s e → Backward (last p) s (e - 1)
     last_turn t q h k = backward_by k h (last_other p _ (sym q ∙ t))
 
-    pub last_found : r ≡ true → r ≡ p (get_or s (e - 1) 0) → 0 < e → Backward (last p) s e → At (e - 1) ≡ last p s
+    pub last_found : r ≡ true → r ≡ p (get_or s (e - 1) 0) → 0 < e → Backward (last p) s e → Some (e - 1) ≡ last p s
     last_found t q h k =
         let n : length (take (e - 1) s) ≡ e - 1 = length-take-le (e - 1) s (omega arith) in
-        ap At (sym n) ∙ sym (last_here p _ (sym q ∙ t) (take (e - 1) s)) ∙ backward_found k h
+        ap Some (sym n) ∙ sym (last_here p _ (sym q ∙ t) (take (e - 1) s)) ∙ backward_found k h
 
 -- it stands within the text, and passes
-pub last_within : (p : ℕ → Bool) (s : List ℕ) {n : ℕ} → last p s ≡ At n → n < length s
+pub last_within : (p : ℕ → Bool) (s : List ℕ) {n : ℕ} → last p s ≡ Some n → n < length s
 unfolding last
 last_within p [] e = let z : ◌≡◌ {A = ℕ} 0 1 = cc in absurd (omega arith)
 last_within p (b ∷ s) {n} e = go (last p s) (p b) (λ m. last_within p s) e
   where
-    go : (f : Found) (r : Bool) → ((m : ℕ) → f ≡ At m → m < length s) → elim f [ At m ↦ At (suc m) | Nowhere ↦ cond r (At 0) Nowhere ] ≡ At n → n < suc (length s)
-    go (At m) r w q = let s : suc m ≡ n = cc in omega (arith, w m refl)
-    go Nowhere true w q = let s : 0 ≡ n = cc in omega arith
-    go Nowhere false w q = let z : ◌≡◌ {A = ℕ} 0 1 = cc in absurd (omega arith)
+    go : (f : Option ℕ) (r : Bool) → ((m : ℕ) → f ≡ Some m → m < length s) → elim f [ Some m ↦ Some (suc m) | None ↦ cond r (Some 0) None ] ≡ Some n → n < suc (length s)
+    go (Some m) r w q = let s : suc m ≡ n = cc in omega (arith, w m refl)
+    go None true w q = let s : 0 ≡ n = cc in omega arith
+    go None false w q = let z : ◌≡◌ {A = ℕ} 0 1 = cc in absurd (omega arith)
 
 -- a place behind the last byte that passes, or any place where none does
-abbrev pub Behind : Found → ℕ → Type 0
-Behind (At n) i = n < i
-Behind Nowhere i = Unit
+abbrev pub Behind : Option ℕ → ℕ → Type 0
+Behind (Some n) i = n < i
+Behind None i = Unit
 
 -- from there on none passes
 pub none_behind : (p : ℕ → Bool) (s : List ℕ) (i : ℕ) → Behind (last p s) i → before p (drop i s) ≡ length (drop i s)
@@ -273,16 +273,16 @@ none_behind p [] zero h = refl
 none_behind p [] (suc i) h = refl
 none_behind p (b ∷ s) zero h = go (last p s) (p b) (none_behind p s 0) h
   where
-    go : (f : Found) (r : Bool) → (Behind f 0 → before p s ≡ length s) → Behind (elim f [ At m ↦ At (suc m) | Nowhere ↦ cond r (At 0) Nowhere ]) 0
+    go : (f : Option ℕ) (r : Bool) → (Behind f 0 → before p s ≡ length s) → Behind (elim f [ Some m ↦ Some (suc m) | None ↦ cond r (Some 0) None ]) 0
         → elim (not r) [ true ↦ suc (before p s) | false ↦ 0 ] ≡ suc (length s)
-    go (At m) r w q = absurd (omega arith)
-    go Nowhere true w q = absurd (omega arith)
-    go Nowhere false w q = ap suc (w tt)
+    go (Some m) r w q = absurd (omega arith)
+    go None true w q = absurd (omega arith)
+    go None false w q = ap suc (w tt)
 none_behind p (b ∷ s) (suc i) h = none_behind p s i (go (last p s) (p b) h)
   where
-    go : (f : Found) (r : Bool) → Behind (elim f [ At m ↦ At (suc m) | Nowhere ↦ cond r (At 0) Nowhere ]) (suc i) → Behind f i
-    go (At m) r q = omega arith
-    go Nowhere r q = tt
+    go : (f : Option ℕ) (r : Bool) → Behind (elim f [ Some m ↦ Some (suc m) | None ↦ cond r (Some 0) None ]) (suc i) → Behind f i
+    go (Some m) r q = omega arith
+    go None r q = tt
 
 -- ---- without the bytes at the end that pass the test
 
@@ -344,3 +344,24 @@ end_whole p (b ∷ s) e =
     let n = suc (length s) in
     let u : b ∷ s ≡ take (n - 1) (b ∷ s) ++ (get_or (b ∷ s) (n - 1) 0 ∷ []) = sym (take-length (b ∷ s)) ∙ up_to (b ∷ s) n (omega arith) (omega arith) in
     ap (past_end p) u ∙ end_none p _ e (take (n - 1) (b ∷ s)) ∙ sym u
+
+-- ---- as the library's iterators count them
+
+pub front_counted : (p : ℕ → Bool) (s : List ℕ) → prefix_len p s ≡ front p s
+unfolding front
+front_counted p [] = refl
+front_counted p (b ∷ s) = go (p b) (front_counted p s)
+  where
+    go : (r : Bool) → prefix_len p s ≡ front p s → cond r (1 + prefix_len p s) 0 ≡ elim r [ true ↦ suc (front p s) | false ↦ 0 ]
+    go true e = omega (arith, e)
+    go false e = refl
+
+pub before_counted : (p : ℕ → Bool) (s : List ℕ) → prefix_len (λ b. not (p b)) s ≡ before p s
+unfolding before
+before_counted p s = front_counted (other p) s
+
+pub end_counted : (p : ℕ → Bool) (s : List ℕ) → length s - prefix_len p (reverse s) ≡ length (past_end p s)
+unfolding past_end
+end_counted p s =
+    let r = reverse s in
+    omega (arith, front_counted p r, length-reverse (drop (front p r) r), length-drop (front p r) r, length-reverse s)

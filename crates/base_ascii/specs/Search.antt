@@ -5,8 +5,7 @@ use Rattle.std.specs.Prelude.{ℕ, suc, Bool, true, false, not, cond, ◌||◌, 
 use Rattle.base_ascii.specs.Bytes.{between, is_digit}
 use Rattle.base_ascii.specs.declared.search.Kind.{Kind}
 use Rattle.base_ascii.specs.declared.search.Kind.TheVariants.{Is, Digit, Space, White, Blank, Mark}
-use Rattle.base_ascii.specs.declared.search.Found.{Found}
-use Rattle.base_ascii.specs.declared.search.Found.TheVariants.{At, Nowhere}
+use Rattle.std.specs.Prelude.{Option, Some, None}
 
 -- ---- which bytes
 
@@ -62,9 +61,9 @@ past p s = drop (front p s) s
 -- ---- from the end
 
 -- where the last byte that passes the test stands
-unfoldable pub last : (ℕ → Bool) → List ℕ → Found
-last p [] = Nowhere
-last p (b ∷ s) = elim (last p s) [ At n ↦ At (suc n) | Nowhere ↦ cond (p b) (At 0) Nowhere ]
+unfoldable pub last : (ℕ → Bool) → List ℕ → Option ℕ
+last p [] = None
+last p (b ∷ s) = elim (last p s) [ Some n ↦ Some (suc n) | None ↦ cond (p b) (Some 0) None ]
 
 -- what is left without the bytes at the end that pass
 unfoldable pub past_end : (ℕ → Bool) → List ℕ → List ℕ

@@ -71,42 +71,21 @@ pub fn is_space(b: u8) -> bool
 pub fn is_ascii(s: &[u8]) -> bool
     ensures { result ≡ is_ascii s.now }
 {
-    let mut i: usize = 0;
-    while i < s.len() {
-        if s[i] >= 0x80 {
-            return false;
-        }
-        i += 1;
-    }
-    true
+    s.iter().all(|b| *b < 0x80)
 }
 
 // How many bytes of white space stand in front. This loop and the next run for each text line, so they do not call `search`.
 pub fn leading_space(s: &[u8]) -> usize
     ensures { result ≡ front is_space s.now }
 {
-    let mut i: usize = 0;
-    while i < s.len() {
-        if !is_space(s[i]) {
-            return i;
-        }
-        i += 1;
-    }
-    i
+    s.iter().take_while(|b| is_space(**b)).count()
 }
 
 // How many bytes are left without the white space at the end.
 pub fn solid_length(s: &[u8]) -> usize
     ensures { result ≡ length (past_end is_space s.now) }
 {
-    let mut e: usize = s.len();
-    while 0 < e {
-        if !is_space(s[e - 1]) {
-            return e;
-        }
-        e -= 1;
-    }
-    e
+    s.len() - s.iter().rev().take_while(|b| is_space(**b)).count()
 }
 
 // What is left without the white space at both ends.

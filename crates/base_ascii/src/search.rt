@@ -19,13 +19,6 @@ pub enum Kind {
     Mark,
 }
 
-// Where a byte stands, if there is one.
-#[derive(Clone, Copy)]
-pub enum Found {
-    At(usize),
-    Nowhere,
-}
-
 fn is_white(b: u8) -> bool
     ensures { result ≡ is_white b }
 {
@@ -90,54 +83,31 @@ pub fn starts_with(s: &[u8], b: u8) -> bool
 pub fn front(s: &[u8], kind: Kind) -> usize
     ensures { result ≡ front_of (of_kind kind) s.now }
 {
-    let mut i: usize = 0;
-    while i < s.len() {
-        if !is_kind(s[i], kind) {
-            return i;
-        }
-        i += 1;
-    }
-    i
+    s.iter().take_while(|b| is_kind(**b, kind)).count()
 }
 
 // How many bytes stand in front of the first of the kind: all of them where there is none.
 pub fn before(s: &[u8], kind: Kind) -> usize
     ensures { result ≡ before_of (of_kind kind) s.now }
 {
-    let mut i: usize = 0;
-    while i < s.len() {
-        if is_kind(s[i], kind) {
-            return i;
-        }
-        i += 1;
-    }
-    i
+    s.iter().take_while(|b| !is_kind(**b, kind)).count()
 }
 
 // Where the last byte of the kind stands.
-pub fn last(s: &[u8], kind: Kind) -> Found
+pub fn last(s: &[u8], kind: Kind) -> Option<usize>
     ensures { result ≡ last_of (of_kind kind) s.now }
 {
-    let mut e: usize = s.len();
-    while 0 < e {
-        if is_kind(s[e - 1], kind) {
-            return Found::At(e - 1);
+    for i in (0..s.len()).rev() {
+        if is_kind(s[i], kind) {
+            return Some(i);
         }
-        e -= 1;
     }
-    Found::Nowhere
+    None
 }
 
 // How many bytes are left when those of the kind are taken away at the end.
 pub fn solid(s: &[u8], kind: Kind) -> usize
     ensures { result ≡ length (past_end (of_kind kind) s.now) }
 {
-    let mut e: usize = s.len();
-    while 0 < e {
-        if !is_kind(s[e - 1], kind) {
-            return e;
-        }
-        e -= 1;
-    }
-    e
+    s.len() - s.iter().rev().take_while(|b| is_kind(**b, kind)).count()
 }

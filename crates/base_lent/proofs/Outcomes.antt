@@ -9,11 +9,12 @@ use borrow.Author.Tests.{le-leb, lt-leb}
 use Rattle.base_refusals.specs.Answer.{Answer, done, refused}
 use Rattle.base_refusals.specs.Numbers.{Numbered, no_room}
 use Rattle.base_lent.specs.Lent.{Lent, into_buffer, room_for, outcome_answer}
-use Rattle.base_lent.specs.declared.Outcome.{Outcome}
 use Rattle.base_lent.specs.Stores.{Put, HasRoom}
+use Rattle.std.specs.Prelude.{Result}
+use Rattle.base_refusals.specs.declared.Refusal.{Refusal}
 
 -- what an outcome is known to be, its answer is
-pub told_outcome : {r x : Outcome} {a : Answer ℕ} → r ≡ x → outcome_answer r ≡ a → outcome_answer x ≡ a
+pub told_outcome : {r x : (Result ℕ Refusal)} {a : Answer ℕ} → r ≡ x → outcome_answer r ≡ a → outcome_answer x ≡ a
 told_outcome d e = ap outcome_answer (sym d) ∙ e
 
 module _ (buffer : List ℕ) where

@@ -5,8 +5,8 @@ use Rattle.std.specs.Prelude.{ℕ, cond, List, leb, length}
 use Rattle.std.proofs.lemmas.List.Edits.{sets}
 use Rattle.base_refusals.specs.Numbers.{no_room}
 use Rattle.base_refusals.specs.Answer.{Answer, done, refused, map_done, numbered}
-use Rattle.base_lent.specs.declared.Outcome.{Outcome}
-use Rattle.base_lent.specs.declared.Outcome.TheVariants.{Done, Refused}
+use Rattle.std.specs.Prelude.{Result, Ok, Err}
+use Rattle.base_refusals.specs.declared.Refusal.{Refusal}
 
 -- what a call answers, and what the buffer that it was lent holds then
 pub record Lent : Type 0 where
@@ -26,10 +26,10 @@ abbrev pub room_for : Answer (List ℕ) → Answer ℕ
 room_for = map_done length
 
 -- the enum's cases as document 01 numbers them
-abbrev pub outcome_answer : Outcome → Answer ℕ
-outcome_answer (Done length) = done length
-outcome_answer (Refused r) = refused (numbered r)
+abbrev pub outcome_answer : Result ℕ Refusal → Answer ℕ
+outcome_answer (Ok length) = done length
+outcome_answer (Err r) = refused (numbered r)
 
 -- an outcome, and the buffer as it was left
-abbrev pub left : Outcome → List ℕ → Lent
+abbrev pub left : Result ℕ Refusal → List ℕ → Lent
 left r buffer = record { answer = outcome_answer r; buffer = buffer }

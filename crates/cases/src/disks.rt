@@ -1,8 +1,8 @@
 // Ops 20 to 24: the calls on disks. A disk is the rest of the payload, and every answer ends with its bytes as the call left them.
 ghost use Rattle.std.specs.Prelude.{◌≤◌, length};
 
-use base_lent::Outcome;
-use disk_rules::{Changed, DiskCheck};
+use base_refusals::Refusal;
+use disk_rules::DiskCheck;
 use judge_frames::{Answer, rooms};
 
 // Where the name ends that bytes begin with, behind its length; beyond bytes that are too short for one.
@@ -121,7 +121,7 @@ fn read_named(left: &[u8], room: &mut [u8]) -> bool {
     send_read(outcome, room, &left[end..])
 }
 
-fn send_read(outcome: Outcome, room: &[u8], disk: &[u8]) -> bool {
+fn send_read(outcome: Result<usize, Refusal>, room: &[u8], disk: &[u8]) -> bool {
     judge_frames::length_of(outcome).send_with_both(room, disk)
 }
 
@@ -135,9 +135,9 @@ pub fn check(disk: &[u8]) -> bool {
     }
 }
 
-fn send_changed(changed: Changed, disk: &[u8]) -> bool {
+fn send_changed(changed: Result<(), Refusal>, disk: &[u8]) -> bool {
     match changed {
-        Changed::Done => Answer::done().send_with(disk),
-        Changed::Refused(refusal) => Answer::refused(refusal).send_with(disk),
+        Ok(()) => Answer::done().send_with(disk),
+        Err(refusal) => Answer::refused(refusal).send_with(disk),
     }
 }

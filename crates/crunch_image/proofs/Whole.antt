@@ -11,13 +11,9 @@ use Rattle.base_refusals.specs.declared.Refusal.{Refusal}
 use Rattle.base_refusals.specs.declared.Refusal.TheVariants.{NoRoom}
 use Rattle.base_lent.specs.Lent.{into_buffer, room_for, left}
 use Rattle.base_lent.specs.Stores.{HasRoom}
-use Rattle.base_lent.specs.declared.Outcome.{Outcome}
-use Rattle.base_lent.specs.declared.Outcome.TheVariants.{Done, Refused}
 use Rattle.base_lent.proofs.Outcomes.{told_outcome, has_room, into_refused, into_none}
 use Rattle.word_match.specs.Sets.{with_forms}
 use Rattle.word_match.specs.declared.sets.Sets.{Sets}
-use Rattle.text_domain.specs.declared.TextCheck.{TextCheck}
-use Rattle.text_domain.specs.declared.TextCheck.TheVariants.{Fine, Refused as CheckAsRefused}
 use Rattle.text_lines.specs.declared.LineRule.TheVariants.{AfterCr}
 use Rattle.text_domain.specs.Domain.{checked_text, text_check_answer}
 use Rattle.text_lines.specs.TextLines.{text_lines}
@@ -34,6 +30,7 @@ use Rattle.crunch_image.specs.CallHelpers.{MeasuredAs, FitsIf}
 use Rattle.crunch_measure.specs.declared.Pass.{Pass}
 use Rattle.crunch_rules.specs.declared.Options.{Options}
 use Rattle.crunch_rules.proofs.Lining.{lines_plain}
+use Rattle.std.specs.Prelude.{Result, Ok, Err}
 
 -- ---- what is measured
 
@@ -43,7 +40,7 @@ mapped_twice f g (refused n) = refl
 
 module _ (o : Options) (place : ℕ) (text : List ℕ) where
   -- the lines of the text, by what its bytes are
-  lines_by : {c x : TextCheck} → c ≡ x → text_check_answer c ≡ checked_text text
+  lines_by : {c x : (Result (Unit {0}) Refusal)} → c ≡ x → text_check_answer c ≡ checked_text text
       → and_then (text_check_answer x) (λ _. crunch_lines o.profile (text_lexicon o text) 1 0 o.load (text_lines AfterCr text)) ≡ crunched_lines o text
   unfolding crunched_lines
   lines_by told is =
@@ -59,29 +56,29 @@ module _ (o : Options) (place : ℕ) (text : List ℕ) where
       mapped_twice (entry_from place 1) (λ ls. with_text_lines (lines_at o.load 2 ls) (nonblank_lines text)) a
       ∙ ap (λ (x : Answer (List NumberedBody)). map_done (entry_from place 1) (map_done (λ ls. with_text_lines (lines_at o.load 2 ls) (nonblank_lines text)) x)) e
 
-  module _ {c : TextCheck} where
-    lines_fine : {sets guessed : Sets} → sets ≡ with_forms o.forms guessed → guessed ≡ word_sets o.dialect text → c ≡ Fine → text_check_answer c ≡ checked_text text
+  module _ {c : (Result (Unit {0}) Refusal)} where
+    lines_fine : {sets guessed : Sets} → sets ≡ with_forms o.forms guessed → guessed ≡ word_sets o.dialect text → c ≡ (Ok tt) → text_check_answer c ≡ checked_text text
         → crunch_lines o.profile (lexicon sets) 1 0 o.load (text_lines AfterCr text) ≡ crunched_lines o text
     lines_fine w s t e =
         ap (λ (x : Sets). crunch_lines o.profile (lexicon x) 1 0 o.load (text_lines AfterCr text)) (w ∙ ap (with_forms o.forms) s) ∙ lines_by t e
 
     pub measured_fine : {sets guessed : Sets} {p : Pass} → PassedAs o.profile (lexicon sets) o.load place text p → sets ≡ with_forms o.forms guessed → guessed ≡ word_sets o.dialect text
-        → c ≡ Fine → text_check_answer c ≡ checked_text text → MeasuredAs o place text p
+        → c ≡ (Ok tt) → text_check_answer c ≡ checked_text text → MeasuredAs o place text p
     unfolding text_image text_placed
     measured_fine r w s t e = record { sized = r.sized ∙ ap room_for (image_by (lines_fine w s t e)); placed = r.placed ∙ placed_by (lines_fine w s t e) }
 
-    pub measured_outside : {x : Refusal} {p : Pass} → p ≡ refused_pass x → c ≡ CheckAsRefused x → text_check_answer c ≡ checked_text text → MeasuredAs o place text p
+    pub measured_outside : {x : Refusal} {p : Pass} → p ≡ refused_pass x → c ≡ Err x → text_check_answer c ≡ checked_text text → MeasuredAs o place text p
     measured_outside z t e = rw z (record { sized = ap room_for (image_by (lines_by t e)); placed = placed_by (lines_by t e) })
 
 -- ---- what is stored
 
-module _ (o : Options) (text buffer : List ℕ) {c : TextCheck} where
-  pub whole_fine : {sets guessed : Sets} (r : Outcome) {after : List ℕ} → left r after ≡ into_buffer (text_image o.profile (lexicon sets) o.load text) buffer
-      → sets ≡ with_forms o.forms guessed → guessed ≡ word_sets o.dialect text → c ≡ Fine → text_check_answer c ≡ checked_text text → left r after ≡ into_buffer (crunched o text) buffer
+module _ (o : Options) (text buffer : List ℕ) {c : (Result (Unit {0}) Refusal)} where
+  pub whole_fine : {sets guessed : Sets} (r : Result ℕ Refusal) {after : List ℕ} → left r after ≡ into_buffer (text_image o.profile (lexicon sets) o.load text) buffer
+      → sets ≡ with_forms o.forms guessed → guessed ≡ word_sets o.dialect text → c ≡ (Ok tt) → text_check_answer c ≡ checked_text text → left r after ≡ into_buffer (crunched o text) buffer
   unfolding text_image
   whole_fine r q w s t e = q ∙ ap (λ (a : Answer (List ℕ)). into_buffer a buffer) (image_by o 0 text (lines_fine o 0 text w s t e))
 
-  pub whole_outside : {x : Refusal} → c ≡ CheckAsRefused x → text_check_answer c ≡ checked_text text → left (Refused x) buffer ≡ into_buffer (crunched o text) buffer
+  pub whole_outside : {x : Refusal} → c ≡ Err x → text_check_answer c ≡ checked_text text → left (Err x) buffer ≡ into_buffer (crunched o text) buffer
   whole_outside t e = into_refused buffer (crunched o text) (ap room_for (image_by o 0 text (lines_by o 0 text t e)))
 
 module _ (words : Lexicon) (load : ℕ) (text buffer : List ℕ) where
@@ -105,24 +102,24 @@ module _ (profile : Bool) (words : Lexicon) (load : ℕ) (text buffer : List ℕ
       go (refused m) p q = let z : ◌≡◌ {A = ℕ} 0 1 = cc in absurd (omega arith)
 
   -- the bound has settled it
-  pub fits_put : (r : Outcome) {after : List ℕ} → left r after ≡ into_buffer (text_image false words load text) buffer → profile ≡ false
+  pub fits_put : (r : Result ℕ Refusal) {after : List ℕ} → left r after ≡ into_buffer (text_image false words load text) buffer → profile ≡ false
       → left r after ≡ into_buffer (text_image profile words load text) buffer
   fits_put r q f = q ∙ ap (λ (b : Bool). into_buffer (text_image b words load text) buffer) (sym f)
 
   -- or the length that was measured
   module _ {place : ℕ} {p : Pass} where
-    pub room_short : {n : ℕ} → p.room ≡ Done n → PassedAs profile words load place text p → length buffer < n
-        → left (Refused (NoRoom n)) buffer ≡ into_buffer (text_image profile words load text) buffer
+    pub room_short : {n : ℕ} → p.room ≡ Ok n → PassedAs profile words load place text p → length buffer < n
+        → left (Err (NoRoom n)) buffer ≡ into_buffer (text_image profile words load text) buffer
     room_short told k h = into_none buffer (text_image profile words load text) (told_outcome told k.sized) h
 
-    pub room_enough : {n : ℕ} → p.room ≡ Done n → PassedAs profile words load place text p → n ≤ length buffer → HasRoom buffer (text_image false words load text)
+    pub room_enough : {n : ℕ} → p.room ≡ Ok n → PassedAs profile words load place text p → n ≤ length buffer → HasRoom buffer (text_image false words load text)
     room_enough told k h =
         let e = told_outcome told k.sized in
         rw (image_plain e) (has_room buffer (text_image profile words load text) e h)
 
-    pub room_put : (r : Outcome) {n : ℕ} {after : List ℕ} → left r after ≡ into_buffer (text_image false words load text) buffer → p.room ≡ Done n → PassedAs profile words load place text p
+    pub room_put : (r : Result ℕ Refusal) {n : ℕ} {after : List ℕ} → left r after ≡ into_buffer (text_image false words load text) buffer → p.room ≡ Ok n → PassedAs profile words load place text p
         → left r after ≡ into_buffer (text_image profile words load text) buffer
     room_put r q told k = q ∙ ap (λ (a : Answer (List ℕ)). into_buffer a buffer) (image_plain (told_outcome told k.sized))
 
-    pub room_refused : {x : Refusal} → p.room ≡ Refused x → PassedAs profile words load place text p → left (Refused x) buffer ≡ into_buffer (text_image profile words load text) buffer
+    pub room_refused : {x : Refusal} → p.room ≡ Err x → PassedAs profile words load place text p → left (Err x) buffer ≡ into_buffer (text_image profile words load text) buffer
     room_refused told k = into_refused buffer (text_image profile words load text) (told_outcome told k.sized)

@@ -10,12 +10,10 @@ ghost use Rattle.crunch_rules.specs.Measured.{line_measured, line_answer};
 ghost use Rattle.crunch_rules.specs.PassesHelpers.{text_image};
 ghost use Rattle.crunch_image.specs.CallHelpers.{MeasuredAs};
 
-use base_lent::Outcome;
 use base_refusals::Refusal;
 use crunch_measure::Pass;
 use crunch_rules::{LineMeasured, Options};
 use guess::resolve;
-use text_domain::TextCheck;
 use word_match::sets;
 use word_match::sets::Sets;
 use word_tables::spellings;
@@ -23,7 +21,7 @@ use word_tables::spellings;
 mod bound;
 
 // Crunches a text into the start of a buffer, and answers the image's length.
-pub fn crunch(text: &[u8], options: Options, out: &mut [u8]) -> Outcome
+pub fn crunch(text: &[u8], options: Options, out: &mut [u8]) -> Result<usize, Refusal>
     ensures { left result out.new ≡ into_buffer (crunched options text.now) out.old }
 {
     crunch_with(
@@ -36,7 +34,7 @@ pub fn crunch(text: &[u8], options: Options, out: &mut [u8]) -> Outcome
 }
 
 // The room that the image of a text needs.
-pub fn room(text: &[u8], options: Options) -> Outcome
+pub fn room(text: &[u8], options: Options) -> Result<usize, Refusal>
     ensures { outcome_answer result ≡ room_for (crunched options text.now) }
 {
     room_with(
@@ -61,7 +59,7 @@ pub fn measured_line(text: &[u8], options: Options, place: usize) -> LineMeasure
 }
 
 // The room, and the line below, with the tables lent.
-fn room_with(text: &[u8], options: Options, bytes: &[u8], index: &[u16]) -> Outcome
+fn room_with(text: &[u8], options: Options, bytes: &[u8], index: &[u16]) -> Result<usize, Refusal>
     requires { SpellsWords bytes.now index.now }
     ensures { outcome_answer result ≡ room_for (crunched options text.now) }
 {
@@ -91,13 +89,13 @@ fn measured(text: &[u8], options: Options, place: usize, bytes: &[u8], index: &[
     ensures { MeasuredAs options place text.now result }
 {
     match text_domain::check_text(text) {
-        TextCheck::Fine => {
+        Ok(()) => {
             let dialect = options.dialect;
             let guessed = resolve::word_sets(text, dialect, bytes, index);
             let sets = sets::with_forms(guessed, options.forms);
             crunch_measure::measure(text, options, place, bytes, index, sets)
         }
-        TextCheck::Refused(refusal) => crunch_measure::refused(refusal),
+        Err(refusal) => crunch_measure::refused(refusal),
     }
 }
 
@@ -108,18 +106,18 @@ fn crunch_with(
     options: Options,
     bytes: &[u8],
     index: &[u16],
-) -> Outcome
+) -> Result<usize, Refusal>
     requires { SpellsWords bytes.now index.now }
     ensures { left result out.new ≡ into_buffer (crunched options text.now) out.old }
 {
     match text_domain::check_text(text) {
-        TextCheck::Fine => {
+        Ok(()) => {
             let dialect = options.dialect;
             let guessed = resolve::word_sets(text, dialect, bytes, index);
             let sets = sets::with_forms(guessed, options.forms);
             into_buffer(out, text, options, bytes, index, sets)
         }
-        TextCheck::Refused(refusal) => Outcome::Refused(refusal),
+        Err(refusal) => Err(refusal),
     }
 }
 
@@ -132,7 +130,7 @@ fn into_buffer(
     bytes: &[u8],
     index: &[u16],
     sets: Sets,
-) -> Outcome
+) -> Result<usize, Refusal>
     requires { SpellsWords bytes.now index.now }
     ensures { left result out.new ≡ into_buffer (text_image options.profile (lexicon sets) options.load text.now) out.old }
 {
@@ -140,18 +138,18 @@ fn into_buffer(
     let profile = options.profile;
     if !profile {
         if bound::fits(text, load, out.len(), bytes, index, sets) {
-            return Outcome::Done(crunch_write::write(out, text, load, bytes, index, sets));
+            return Ok(crunch_write::write(out, text, load, bytes, index, sets));
         }
     }
     let pass = crunch_measure::measure(text, options, 0, bytes, index, sets);
     let room = pass.room;
     match room {
-        Outcome::Done(needed) => {
+        Ok(needed) => {
             if needed > out.len() {
-                return Outcome::Refused(Refusal::NoRoom { needed });
+                return Err(Refusal::NoRoom { needed });
             }
-            Outcome::Done(crunch_write::write(out, text, load, bytes, index, sets))
+            Ok(crunch_write::write(out, text, load, bytes, index, sets))
         }
-        Outcome::Refused(refusal) => Outcome::Refused(refusal),
+        Err(refusal) => Err(refusal),
     }
 }

@@ -14,7 +14,6 @@ use Rattle.base_refusals.specs.Answer.{Answer, done, map_done}
 use Rattle.base_refusals.specs.declared.Refusal.{Refusal}
 use Rattle.base_ascii.specs.Trim.{trim}
 use Rattle.base_lent.specs.Lent.{room_for}
-use Rattle.base_lent.specs.declared.Outcome.TheVariants.{Done}
 use Rattle.text_lines.specs.declared.TextLine.{TextLine}
 use Rattle.text_lines.specs.declared.LineRule.TheVariants.{AfterCr}
 use Rattle.text_lines.specs.SplitHelpers.{line_from}
@@ -42,6 +41,7 @@ use Rattle.crunch_rules.proofs.Lining.{Taken, taken_blank, under_plain, under_bl
 use Rattle.crunch_sizes.proofs.Sizing.{taken_line}
 use Rattle.crunch_rules.proofs.Placing.{lines_at_more, lines_at_length, with_length, with_more, entry_here, entry_past, blank_place, line_place}
 use Rattle.crunch_rules.proofs.Reaching.{Reached, reached_start, line_at, line_behind, reached_turn, reached_refused, reached_end}
+use Rattle.std.specs.Prelude.{Ok}
 
 -- besides, the line at a place, if it is among those lines; they are counted, and each has its text line
 pub record MeasuredTo (profile : Bool) (words : Lexicon) (load place : ℕ) (text : List ℕ) (at k least address count : ℕ) (found : LineMeasured) : Type 0 where
@@ -71,7 +71,7 @@ module _ {profile : Bool} {words : Lexicon} {load place : ℕ} {text : List ℕ}
   pub measured_low : load ≤ address
   measured_low = omega (arith, m.reached.stands, end_above load m.reached.before)
 
-  pub measured_end : length text ≤ at → PassedAs profile words load place text (record { room = Done (address - load + 4); line = found })
+  pub measured_end : length text ≤ at → PassedAs profile words load place text (record { room = Ok (address - load + 4); line = found })
   unfolding text_image text_placed nonblank_from
   measured_end h =
       let g = m.reached in

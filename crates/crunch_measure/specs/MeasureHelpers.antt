@@ -5,7 +5,6 @@ use Rattle.std.proofs.Math.Option.{Option}
 use Rattle.base_refusals.specs.declared.Refusal.{Refusal}
 use Rattle.base_refusals.specs.Answer.{Answer, map_done}
 use Rattle.base_lent.specs.Lent.{room_for, outcome_answer}
-use Rattle.base_lent.specs.declared.Outcome.TheVariants.{Refused as OutcomeAsRefused}
 use Rattle.text_lines.specs.declared.LineRule.TheVariants.{AfterCr}
 use Rattle.text_lines.specs.TextLines.{text_lines}
 use Rattle.body_rules.specs.Lexicon.{Lexicon}
@@ -17,6 +16,7 @@ use Rattle.crunch_rules.specs.declared.LineMeasured.TheVariants.{Refused as Line
 use Rattle.crunch_rules.specs.declared.MeasuredLine.{MeasuredLine}
 use Rattle.crunch_measure.specs.declared.Pass.{Pass}
 use Rattle.crunch_rules.specs.PassesHelpers.{text_image}
+use Rattle.std.specs.Prelude.{Err}
 
 -- the line at a place of it
 unfoldable pub text_placed : Bool → Lexicon → ℕ → ℕ → List ℕ → Answer (Option MeasuredLine)
@@ -30,7 +30,7 @@ pub record PassedAs (profile : Bool) (words : Lexicon) (load place : ℕ) (text 
 
 -- of a text that is refused
 abbrev pub refused_pass : Refusal → Pass
-refused_pass r = record { room = OutcomeAsRefused r; line = LineAsRefused r }
+refused_pass r = record { room = Err r; line = LineAsRefused r }
 
 -- a line from one address to another, in an image at a load address
 pub record Span (load address behind : ℕ) : Type 0 where

@@ -6,7 +6,6 @@ ghost use Rattle.word_tables.specs.WordsHelpers.{SpellsWords};
 ghost use Rattle.body_rules.specs.Lexicon.{lexicon};
 ghost use Rattle.crunch_measure.specs.MeasureHelpers.{PassedAs, refused_pass, Span, line_between};
 
-use base_lent::Outcome;
 use base_refusals::Refusal;
 use crunch_rules::{LineMeasured, MeasuredLine, Options};
 use crunch_sizes::{Sized, Spot};
@@ -17,7 +16,7 @@ use word_match::sets::Sets;
 // What measuring a text answers: the room that its image needs, and the line at a place of that image.
 #[derive(Clone, Copy)]
 pub struct Pass {
-    pub room: Outcome,
+    pub room: Result<usize, Refusal>,
     pub line: LineMeasured,
 }
 
@@ -70,7 +69,7 @@ pub fn measure(
         }
         at = next.next;
     }
-    let room = Outcome::Done(address - first + 4);
+    let room = Ok(address - first + 4);
     Pass { room, line: found }
 }
 
@@ -78,7 +77,7 @@ pub fn measure(
 pub fn refused(refusal: Refusal) -> Pass
     ensures { result ≡ refused_pass refusal }
 {
-    let room = Outcome::Refused(refusal);
+    let room = Err(refusal);
     let line = LineMeasured::Refused(refusal);
     Pass { room, line }
 }

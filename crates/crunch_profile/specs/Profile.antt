@@ -8,8 +8,8 @@ use Rattle.base_refusals.specs.Answer.{Answer, done, refused, numbered, and_then
 use Rattle.body.specs.Zero.{holds_zero}
 use Rattle.image_limits.specs.Limits.{c64, is_too_high, is_not_ascending, is_bad_length}
 use Rattle.image_readers.specs.NumberedBody.{NumberedBody}
-use Rattle.crunch_profile.specs.declared.Allowed.{Allowed}
-use Rattle.crunch_profile.specs.declared.Allowed.TheVariants.{Yes, Refused}
+use Rattle.std.specs.Prelude.{Result, Ok, Err}
+use Rattle.base_refusals.specs.declared.Refusal.{Refusal}
 
 -- a line that the k-th text line gives, by its number and the least that may stand there, whether its body holds a zero, and the body's length
 unfoldable pub profile_says : ℕ → ℕ → ℕ → Bool → ℕ → Answer (Unit {0})
@@ -35,6 +35,6 @@ least_behind least [] = least
 least_behind least (l ∷ ls) = least_behind (suc l.number) ls
 
 -- the enum's cases
-abbrev pub allowed_answer : Allowed → Answer (Unit {0})
-allowed_answer Yes = done tt
-allowed_answer (Refused r) = refused (numbered r)
+abbrev pub allowed_answer : Result (Unit {0}) Refusal → Answer (Unit {0})
+allowed_answer (Ok tt) = done tt
+allowed_answer (Err r) = refused (numbered r)

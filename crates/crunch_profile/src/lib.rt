@@ -6,30 +6,23 @@ ghost use Rattle.crunch_profile.specs.Profile.{profile_says, allowed_answer};
 
 use base_refusals::Refusal;
 
-// What the profile says of a line.
-#[derive(Clone, Copy)]
-pub enum Allowed {
-    Yes,
-    Refused(Refusal),
-}
-
 // Asks the profile about the line that the k-th text line gives: its number, of which `least` is the least that may stand there; whether its
 // body holds a zero; and the body's length.
-pub fn allow_line(k: usize, least: usize, number: u16, zero: bool, length: usize) -> Allowed
+pub fn allow_line(k: usize, least: usize, number: u16, zero: bool, length: usize) -> Result<(), Refusal>
     ensures { allowed_answer result ≡ profile_says k least number zero length }
 {
     let machine = image_limits::commodore_64();
     if image_limits::is_too_high(machine, number) {
-        return Allowed::Refused(Refusal::NumberTooHigh { line: k });
+        return Err(Refusal::NumberTooHigh { line: k });
     }
     if image_limits::is_not_ascending(least, number) {
-        return Allowed::Refused(Refusal::NotAscending { line: k });
+        return Err(Refusal::NotAscending { line: k });
     }
     if zero {
-        return Allowed::Refused(Refusal::ZeroInBody { line: k });
+        return Err(Refusal::ZeroInBody { line: k });
     }
     if image_limits::is_bad_length(machine, length) {
-        return Allowed::Refused(Refusal::BodyLength { line: k });
+        return Err(Refusal::BodyLength { line: k });
     }
-    Allowed::Yes
+    Ok(())
 }

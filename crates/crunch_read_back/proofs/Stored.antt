@@ -12,8 +12,6 @@ use borrow.Author.Tests.{leb-true}
 use Rattle.base_refusals.specs.Numbers.{no_room}
 use Rattle.base_refusals.specs.Answer.{Answer, done, refused}
 use Rattle.base_lent.specs.Lent.{Lent, into_buffer, left}
-use Rattle.base_lent.specs.declared.Outcome.{Outcome}
-use Rattle.base_lent.specs.declared.Outcome.TheVariants.{Done, Refused}
 use Rattle.base_refusals.specs.declared.Refusal.{Refusal}
 use Rattle.image_readers.specs.declared.Checked.{Checked}
 use Rattle.image_readers.specs.Answers.{checked_answer}
@@ -21,9 +19,10 @@ use Rattle.image_readers.specs.Lines.{Overview, overview}
 use Rattle.image_readers.specs.Links.{link_step}
 use Rattle.crunch_read_back.specs.ReadingBack.{reading_back, left_read}
 use Rattle.crunch_read_back.specs.declared.ReadBack.TheVariants.{Made, Refused as ReadBackAsRefused}
+use Rattle.std.specs.Prelude.{Result, Ok, Err}
 
 -- what was stored is no longer than the buffer
-stored_fits : (a : Answer (List ℕ)) (buffer : List ℕ) {n : ℕ} {after : List ℕ} → left (Done n) after ≡ into_buffer a buffer → n ≤ length after
+stored_fits : (a : Answer (List ℕ)) (buffer : List ℕ) {n : ℕ} {after : List ℕ} → left (Ok n) after ≡ into_buffer a buffer → n ≤ length after
 unfolding into_buffer
 stored_fits (done bytes) buffer {n} {after} e = go (leb (length bytes) (length buffer)) refl e
   where
@@ -39,19 +38,19 @@ stored_fits (done bytes) buffer {n} {after} e = go (leb (length bytes) (length b
     go false h p = let q : ◌≡◌ {A = Answer ℕ} (done n) (refused (no_room (length bytes))) = ap (λ (x : Lent). x.answer) p in let z : ◌≡◌ {A = ℕ} 0 1 = cc in absurd (omega arith)
 stored_fits (refused m) buffer {n} e = let q : ◌≡◌ {A = Answer ℕ} (done n) (refused m) = ap (λ (x : Lent). x.answer) e in let z : ◌≡◌ {A = ℕ} 0 1 = cc in absurd (omega arith)
 
-module _ (a : Answer (List ℕ)) (buffer : List ℕ) {r : Outcome} {after : List ℕ} where
-  as_told : {x : Outcome} → r ≡ x → left r after ≡ into_buffer a buffer → left x after ≡ into_buffer a buffer
-  as_told told is = ap (λ (x : Outcome). left x after) (sym told) ∙ is
+module _ (a : Answer (List ℕ)) (buffer : List ℕ) {r : (Result ℕ Refusal)} {after : List ℕ} where
+  as_told : {x : (Result ℕ Refusal)} → r ≡ x → left r after ≡ into_buffer a buffer → left x after ≡ into_buffer a buffer
+  as_told told is = ap (λ (x : Result ℕ Refusal). left x after) (sym told) ∙ is
 
   -- an image was stored
   module _ {n : ℕ} where
-    pub image_fits : r ≡ Done n → left r after ≡ into_buffer a buffer → n ≤ length after
+    pub image_fits : r ≡ Ok n → left r after ≡ into_buffer a buffer → n ≤ length after
     image_fits told is = stored_fits a buffer (as_told told is)
 
-    pub image_long : r ≡ Done n → left r after ≡ into_buffer a buffer → n ≡ length (take n after)
+    pub image_long : r ≡ Ok n → left r after ≡ into_buffer a buffer → n ≡ length (take n after)
     image_long told is = sym (length-take-le n after (image_fits told is))
 
-    pub image_made : (c : Checked) → checked_answer c ≡ overview link_step (take n after) → r ≡ Done n → left r after ≡ into_buffer a buffer
+    pub image_made : (c : Checked) → checked_answer c ≡ overview link_step (take n after) → r ≡ Ok n → left r after ≡ into_buffer a buffer
         → left_read (Made n c) after ≡ reading_back (into_buffer a buffer)
     unfolding reading_back
     image_made c read told is =
@@ -59,6 +58,6 @@ module _ (a : Answer (List ℕ)) (buffer : List ℕ) {r : Outcome} {after : List
         ∙ ap reading_back (as_told told is)
 
   -- or none
-  pub image_none : {x : Refusal} → r ≡ Refused x → left r after ≡ into_buffer a buffer → left_read (ReadBackAsRefused x) after ≡ reading_back (into_buffer a buffer)
+  pub image_none : {x : Refusal} → r ≡ Err x → left r after ≡ into_buffer a buffer → left_read (ReadBackAsRefused x) after ≡ reading_back (into_buffer a buffer)
   unfolding reading_back
   image_none told is = ap reading_back (as_told told is)

@@ -7,7 +7,6 @@ use mathlib.Core.List.{List}
 use mathlib.Core.Option.{Option, none, some}
 use Rattle.base_refusals.specs.Answer.{Answer, done, refused}
 use Rattle.base_lent.specs.Lent.{into_buffer, room_for, outcome_answer, left}
-use Rattle.base_lent.specs.declared.Outcome.{Outcome}
 use Rattle.base_refusals.proofs.Tight.{named, named_numbered, tells_apart}
 use Rattle.base_lent.proofs.Tight.{outcome_tight, lent_tight}
 use Rattle.crunch_rules.specs.Crunched.{crunched}
@@ -23,6 +22,8 @@ use Rattle.image_readers.specs.Lines.{Overview}
 use Rattle.crunch_read_back.specs.ReadingBack.{ImageRead, LentRead, reading_back, read_back_answer, left_read}
 use Rattle.crunch_read_back.specs.declared.ReadBack.{ReadBack}
 use Rattle.crunch_read_back.specs.declared.ReadBack.TheVariants.{Made, Refused}
+use Rattle.std.specs.Prelude.{Result}
+use Rattle.base_refusals.specs.declared.Refusal.{Refusal}
 
 abbrev checked_of : Answer Overview → Checked
 checked_of (done o) = Image o.load o.lines
@@ -58,12 +59,12 @@ line_back (LineAsRefused r) = ap LineAsRefused (named_numbered r)
 
 module _ (o : Options) (text : List ℕ) where
   -- `crunch_image::crunch`
-  pub crunch_tight : (buffer : List ℕ) (r s : Outcome) (b c : List ℕ) → left r b ≡ into_buffer (crunched o text) buffer → left s c ≡ into_buffer (crunched o text) buffer
+  pub crunch_tight : (buffer : List ℕ) (r s : Result ℕ Refusal) (b c : List ℕ) → left r b ≡ into_buffer (crunched o text) buffer → left s c ≡ into_buffer (crunched o text) buffer
       → (r ≡ s) × (b ≡ c)
   crunch_tight buffer = lent_tight (into_buffer (crunched o text) buffer)
 
   -- `crunch_image::room`
-  pub room_tight : (r s : Outcome) → outcome_answer r ≡ room_for (crunched o text) → outcome_answer s ≡ room_for (crunched o text) → r ≡ s
+  pub room_tight : (r s : Result ℕ Refusal) → outcome_answer r ≡ room_for (crunched o text) → outcome_answer s ≡ room_for (crunched o text) → r ≡ s
   room_tight = outcome_tight (room_for (crunched o text))
 
   -- `crunch_image::measured_line`

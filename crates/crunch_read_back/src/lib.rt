@@ -6,7 +6,6 @@ ghost use Rattle.base_lent.specs.Lent.{into_buffer};
 ghost use Rattle.crunch_rules.specs.Crunched.{crunched};
 ghost use Rattle.crunch_read_back.specs.ReadingBack.{reading_back, left_read};
 
-use base_lent::Outcome;
 use base_refusals::Refusal;
 use crunch_rules::Options;
 use image_readers::{Checked, links};
@@ -26,10 +25,10 @@ pub fn crunch_and_read(text: &[u8], options: Options, out: &mut [u8]) -> ReadBac
     ensures { left_read result out.new ≡ reading_back (into_buffer (crunched options text.now) out.old) }
 {
     match crunch_image::crunch(text, options, out) {
-        Outcome::Done(length) => {
+        Ok(length) => {
             let read = links::check(&out[..length]);
             ReadBack::Made { length, read }
         }
-        Outcome::Refused(refusal) => ReadBack::Refused(refusal),
+        Err(refusal) => ReadBack::Refused(refusal),
     }
 }

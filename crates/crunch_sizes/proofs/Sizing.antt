@@ -21,14 +21,13 @@ use Rattle.body.specs.Zero.{holds_zero}
 use Rattle.image_readers.specs.NumberedBody.{NumberedBody}
 use Rattle.image_layout.specs.Layout.{end_address}
 use Rattle.crunch_profile.specs.Profile.{profile_says, line_allowed, allowed, allowed_answer}
-use Rattle.crunch_profile.specs.declared.Allowed.{Allowed}
-use Rattle.crunch_profile.specs.declared.Allowed.TheVariants.{Yes, Refused as Not}
 use Rattle.crunch_profile.proofs.Asking.{says_cut}
 use Rattle.crunch_rules.specs.Crunched.{lines_read, line_under, last_link}
 use Rattle.crunch_sizes.specs.SizeHelpers.{LineSized, SizedAs, sized_at}
 use Rattle.crunch_sizes.specs.declared.Sized.{Sized}
 use Rattle.crunch_sizes.specs.declared.Sized.TheVariants.{Blank as SizedAsBlank, Numbered as SizedAsNumbered, Refused as SizedAsRefused}
 use Rattle.crunch_rules.proofs.Lining.{link_fits, link_over, read_as, under_as, Taken}
+use Rattle.std.specs.Prelude.{Result, Ok, Err}
 
 -- the line that a numbered text line gives
 abbrev pub line_of : Lexicon → List ℕ → ℕ → ℕ → ℕ → NumberedBody
@@ -98,7 +97,7 @@ module _ (profile : Bool) (words : Lexicon) (k least : ℕ) (line : List ℕ) (a
     sized_plain z f = sized_says (ap (λ (b : Bool). cond b (allowed k least (here ∷ [])) (done tt)) f) z
 
     -- it is asked
-    module _ (p : profile ≡ true) {zero : Bool} (zero_is : zero ≡ holds_zero (crunched_body words (take (to - from) (drop from line)))) (x : Allowed)
+    module _ (p : profile ≡ true) {zero : Bool} (zero_is : zero ≡ holds_zero (crunched_body words (take (to - from) (drop from line)))) (x : Result (Unit {0}) Refusal)
         (told_is : allowed_answer x ≡ profile_says k least number zero n) where
       line_says : allowed_answer x ≡ line_allowed k least here
       unfolding line_allowed
@@ -112,14 +111,14 @@ module _ (profile : Bool) (words : Lexicon) (k least : ℕ) (line : List ℕ) (a
           ap (λ (b : Bool). cond b (allowed k least (here ∷ [])) (done tt)) p
           ∙ ap (λ (b : Answer (Unit {0})). and_then b (λ _. done tt)) (sym line_says)
 
-      pub sized_allowed : {r : Sized} → r ≡ sized_at address number n → x ≡ Yes → SizedAs address (line_under profile words k least line) r
-      sized_allowed z y = sized_says (says_is ∙ ap (λ (v : Allowed). and_then (allowed_answer v) (λ _. done tt)) y) z
+      pub sized_allowed : {r : Sized} → r ≡ sized_at address number n → x ≡ (Ok tt) → SizedAs address (line_under profile words k least line) r
+      sized_allowed z y = sized_says (says_is ∙ ap (λ (v : Result (Unit {0}) Refusal). and_then (allowed_answer v) (λ _. done tt)) y) z
 
-      pub sized_not : {v : Refusal} → x ≡ Not v → SizedAs address (line_under profile words k least line) (SizedAsRefused v)
+      pub sized_not : {v : Refusal} → x ≡ Err v → SizedAs address (line_under profile words k least line) (SizedAsRefused v)
       unfolding SizedAs
       sized_not y =
           ap (λ (a : Answer (List NumberedBody)). and_then a (last_link address))
-          (under_says (says_is ∙ ap (λ (v : Allowed). and_then (allowed_answer v) (λ _. done tt)) y))
+          (under_says (says_is ∙ ap (λ (v : Result (Unit {0}) Refusal). and_then (allowed_answer v) (λ _. done tt)) y))
 
 -- a line that was measured is taken
 unfoldable pub taken_line : {profile : Bool} {words : Lexicon} {k least address : ℕ} {line : List ℕ} {number behind : ℕ} (s : LineSized address (line_under profile words k least line) number behind)

@@ -9,7 +9,6 @@ ghost use Rattle.crunch_sizes.specs.SizeHelpers.{SizedAs, sized_at, Bounded};
 
 use base_refusals::Refusal;
 use body::zero;
-use crunch_profile::Allowed;
 use text_numbers::Numbering;
 use word_match::sets::Sets;
 
@@ -57,8 +56,8 @@ pub fn measure_line(line: &[u8], spot: Spot, bytes: &[u8], index: &[u16], sets: 
             }
             let zero = zero::holds_zero(&line[body_from..body_to], bytes, index, sets);
             match crunch_profile::allow_line(k, spot.least, number, zero, length) {
-                Allowed::Yes => size_line(spot.address, number, length),
-                Allowed::Refused(refusal) => Sized::Refused(refusal),
+                Ok(()) => size_line(spot.address, number, length),
+                Err(refusal) => Sized::Refused(refusal),
             }
         }
     }

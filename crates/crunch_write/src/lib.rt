@@ -11,7 +11,6 @@ ghost use Rattle.crunch_rules.specs.Crunched.{text_line};
 ghost use Rattle.crunch_rules.specs.PassesHelpers.{text_image, given};
 ghost use Rattle.crunch_write.specs.FrameHelpers.{FrameRoom, Framed};
 
-use base_lent::Outcome;
 use text_lines::LineRule;
 use text_numbers::Numbering;
 use word_match::sets::Sets;

@@ -12,9 +12,9 @@ use borrow.Author.Tests.{leb-true}
 use Rattle.base_refusals.specs.Answer.{Answer, done, refused}
 use Rattle.base_refusals.specs.Numbers.{no_room}
 use Rattle.base_lent.specs.Lent.{Lent, into_buffer, left}
-use Rattle.base_lent.specs.declared.Outcome.{Outcome}
-use Rattle.base_lent.specs.declared.Outcome.TheVariants.{Done, Refused}
 use Rattle.desk.specs.ResultHelpers.{Holds}
+use Rattle.std.specs.Prelude.{Result, Ok, Err}
+use Rattle.base_refusals.specs.declared.Refusal.{Refusal}
 
 -- a length that was answered, and none that was refused
 held : Lent → Type 0
@@ -30,10 +30,10 @@ into_held (done bytes) buffer = go (leb (length bytes) (length buffer)) refl
     go true e = let h : length bytes ≤ length buffer = leb-true _ _ e in omega (arith, length-sets buffer 0 bytes)
     go false e = tt
 
-pub result_held : (a : Answer (List ℕ)) (buffer : List ℕ) (r : Outcome) {after : List ℕ} → left r after ≡ into_buffer a buffer → Holds r after
+pub result_held : (a : Answer (List ℕ)) (buffer : List ℕ) (r : Result ℕ Refusal) {after : List ℕ} → left r after ≡ into_buffer a buffer → Holds r after
 unfolding held
-result_held a buffer (Done count) {after} e = subst held (sym e) (into_held a buffer)
-result_held a buffer (Refused m) e = tt
+result_held a buffer (Ok count) {after} e = subst held (sym e) (into_held a buffer)
+result_held a buffer (Err m) e = tt
 
-pub result_count : (bytes : List ℕ) {r : Outcome} {n : ℕ} → r ≡ Done n → Holds r bytes → n ≤ length bytes
-result_count bytes e h = subst (λ (r : Outcome). Holds r bytes) e h
+pub result_count : (bytes : List ℕ) {r : (Result ℕ Refusal)} {n : ℕ} → r ≡ Ok n → Holds r bytes → n ≤ length bytes
+result_count bytes e h = subst (λ (r : Result ℕ Refusal). Holds r bytes) e h

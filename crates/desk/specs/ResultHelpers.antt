@@ -1,10 +1,10 @@
 -- For what the programs write, and for no promise of an entry point: a result lies within the buffer.
 -- Assumes nothing.
 use Rattle.std.specs.Prelude.{ℕ, ◌≤◌, List, length}
-use Rattle.base_lent.specs.declared.Outcome.{Outcome}
-use Rattle.base_lent.specs.declared.Outcome.TheVariants.{Done, Refused}
+use Rattle.std.specs.Prelude.{Result, Ok, Err}
+use Rattle.base_refusals.specs.declared.Refusal.{Refusal}
 
 -- a result of so many bytes stands in a buffer
-abbrev pub Holds : Outcome → List ℕ → Type 0
-Holds (Done count) buf = count ≤ length buf
-Holds (Refused r) buf = Unit {0}
+abbrev pub Holds : Result ℕ Refusal → List ℕ → Type 0
+Holds (Ok count) buf = count ≤ length buf
+Holds (Err r) buf = Unit {0}

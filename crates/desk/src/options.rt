@@ -5,7 +5,7 @@ use desk_calls::words;
 use desk_status::Status;
 use say_put::put_text;
 use text_numbers::Numbering;
-use word_dialects::{Dialect, Named};
+use word_dialects::Dialect;
 
 // The dialect that was asked for.
 #[derive(Clone, Copy)]
@@ -40,8 +40,8 @@ pub fn dialect(rt: &HostRuntime, argument: usize) -> AskedDialect {
     let mut word = io::buffer();
     let n = names::name(rt, argument, &mut word);
     match word_dialects::dialect_by_name(&word[..n]) {
-        Named::Known(dialect) => AskedDialect::Known(dialect),
-        Named::Refused(refusal) => {
+        Ok(dialect) => AskedDialect::Known(dialect),
+        Err(refusal) => {
             output::refuse_for(rt, &word[..n], refusal);
             AskedDialect::Ended
         }

@@ -3,7 +3,6 @@ ghost use Rattle.std.specs.Prelude.{◌≤◌, length};
 ghost use Rattle.desk.specs.ResultHelpers.{Holds};
 
 use crate::{names, result, saying};
-use base_lent::Outcome;
 use base_refusals::{Code, Refusal};
 use desk_status::Status;
 
@@ -84,11 +83,11 @@ pub fn done(rt: &HostRuntime, written: bool) {
 }
 
 // Ends a program with its result, the first bytes of a buffer, or with its refusal.
-pub fn answer(rt: &HostRuntime, outcome: Outcome, bytes: &[u8], text: &[u8])
+pub fn answer(rt: &HostRuntime, outcome: Result<usize, Refusal>, bytes: &[u8], text: &[u8])
     requires { Holds outcome bytes.now × (length text.now ≤ 1048576) }
 {
     match outcome {
-        Outcome::Done(n) => done(rt, result::write_whole(rt, &bytes[0..n])),
-        Outcome::Refused(refusal) => refuse(rt, refusal, text),
+        Ok(n) => done(rt, result::write_whole(rt, &bytes[0..n])),
+        Err(refusal) => refuse(rt, refusal, text),
     }
 }

@@ -8,11 +8,11 @@ use lib.ListN.{length, take}
 use lib.Seq.{length-take-le}
 use Rattle.base_refusals.specs.Answer.{Answer}
 use Rattle.base_lent.specs.Lent.{into_buffer, left}
-use Rattle.base_lent.specs.declared.Outcome.{Outcome}
-use Rattle.base_lent.specs.declared.Outcome.TheVariants.{Done}
 use Rattle.desk.proofs.Results.{result_held, result_count}
+use Rattle.std.specs.Prelude.{Result, Ok}
+use Rattle.base_refusals.specs.declared.Refusal.{Refusal}
 
-pub read_within : (a : Answer (List ℕ)) (buffer : List ℕ) {r : Outcome} {n : ℕ} {after : List ℕ} → r ≡ Done n → left r after ≡ into_buffer a buffer → n ≤ length after
+pub read_within : (a : Answer (List ℕ)) (buffer : List ℕ) {r : (Result ℕ Refusal)} {n : ℕ} {after : List ℕ} → r ≡ Ok n → left r after ≡ into_buffer a buffer → n ≤ length after
 read_within a buffer {r} {after = after} is e = result_count after is (result_held a buffer r e)
 
 pub part_long : (name : List ℕ) → 4352 < length name → 4352 ≡ length (take 4352 name)

@@ -3,7 +3,6 @@ ghost use Rattle.std.specs.Prelude.{◌≡◌, ◌+◌, ◌≤◌, length};
 ghost use Rattle.disk_entries.specs.EntryHelpers.{Entries};
 
 use crate::{check_program, telling};
-use base_lent::Outcome;
 use base_refusals::Refusal;
 use desk_status::Status;
 use disk_check::look;
@@ -18,8 +17,8 @@ fn check_named(rt: &HostRuntime, name: &[u8], disk: &[u8], p: usize, is_quiet: b
     // No file is longer: 664 sectors of 254 bytes.
     let mut file = [0u8; 168_656];
     match disk::read(disk, name_at(disk, p), &mut file) {
-        Outcome::Done(count) => check_program(rt, name, &file[0..count], is_quiet),
-        Outcome::Refused(refusal) => telling::tell_refusal(rt, name, refusal, is_quiet),
+        Ok(count) => check_program(rt, name, &file[0..count], is_quiet),
+        Err(refusal) => telling::tell_refusal(rt, name, refusal, is_quiet),
     }
 }
 

@@ -3,7 +3,6 @@
 ghost use Rattle.std.specs.Prelude.{◌≤◌, length};
 ghost use Rattle.desk.specs.ResultHelpers.{Holds};
 
-use base_lent::Outcome;
 use base_refusals::Refusal;
 use desk::{output, saying};
 use desk_status::Status;
@@ -24,12 +23,12 @@ fn short(name: &[u8]) -> &[u8]
 }
 
 // Writes a line that was put together, or says why it was not.
-fn write_told(rt: &HostRuntime, name: &[u8], outcome: Outcome, line: &[u8]) -> bool
+fn write_told(rt: &HostRuntime, name: &[u8], outcome: Result<usize, Refusal>, line: &[u8]) -> bool
     requires { Holds outcome line.now }
 {
     match outcome {
-        Outcome::Done(n) => write_line(rt, &line[0..n]),
-        Outcome::Refused(refusal) => {
+        Ok(n) => write_line(rt, &line[0..n]),
+        Err(refusal) => {
             output::tell(rt, name, refusal);
             false
         }

@@ -6,11 +6,10 @@ mod saving;
 
 ghost use Rattle.std.specs.Prelude.{◌≤◌, length};
 
-use base_lent::Outcome;
 use base_refusals::Refusal;
 use desk::{input, names, output};
 use desk_inputs::Input;
-use disk_rules::{Changed, DiskCheck};
+use disk_rules::DiskCheck;
 use say_put::{put_decimal, put_text};
 
 const COMMAND: usize = names::WORDS;
@@ -18,10 +17,10 @@ const COMMAND: usize = names::WORDS;
 const NAME: usize = names::WORDS + 1;
 
 // Writes the disk as a call left it, or says why that call was refused.
-fn answer_changed(rt: &HostRuntime, changed: Changed, disk: &[u8]) {
+fn answer_changed(rt: &HostRuntime, changed: Result<(), Refusal>, disk: &[u8]) {
     match changed {
-        Changed::Done => output::answer(rt, Outcome::Done(disk.len()), disk, b""),
-        Changed::Refused(refusal) => output::refuse(rt, refusal, b""),
+        Ok(()) => output::answer(rt, Ok(disk.len()), disk, b""),
+        Err(refusal) => output::refuse(rt, refusal, b""),
     }
 }
 
@@ -29,8 +28,8 @@ fn answer_changed(rt: &HostRuntime, changed: Changed, disk: &[u8]) {
 fn format(rt: &HostRuntime) {
     let mut disk = [0u8; 174_848];
     match disk::format(&mut disk) {
-        Changed::Done => saving::save_files(rt, &mut disk, true),
-        Changed::Refused(refusal) => output::refuse(rt, refusal, b""),
+        Ok(()) => saving::save_files(rt, &mut disk, true),
+        Err(refusal) => output::refuse(rt, refusal, b""),
     }
 }
 
@@ -104,7 +103,7 @@ fn put_check(out: &mut [u8], files: usize, free: usize) -> usize
 fn answer_check(rt: &HostRuntime, files: usize, free: usize) {
     let mut text = [0u8; 64];
     let end = put_check(&mut text, files, free);
-    output::answer(rt, Outcome::Done(end), &text, b"");
+    output::answer(rt, Ok(end), &text, b"");
 }
 
 fn check(rt: &HostRuntime, disk: &[u8]) {

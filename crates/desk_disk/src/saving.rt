@@ -3,15 +3,14 @@ use base_refusals::Refusal;
 use desk::{input, names, output, result};
 use desk_calls::words;
 use desk_inputs::Input;
-use disk_rules::Changed;
 
 const FILES: usize = names::WORDS + 1;
 
 // Whether a file was saved; where it was not, the program has ended.
-fn is_saved(rt: &HostRuntime, file: &[u8], changed: Changed) -> bool {
+fn is_saved(rt: &HostRuntime, file: &[u8], changed: Result<(), Refusal>) -> bool {
     match changed {
-        Changed::Done => true,
-        Changed::Refused(refusal) => {
+        Ok(()) => true,
+        Err(refusal) => {
             output::refuse_for(rt, file, refusal);
             false
         }
@@ -19,10 +18,10 @@ fn is_saved(rt: &HostRuntime, file: &[u8], changed: Changed) -> bool {
 }
 
 // A file that was cut is never saved.
-fn of_cut(changed: Changed) -> Changed {
+fn of_cut(changed: Result<(), Refusal>) -> Result<(), Refusal> {
     match changed {
-        Changed::Done => Changed::Refused(Refusal::DiskFull),
-        Changed::Refused(refusal) => Changed::Refused(refusal),
+        Ok(()) => Err(Refusal::DiskFull),
+        Err(refusal) => Err(refusal),
     }
 }
 

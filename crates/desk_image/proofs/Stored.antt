@@ -6,9 +6,9 @@ use mathlib.Core.List.{List}
 use lib.ListN.{length}
 use Rattle.base_refusals.specs.Answer.{Answer}
 use Rattle.base_lent.specs.Lent.{into_buffer, left}
-use Rattle.base_lent.specs.declared.Outcome.{Outcome}
-use Rattle.base_lent.specs.declared.Outcome.TheVariants.{Done}
 use Rattle.desk.proofs.Results.{result_held, result_count}
+use Rattle.std.specs.Prelude.{Result, Ok}
+use Rattle.base_refusals.specs.declared.Refusal.{Refusal}
 
-pub stored_within : (a : Answer (List ℕ)) (buffer : List ℕ) {r : Outcome} {n : ℕ} {after : List ℕ} → r ≡ Done n → left r after ≡ into_buffer a buffer → n ≤ length after
+pub stored_within : (a : Answer (List ℕ)) (buffer : List ℕ) {r : (Result ℕ Refusal)} {n : ℕ} {after : List ℕ} → r ≡ Ok n → left r after ≡ into_buffer a buffer → n ≤ length after
 stored_within a buffer {r} {after = after} e h = result_count after e (result_held a buffer r h)

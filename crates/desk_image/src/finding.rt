@@ -1,7 +1,6 @@
 // A line by its number: where it stands, how far it was looked for, and its listing.
 ghost use Rattle.std.specs.Prelude.{◌≤◌, length};
 
-use base_lent::Outcome;
 use desk::result::Target;
 use desk::{names, output, result, saying};
 use desk_status::Status;
@@ -39,8 +38,8 @@ fn write_found(rt: &HostRuntime, row: &[u8], image: &[u8], line: Line) -> bool {
 fn show_found(rt: &HostRuntime, image: &[u8], line: Line, visited: usize) {
     let mut row = [0u8; 128];
     match image_rows::lend_found(line, visited, &mut row) {
-        Outcome::Done(n) => output::done(rt, write_found(rt, &row[0..n], image, line)),
-        Outcome::Refused(refusal) => output::refuse(rt, refusal, b""),
+        Ok(n) => output::done(rt, write_found(rt, &row[0..n], image, line)),
+        Err(refusal) => output::refuse(rt, refusal, b""),
     }
 }
 
@@ -50,8 +49,8 @@ fn tell_missing(rt: &HostRuntime, name: &[u8], number: u16, visited: usize) -> b
 {
     let mut row = [0u8; 4608];
     match image_rows::lend_missing(name, number, visited, &mut row) {
-        Outcome::Done(n) => saying::tell(rt, &row[0..n]),
-        Outcome::Refused(refusal) => output::tell(rt, name, refusal),
+        Ok(n) => saying::tell(rt, &row[0..n]),
+        Err(refusal) => output::tell(rt, name, refusal),
     }
 }
 

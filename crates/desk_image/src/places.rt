@@ -1,7 +1,6 @@
 // Where the lines of an image stand, and for a text the text lines that they come from: the rows of crate `image_rows`.
 ghost use Rattle.std.specs.Prelude.{◌≤◌, length};
 
-use base_lent::Outcome;
 use base_refusals::Refusal;
 use crunch_rules::Options;
 use desk::options::{AskedDialect, AskedNumber};
@@ -42,8 +41,8 @@ fn show_text(rt: &HostRuntime, text: &[u8], options: Options)
 {
     let mut image = [0u8; 65_536];
     match crunch_image::crunch(text, options, &mut image) {
-        Outcome::Done(n) => show_origins(rt, text, &image[0..n]),
-        Outcome::Refused(refusal) => output::refuse(rt, refusal, text),
+        Ok(n) => show_origins(rt, text, &image[0..n]),
+        Err(refusal) => output::refuse(rt, refusal, text),
     }
 }
 

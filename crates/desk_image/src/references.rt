@@ -1,7 +1,6 @@
 // Which lines jump where: the rows of crate `image_rows`, of the lines and jumps in the image's index.
 ghost use Rattle.std.specs.Prelude.{◌≤◌, length};
 
-use base_lent::Outcome;
 use desk::output;
 use image_rows::jumps;
 
@@ -50,8 +49,8 @@ fn show_index(rt: &HostRuntime, image: &[u8], index: &[u8]) {
 
 fn show_in(rt: &HostRuntime, index: &mut [u8], image: &[u8]) {
     match image_index::write_index(image, index) {
-        Outcome::Done(n) => show_index(rt, image, &index[0..n]),
-        Outcome::Refused(refusal) => output::refuse(rt, refusal, b""),
+        Ok(n) => show_index(rt, image, &index[0..n]),
+        Err(refusal) => output::refuse(rt, refusal, b""),
     }
 }
 

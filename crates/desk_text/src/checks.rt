@@ -1,7 +1,6 @@
 // The checks of a text: its bytes, then each line by its number, its length and its steps, then the whole.
 use crate::sentence::Tally;
 use crate::{sayings, sentence, steps, strange};
-use base_lent::Outcome;
 use base_refusals::Refusal;
 use crunch_rules::Options;
 use desk::{output, result};
@@ -9,9 +8,7 @@ use desk_status::Status;
 use editor_findings::deciding;
 use editor_findings::deciding::Decided;
 use guess::resolve;
-use guess::resolve::Resolved;
 use guess_evidence::DecidingWord;
-use text_domain::TextCheck;
 use text_lines::LineRule;
 use text_numbers::Numbering;
 use text_places::Place;
@@ -180,13 +177,13 @@ fn room_fault(text: &[u8]) -> usize {
         forms: false,
     };
     match crunch_image::room(text, options) {
-        Outcome::Done(n) => {
+        Ok(n) => {
             if image_limits::is_in_basic_memory(image_limits::commodore_64(), options.load, n) {
                 return sayings::REMARKS;
             }
             sayings::BEYOND_MEMORY
         }
-        Outcome::Refused(refusal) => {
+        Err(refusal) => {
             if let Refusal::AddressOverflow = refusal {
                 return sayings::BEYOND_ADDRESS;
             }
@@ -280,14 +277,14 @@ fn tell_refused(rt: &HostRuntime, tally: Tally, page: &mut [u8], text: &[u8]) ->
 // Checks a text under the name with which the page begins.
 fn check_under(rt: &HostRuntime, start: Tally, page: &mut [u8], text: &[u8]) -> Status {
     match text_domain::check_text(text) {
-        TextCheck::Fine => {
+        Ok(()) => {
             let lines = check_lines(rt, start, page, text, deciding::words_of(text));
             let fits = check_room(rt, lines, page, text);
             let rest = sentence::tell_rest(rt, fits, page);
             let last = close(rt, rest, page, text);
             end(rt, last, page)
         }
-        TextCheck::Refused(_) => {
+        Err(_) => {
             let told = tell_refused(rt, start, page, text);
             let rest = sentence::tell_rest(rt, told, page);
             end(rt, rest, page)
@@ -320,13 +317,13 @@ fn named(rt: &HostRuntime, word: &[u8]) -> Status {
 // Writes the dialect that Auto is for a text.
 pub fn tell_dialect(rt: &HostRuntime, name: &[u8], text: &[u8]) -> Status {
     match resolve::resolved_dialect(text, Dialect::Auto) {
-        Resolved::Is(dialect) => match dialect {
+        Ok(dialect) => match dialect {
             Dialect::Auto => named(rt, b"auto\n"),
             Dialect::BasicV2 => named(rt, b"basicv2\n"),
             Dialect::Tsb => named(rt, b"tsb\n"),
             Dialect::Basic35 => named(rt, b"basic35\n"),
         },
-        Resolved::Refused(refusal) => {
+        Err(refusal) => {
             let told = sentence::refuse(rt, name, refusal);
             let is_numbered = output::put_number(rt, refusal);
             desk_status::written(told && is_numbered, Status::Refused)

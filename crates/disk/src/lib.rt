@@ -10,13 +10,12 @@ ghost use Rattle.disk_rules.specs.Free.{marked_all};
 ghost use Rattle.disk_rules.specs.Calls.{is_file_name, disk_answer, disk_holding, chain_bytes, file_bytes, formatted, scratched, saved, onto_disk, leaving};
 ghost use Rattle.disk.specs.LocateHelpers.{Locates, Seeks};
 
-use base_lent::Outcome;
 use base_refusals::Refusal;
 use disk_bytes::{measure, store, take_out};
 use disk_chains::{free_sectors, mark_all};
 use disk_check::look;
 use disk_entries::{find, trace_entry};
-use disk_rules::{Changed, DiskCheck};
+use disk_rules::DiskCheck;
 use disk_saves::save_new;
 
 // What 18/0 begins with: the first directory sector, the format, the map, and a name and an id of A0.
@@ -60,16 +59,16 @@ fn clear(disk: &mut [u8])
 }
 
 // Formats a disk of the right length.
-pub fn format(disk: &mut [u8]) -> Changed
+pub fn format(disk: &mut [u8]) -> Result<(), Refusal>
     ensures { leaving result disk.new ≡ onto_disk (formatted disk.old) disk.old }
 {
     if disk.len() != 174848 {
-        return Changed::Refused(Refusal::BadDisk);
+        return Err(Refusal::BadDisk);
     }
     clear(disk);
     store(disk, 91392, &HEADER);
     store(disk, 91648, &LAST);
-    Changed::Done
+    Ok(())
 }
 
 // Checks a disk, and answers how many files it lists and how many sectors off track 18 are free.
@@ -156,16 +155,16 @@ fn locate(disk: &[u8], name: &[u8]) -> Located
 }
 
 // Reads a file into the start of a buffer, and answers its length.
-pub fn read(disk: &[u8], name: &[u8], out: &mut [u8]) -> Outcome
+pub fn read(disk: &[u8], name: &[u8], out: &mut [u8]) -> Result<usize, Refusal>
     ensures { left result out.new ≡ into_buffer (file_bytes disk.now name.now) out.old }
 {
     match locate(disk, name) {
         Located::At(p) => read_entry(disk, p, out),
-        Located::Refused(refusal) => Outcome::Refused(refusal),
+        Located::Refused(refusal) => Err(refusal),
     }
 }
 
-fn read_entry(disk: &[u8], p: usize, out: &mut [u8]) -> Outcome
+fn read_entry(disk: &[u8], p: usize, out: &mut [u8]) -> Result<usize, Refusal>
     requires { (length disk.now ≡ 174848) × (p + 30 ≤ 174848) }
     ensures { left result out.new ≡ into_buffer (done (chain_bytes disk.now (chain_of_within 683 disk.now p).sectors)) out.old }
 {
@@ -174,22 +173,22 @@ fn read_entry(disk: &[u8], p: usize, out: &mut [u8]) -> Outcome
     let to = traced.to;
     let needed = measure(disk, &log[..to]);
     if needed > out.len() {
-        return Outcome::Refused(Refusal::NoRoom { needed });
+        return Err(Refusal::NoRoom { needed });
     }
     take_out(disk, &log[..to], out);
-    Outcome::Done(needed)
+    Ok(needed)
 }
 
 // Scratches a file.
-pub fn scratch(disk: &mut [u8], name: &[u8]) -> Changed
+pub fn scratch(disk: &mut [u8], name: &[u8]) -> Result<(), Refusal>
     ensures { leaving result disk.new ≡ onto_disk (scratched disk.old name.now) disk.old }
 {
     match locate(disk, name) {
         Located::At(p) => {
             scratch_entry(disk, p);
-            Changed::Done
+            Ok(())
         }
-        Located::Refused(refusal) => Changed::Refused(refusal),
+        Located::Refused(refusal) => Err(refusal),
     }
 }
 
@@ -205,7 +204,7 @@ fn scratch_entry(disk: &mut [u8], p: usize)
 }
 
 // Saves a file on the lowest free sectors.
-pub fn save(disk: &mut [u8], name: &[u8], image: &[u8]) -> Changed
+pub fn save(disk: &mut [u8], name: &[u8], image: &[u8]) -> Result<(), Refusal>
     ensures { leaving result disk.new ≡ onto_disk (saved disk.old name.now image.now) disk.old }
 {
     let mut sectors = [0usize; 18];
@@ -213,13 +212,13 @@ pub fn save(disk: &mut [u8], name: &[u8], image: &[u8]) -> Changed
     match seek(disk, name, &mut sectors, &mut files) {
         Sought::On(k, count, at) => {
             if at < count {
-                return Changed::Refused(Refusal::NameTaken);
+                return Err(Refusal::NameTaken);
             }
             if count > 143 {
-                return Changed::Refused(Refusal::DirectoryFull);
+                return Err(Refusal::DirectoryFull);
             }
             save_new(disk, &sectors[..k], name, image)
         }
-        Sought::Refused(refusal) => Changed::Refused(refusal),
+        Sought::Refused(refusal) => Err(refusal),
     }
 }

@@ -4,8 +4,6 @@
 use Rattle.std.specs.Prelude.{ℕ, ◌≡◌, true, false, List, [], ◌∷◌, ◌++◌, length}
 use Rattle.base_refusals.specs.Numbers.{bad_disk}
 use Rattle.base_refusals.specs.Answer.{numbered}
-use Rattle.base_lent.specs.declared.Outcome.{Outcome}
-use Rattle.base_lent.specs.declared.Outcome.TheVariants.{Done, Refused}
 use Rattle.word_search.specs.Spelling.{bytes_of}
 use Rattle.base_steps.specs.Decimal.{decimal}
 use Rattle.say_put.specs.Clipped.{Clipped}
@@ -13,6 +11,8 @@ use Rattle.disk_rules.specs.Entries.{listed, name_at, chain_of}
 use Rattle.disk_rules.specs.Free.{free_sectors}
 use Rattle.disk_rules.specs.Check.{sound}
 use Rattle.disk_names.specs.Names.{name_shown}
+use Rattle.std.specs.Prelude.{Result, Ok, Err}
+use Rattle.base_refusals.specs.declared.Refusal.{Refusal}
 
 -- the line of the entry p
 unfoldable pub file_line : List ℕ → ℕ → List ℕ
@@ -32,6 +32,6 @@ abbrev pub directory_text : List ℕ → List ℕ
 directory_text disk = file_lines disk (listed disk) ++ free_line disk
 
 -- what is answered and stored: the text of a sound disk, or 20 and nothing
-abbrev pub Shows : List ℕ → List ℕ → Outcome → List ℕ → Type 0
-Shows disk out (Done n) after = (sound disk ≡ true) × Clipped out 0 (directory_text disk) n after
-Shows disk out (Refused r) after = (sound disk ≡ false) × (numbered r ≡ bad_disk) × (after ≡ out)
+abbrev pub Shows : List ℕ → List ℕ → Result ℕ Refusal → List ℕ → Type 0
+Shows disk out (Ok n) after = (sound disk ≡ true) × Clipped out 0 (directory_text disk) n after
+Shows disk out (Err r) after = (sound disk ≡ false) × (numbered r ≡ bad_disk) × (after ≡ out)

@@ -8,7 +8,6 @@ ghost use Rattle.disk_rules.specs.Entries.{listed};
 ghost use Rattle.disk_rules.specs.Check.{sound};
 ghost use Rattle.disk_directory.specs.Listing.{file_line, file_lines, free_line, Shows};
 
-use base_lent::Outcome;
 use base_refusals::Refusal;
 use disk_chains::free_sectors;
 use disk_check::look;
@@ -53,19 +52,19 @@ fn put_free(out: &mut [u8], at: usize, disk: &[u8]) -> usize
 }
 
 // Stores the directory's text at the start of a buffer, as much of it as fits, and answers how many bytes that are.
-pub fn put_directory(disk: &[u8], out: &mut [u8]) -> Outcome
+pub fn put_directory(disk: &[u8], out: &mut [u8]) -> Result<usize, Refusal>
     ensures { Shows disk.now out.old result out.new }
 {
     if disk.len() != 174848 {
-        return Outcome::Refused(Refusal::BadDisk);
+        return Err(Refusal::BadDisk);
     }
     let mut sectors = [0usize; 18];
     let mut files = [0usize; 144];
     let seen = look(disk, &mut sectors, &mut files);
     if !seen.sound {
-        return Outcome::Refused(Refusal::BadDisk);
+        return Err(Refusal::BadDisk);
     }
     let count = seen.files;
     let at = put_files(out, disk, &files[..count]);
-    Outcome::Done(put_free(out, at, disk))
+    Ok(put_free(out, at, disk))
 }

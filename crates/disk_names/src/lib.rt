@@ -7,7 +7,7 @@ ghost use Rattle.disk_names.specs.Names.{digit_value, byte_form, character_byte,
 ghost use Rattle.disk_names.specs.Words.{given_file, given_text};
 
 use base_ascii::search;
-use base_ascii::search::{Found, Kind};
+use base_ascii::search::Kind;
 use list_bytes::hex_digit;
 use say_put::put_text;
 
@@ -134,7 +134,7 @@ pub fn text_of(word: &[u8]) -> &[u8]
     ensures { result.now ≡ given_text word.now }
 {
     match search::last(word, Kind::Is(b'=')) {
-        Found::At(n) => say_names::behind(word, n),
-        Found::Nowhere => say_names::plain_name(word),
+        Some(n) => say_names::behind(word, n),
+        None => say_names::plain_name(word),
     }
 }

@@ -6,22 +6,22 @@ use Prim.Native.Nat.{ℕ}
 use Rattle.base_refusals.specs.Answer.{Answer, done, refused}
 use Rattle.base_refusals.proofs.Tight.{named, named_numbered, tells_apart}
 use Rattle.disk_rules.specs.Calls.{Holding, After, changed_answer, leaving, disk_answer}
-use Rattle.disk_rules.specs.declared.Changed.{Changed}
-use Rattle.disk_rules.specs.declared.Changed.TheVariants.{Done, Refused}
 use Rattle.disk_rules.specs.declared.DiskCheck.{DiskCheck}
 use Rattle.disk_rules.specs.declared.DiskCheck.TheVariants.{Holds, Refused as RefusedDisk}
+use Rattle.std.specs.Prelude.{Result, Ok, Err}
+use Rattle.base_refusals.specs.declared.Refusal.{Refusal}
 
-changed_of : Answer Unit → Changed
-changed_of (done u) = Done
-changed_of (refused n) = Refused (named n)
+changed_of : Answer Unit → Result (Unit {0}) Refusal
+changed_of (done u) = (Ok tt)
+changed_of (refused n) = Err (named n)
 
-changed_back : (r : Changed) → changed_of (changed_answer r) ≡ r
+changed_back : (r : Result (Unit {0}) Refusal) → changed_of (changed_answer r) ≡ r
 unfolding changed_of
-changed_back Done = refl
-changed_back (Refused r) = ap Refused (named_numbered r)
+changed_back (Ok tt) = refl
+changed_back (Err r) = ap Err (named_numbered r)
 
 -- `format` and `scratch`: the answer, and the disk that is left
-pub changed_tight : (l : After) (r s : Changed) (b c : List ℕ) → leaving r b ≡ l → leaving s c ≡ l → (r ≡ s) × (b ≡ c)
+pub changed_tight : (l : After) (r s : Result (Unit {0}) Refusal) (b c : List ℕ) → leaving r b ≡ l → leaving s c ≡ l → (r ≡ s) × (b ≡ c)
 changed_tight l r s b c p q =
     (tells_apart changed_answer changed_of changed_back r s (ap (λ (x : After). x.answer) (p ∙ sym q)), ap (λ (x : After). x.disk) (p ∙ sym q))
 

@@ -10,10 +10,10 @@ use Rattle.disk_rules.specs.Lists.{numbers_from, those, some, is_in}
 use Rattle.disk_rules.specs.Free.{free_sectors, marked_all}
 use Rattle.disk_rules.specs.Entries.{directory, listed, entries_that, is_named, chain_of}
 use Rattle.disk_rules.specs.Check.{sound}
-use Rattle.disk_rules.specs.declared.Changed.{Changed}
-use Rattle.disk_rules.specs.declared.Changed.TheVariants.{Done, Refused}
 use Rattle.disk_rules.specs.declared.DiskCheck.{DiskCheck}
 use Rattle.disk_rules.specs.declared.DiskCheck.TheVariants.{Holds, Refused as RefusedDisk}
+use Rattle.std.specs.Prelude.{Result, Ok, Err}
+use Rattle.base_refusals.specs.declared.Refusal.{Refusal}
 
 -- ---- refusals
 
@@ -168,12 +168,12 @@ abbrev pub onto_disk : Answer (List ℕ) → List ℕ → After
 onto_disk (done made) disk = record { answer = done tt; disk = made }
 onto_disk (refused n) disk = record { answer = refused n; disk = disk }
 
-abbrev pub changed_answer : Changed → Answer Unit
-changed_answer Done = done tt
-changed_answer (Refused r) = refused (numbered r)
+abbrev pub changed_answer : Result (Unit {0}) Refusal → Answer Unit
+changed_answer (Ok tt) = done tt
+changed_answer (Err r) = refused (numbered r)
 
 -- an answer, and the disk as it was left
-abbrev pub leaving : Changed → List ℕ → After
+abbrev pub leaving : Result (Unit {0}) Refusal → List ℕ → After
 leaving r disk = record { answer = changed_answer r; disk = disk }
 
 abbrev pub disk_answer : DiskCheck → Answer Holding

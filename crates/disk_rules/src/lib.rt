@@ -11,13 +11,6 @@ pub enum Link {
     Astray,
 }
 
-// What a call answers that only changes the disk.
-#[derive(Clone, Copy)]
-pub enum Changed {
-    Done,
-    Refused(Refusal),
-}
-
 // What a sound disk holds: how many listed files, and how many free sectors off track 18.
 #[derive(Clone, Copy)]
 pub enum DiskCheck {

@@ -12,7 +12,6 @@ use crate::file::{put_file, put_grown};
 use base_refusals::Refusal;
 use disk_chains::free_sectors;
 use disk_entries::entries_that;
-use disk_rules::Changed;
 
 mod file;
 
@@ -62,25 +61,25 @@ fn save_on(
     name: &[u8],
     image: &[u8],
     chosen: &[usize],
-) -> Changed
+) -> Result<(), Refusal>
     requires { (length disk.old ≡ 174848) × (sectors.now ≡ (directory disk.old).sectors) × (length sectors.now ≤ 18) × (length name.now ≤ 16) × Chosen chosen.now image.now }
     ensures { leaving result disk.new ≡ onto_disk (with_file disk.old name.now image.now chosen.now) disk.old }
 {
     let mut unlisted = [0usize; 144];
     if entries_that(disk, sectors, false, &mut unlisted) > 0 {
         put_file(disk, unlisted[0], name, image, chosen);
-        return Changed::Done;
+        return Ok(());
     }
     let n = lowest_outside(sectors);
     if n > 375 {
-        return Changed::Refused(Refusal::DirectoryFull);
+        return Err(Refusal::DirectoryFull);
     }
     put_grown(disk, sectors[sectors.len() - 1], n, name, image, chosen);
-    Changed::Done
+    Ok(())
 }
 
 // Saves a file on a sound disk that lists none of its name.
-pub fn save_new(disk: &mut [u8], sectors: &[usize], name: &[u8], image: &[u8]) -> Changed
+pub fn save_new(disk: &mut [u8], sectors: &[usize], name: &[u8], image: &[u8]) -> Result<(), Refusal>
     requires { (length disk.old ≡ 174848) × (sectors.now ≡ (directory disk.old).sectors) × (length sectors.now ≤ 18) × (length name.now ≤ 16) }
     ensures { leaving result disk.new ≡ onto_disk (saved_new disk.old name.now image.now) disk.old }
 {
@@ -88,7 +87,7 @@ pub fn save_new(disk: &mut [u8], sectors: &[usize], name: &[u8], image: &[u8]) -
     let count = free_sectors(disk, &mut free);
     let needed = sectors_for(image);
     if count < needed {
-        return Changed::Refused(Refusal::DiskFull);
+        return Err(Refusal::DiskFull);
     }
     save_on(disk, sectors, name, image, &free[..needed])
 }

@@ -19,13 +19,12 @@ use Rattle.base_ascii.specs.Bytes.{between}
 use Rattle.base_ascii.proofs.Searching.{tail}
 use Rattle.word_search.specs.Compare.{begins}
 use Rattle.text_domain.specs.Domain.{domain_length, checked_text, text_check_answer}
-use Rattle.text_domain.specs.declared.TextCheck.{TextCheck}
-use Rattle.text_domain.specs.declared.TextCheck.TheVariants.{Fine, Refused}
 use Rattle.base_ascii.proofs.Choice.{taken, left}
 use Rattle.editor_strange_bytes.specs.Foreign.{is_inner, inner_behind, inner_asked, width_of, is_utf16, is_mark_of_order, is_curly_quote, is_no_break_space, is_long_dash, kind_of, stranger_in, first_stranger}
 use Rattle.editor_strange_bytes.specs.declared.Foreign.{Foreign}
 use Rattle.editor_strange_bytes.specs.declared.Foreign.TheVariants.{OrderMark, CurlyQuote, NoBreakSpace, LongDash, Character, LoneByte}
 use Rattle.editor_strange_bytes.specs.declared.Stranger.TheVariants.{There, Nowhere, TooLong}
+use Rattle.std.specs.Prelude.{Result, Ok, Err}
 
 pub byte_behind : (t : List ℕ) {i : ℕ} → length t ≤ i → 0 ≡ get_or t i 0
 byte_behind t {i} h = sym (get_or-eq_default t 0 {n = i} h)
@@ -178,7 +177,7 @@ pub record BadAt (s : List ℕ) (n : ℕ) : Type 0 where
   pub is : n ≡ domain_length s
   pub within : n < length s
 
-bad_at : (s : List ℕ) {c : TextCheck} {x : Refusal} {k : Code} → k ≡ code_of (numbered x) → c ≡ Refused x → text_check_answer c ≡ checked_text s → length s ≤ 1048576 → BadAt s k.first
+bad_at : (s : List ℕ) {c : (Result (Unit {0}) Refusal)} {x : Refusal} {k : Code} → k ≡ code_of (numbered x) → c ≡ Err x → text_check_answer c ≡ checked_text s → length s ≤ 1048576 → BadAt s k.first
 unfolding checked_text
 bad_at s {c} {x} {k} q e p h = go (ltb (domain_length s) (length s)) refl (sym (ap text_check_answer e) ∙ p ∙ taken _ _ (le-leb _ _ h))
   where
@@ -194,7 +193,7 @@ abbrev rest : List ℕ → ℕ → List ℕ
 rest t i = take (length t - i) (drop i t)
 
 module _ (from : ℕ) (s : List ℕ) (h : length s ≤ 1048576) where
-  fine_in : {c : TextCheck} → c ≡ Fine → text_check_answer c ≡ checked_text s → Nowhere ≡ stranger_in from s
+  fine_in : {c : (Result (Unit {0}) Refusal)} → c ≡ (Ok tt) → text_check_answer c ≡ checked_text s → Nowhere ≡ stranger_in from s
   unfolding stranger_in checked_text
   fine_in e p = go (ltb (domain_length s) (length s)) refl (sym (ap text_check_answer e) ∙ p ∙ taken _ _ (le-leb _ _ h))
     where
@@ -216,12 +215,12 @@ module _ (t : List ℕ) (from : ℕ) where
   unfolding first_stranger stranger_in
   stranger_long h = sym (left _ _ (lt-leb _ _ (rw (tail t from) at h)))
 
-  module _ {c : TextCheck} where
-    pub stranger_fine : c ≡ Fine → text_check_answer c ≡ checked_text (rest t from) → length (rest t from) ≤ 1048576 → Nowhere ≡ first_stranger t from
+  module _ {c : (Result (Unit {0}) Refusal)} where
+    pub stranger_fine : c ≡ (Ok tt) → text_check_answer c ≡ checked_text (rest t from) → length (rest t from) ≤ 1048576 → Nowhere ≡ first_stranger t from
     unfolding first_stranger
     stranger_fine e p h = fine_in from (rest t from) h e p ∙ ap (stranger_in from) (tail t from)
 
-    module _ {x : Refusal} {k : Code} (q : k ≡ code_of (numbered x)) (e : c ≡ Refused x) (p : text_check_answer c ≡ checked_text (rest t from)) (h : length (rest t from) ≤ 1048576) where
+    module _ {x : Refusal} {k : Code} (q : k ≡ code_of (numbered x)) (e : c ≡ Err x) (p : text_check_answer c ≡ checked_text (rest t from)) (h : length (rest t from) ≤ 1048576) where
       pub bad_within : k.first ≤ length (rest t from)
       bad_within = omega (arith, (bad_at (rest t from) q e p h).within)
 

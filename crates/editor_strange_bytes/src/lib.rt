@@ -4,7 +4,6 @@
 ghost use Rattle.std.specs.Prelude.{◌≡◌, get_or};
 ghost use Rattle.editor_strange_bytes.specs.Foreign.{is_inner, inner_behind, inner_asked, width_of, is_utf16, is_mark_of_order, is_curly_quote, is_no_break_space, is_long_dash, kind_of, first_stranger};
 
-use text_domain::TextCheck;
 
 // What stands at a byte outside the domain.
 #[derive(Clone, Copy)]
@@ -163,8 +162,8 @@ pub fn next_stranger(text: &[u8], from: usize) -> Stranger
         return Stranger::TooLong;
     }
     match text_domain::check_text(rest) {
-        TextCheck::Fine => Stranger::Nowhere,
-        TextCheck::Refused(refusal) => {
+        Ok(()) => Stranger::Nowhere,
+        Err(refusal) => {
             // It is a byte outside the domain: the length is in order.
             let code = base_refusals::refusal_code(refusal);
             let fine = code.first;

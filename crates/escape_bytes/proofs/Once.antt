@@ -9,7 +9,6 @@ use native.Mathlib.Omega.{arith}
 use lib.ListN.{length, length-take, length-drop}
 use Rattle.base_ascii.specs.Bytes.{is_letter, is_space}
 use Rattle.base_ascii.specs.Search.{equals, other, front, before, past, last, past_end}
-use Rattle.base_ascii.specs.declared.search.Found.TheVariants.{At, Nowhere}
 use Rattle.base_ascii.proofs.Searching.{front_le, front_drop, before_take, end_take}
 use Rattle.base_ascii.specs.Trim.{trim}
 use Rattle.word_search.specs.Find.{name_in, meaning}
@@ -21,10 +20,9 @@ use Rattle.escape_bytes.specs.Keys.{key_names, key_with, keyed, key_escape}
 use Rattle.escape_bytes.specs.Escape.{name_escape, counted_name, escape_of}
 use Rattle.escape_bytes.specs.declared.Key.{Key}
 use Rattle.escape_bytes.specs.declared.Key.TheVariants.{Control, Commodore, Shift}
-use Rattle.escape_numbers.specs.declared.Number.{Number}
-use Rattle.escape_numbers.specs.declared.Number.TheVariants.{Value, Missing}
 use Rattle.escape_bytes.specs.declared.Escape.{Escape}
 use Rattle.escape_bytes.specs.declared.Escape.TheVariants.{Byte, Unknown}
+use Rattle.std.specs.Prelude.{Some, None}
 
 -- ---- how often a byte is given
 
@@ -37,9 +35,9 @@ module _ (n : ℕ) where
   by_test true b = refl
   by_test false b = tt
 
-  by_number_lem : (x : Number) (r : Escape) → Often n r → Often n (elim x [ Value v ↦ Byte v n | Missing ↦ r ])
-  by_number_lem (Value v) r f = refl
-  by_number_lem Missing r f = f
+  by_number_lem : (x : Option ℕ) (r : Escape) → Often n r → Often n (elim x [ Some v ↦ Byte v n | None ↦ r ])
+  by_number_lem (Some v) r f = refl
+  by_number_lem None r f = f
 
   by_match : (m : Match) (r : Escape) → Often n r → Often n (elim m [ Word i u code ↦ Byte code n | Nothing ↦ r ])
   by_match (Word i u code) r f = refl
@@ -69,13 +67,13 @@ module _ (n : ℕ) where
 
 -- where no * is among all bytes, it is in no part of them
 module _ (p : ℕ → Bool) where
-  none_last : (s : List ℕ) → before p s ≡ length s → last p s ≡ Nowhere
+  none_last : (s : List ℕ) → before p s ≡ length s → last p s ≡ None
   unfolding before front last
   none_last [] e = refl
   none_last (b ∷ s) e = go (p b) e (none_last s)
     where
-      go : (r : Bool) → elim (not r) [ true ↦ suc (before p s) | false ↦ 0 ] ≡ suc (length s) → (before p s ≡ length s → last p s ≡ Nowhere)
-          → elim (last p s) [ At n ↦ At (suc n) | Nowhere ↦ cond r (At 0) Nowhere ] ≡ Nowhere
+      go : (r : Bool) → elim (not r) [ true ↦ suc (before p s) | false ↦ 0 ] ≡ suc (length s) → (before p s ≡ length s → last p s ≡ None)
+          → elim (last p s) [ Some n ↦ Some (suc n) | None ↦ cond r (Some 0) None ] ≡ None
       go true q f = absurd (omega arith)
       go false q f = rw (f (omega arith))
 

@@ -22,10 +22,10 @@ use Rattle.word_search.specs.Spelling.{bytes_of}
 use Rattle.escape_numbers.specs.Numbers.{number_after, number_of, hex_of}
 use Rattle.escape_bytes.specs.Keys.{key_escape}
 use Rattle.escape_bytes.specs.Escape.{name_escape_in, name_escape, Counted, counted_name, escape_in, escape_of}
-use Rattle.escape_numbers.specs.declared.Number.TheVariants.{Value, Missing}
 use Rattle.escape_bytes.specs.declared.Escape.{Escape}
 use Rattle.escape_bytes.specs.declared.Escape.TheVariants.{Byte}
 use Rattle.escape_numbers.proofs.Counting.{no_digit}
+use Rattle.std.specs.Prelude.{Some, None}
 
 -- ---- a list with another code for one name
 
@@ -122,11 +122,11 @@ no_digit_s b e = go (between 97 122 b) (is_digit b) refl refl
     go false true p q = let u : b ≡ 83 = sym (upper_own b p) ∙ e in absurd (omega (arith, between_in 48 57 b q))
 
 module _ (b : ℕ) (s : List ℕ) where
-  no_number : upper b ≡ 83 → number_of 10 255 (b ∷ s) ≡ Missing
+  no_number : upper b ≡ 83 → number_of 10 255 (b ∷ s) ≡ None
   unfolding number_of number_after
   no_number e = rw (number_after, le-ltb _ _ (no_digit b (no_digit_s b e)))
 
-  no_hex : upper b ≡ 83 → hex_of (b ∷ s) ≡ Missing
+  no_hex : upper b ≡ 83 → hex_of (b ∷ s) ≡ None
   unfolding hex_of
   no_hex e = rw (hex_of, ne_eqb b 36 (λ z. omega (arith, sym e ∙ ap upper z ∙ upper_dollar)))
 
@@ -161,10 +161,10 @@ unfolding name_escape_in
 kept [] count n = refl
 kept (b ∷ s) count n =
     ap (λ (m : Match). elim (number_of 10 255 (b ∷ s)) as (λ _. Escape) [
-      | Value v ↦ Byte v count
-      | Missing ↦ elim (hex_of (b ∷ s)) as (λ _. Escape) [
-        | Value v ↦ Byte v count
-        | Missing ↦ elim m as (λ _. Escape) [ Word i u code ↦ Byte code count | Nothing ↦ key_escape (b ∷ s) count ]
+      | Some v ↦ Byte v count
+      | None ↦ elim (hex_of (b ∷ s)) as (λ _. Escape) [
+        | Some v ↦ Byte v count
+        | None ↦ elim m as (λ _. Escape) [ Word i u code ↦ Byte code count | Nothing ↦ key_escape (b ∷ s) count ]
       ]
     ]) (names_kept (b ∷ s) n)
 

@@ -3,16 +3,15 @@
 use Rattle.std.specs.Prelude.{ℕ, zero, suc, List, [], ◌∷◌, take, drop}
 use Rattle.base_ascii.specs.Trim.{trim}
 use Rattle.base_ascii.specs.Search.{equals, last}
-use Rattle.base_ascii.specs.declared.search.Found.TheVariants.{At, Nowhere}
 use Rattle.word_search.specs.Find.{Entry, name_in}
 use Rattle.word_search.specs.declared.Match.TheVariants.{Word, Nothing}
 use Rattle.word_tables.specs.Escapes.{escape_names}
 use Rattle.escape_numbers.specs.Numbers.{number_of, hex_of, count_of}
 use Rattle.escape_bytes.specs.Keys.{key_escape}
-use Rattle.escape_numbers.specs.declared.Number.{Number}
-use Rattle.escape_numbers.specs.declared.Number.TheVariants.{Value, Missing}
 use Rattle.escape_bytes.specs.declared.Escape.{Escape}
 use Rattle.escape_bytes.specs.declared.Escape.TheVariants.{Byte, Unknown}
+use Rattle.std.specs.Prelude.{Some, None}
+use Rattle.std.specs.Prelude.{Option}
 
 -- a name and its count, by a list of names: digits, $ and hex digits, one of the names, a key with one byte, in this order; an empty
 -- name is unknown
@@ -20,10 +19,10 @@ unfoldable pub name_escape_in : List Entry → List ℕ → ℕ → Escape
 name_escape_in es [] count = Unknown
 name_escape_in es (b ∷ s) count =
     elim (number_of 10 255 (b ∷ s)) [
-      | Value v ↦ Byte v count
-      | Missing ↦ elim (hex_of (b ∷ s)) [
-        | Value v ↦ Byte v count
-        | Missing ↦ elim (name_in es (b ∷ s)) [ Word i u code ↦ Byte code count | Nothing ↦ key_escape (b ∷ s) count ]
+      | Some v ↦ Byte v count
+      | None ↦ elim (hex_of (b ∷ s)) [
+        | Some v ↦ Byte v count
+        | None ↦ elim (name_in es (b ∷ s)) [ Word i u code ↦ Byte code count | Nothing ↦ key_escape (b ∷ s) count ]
       ]
     ]
 
@@ -37,10 +36,10 @@ pub record Counted : Type 0 where
   pub count : ℕ
 
 -- a text with a * at place n, and the number behind it: a count above 0 repeats the trimmed name before the *, else the whole is the name
-unfoldable pub repeated : List ℕ → ℕ → Number → Counted
-repeated t n (Value zero) = record { name = t; count = 1 }
-repeated t n (Value (suc k)) = record { name = trim (take n t); count = suc k }
-repeated t n Missing = record { name = t; count = 1 }
+unfoldable pub repeated : List ℕ → ℕ → Option ℕ → Counted
+repeated t n (Some zero) = record { name = t; count = 1 }
+repeated t n (Some (suc k)) = record { name = trim (take n t); count = suc k }
+repeated t n None = record { name = t; count = 1 }
 
 -- a text with a * at place n
 unfoldable pub starred : List ℕ → ℕ → Counted
@@ -48,7 +47,7 @@ starred t n = repeated t n (count_of (trim (drop (suc n) t)))
 
 -- a trimmed text as a name and its count: it is split at its last *
 unfoldable pub counted_name : List ℕ → Counted
-counted_name t = elim (last (equals 42) t) [ At n ↦ starred t n | Nowhere ↦ record { name = t; count = 1 } ]
+counted_name t = elim (last (equals 42) t) [ Some n ↦ starred t n | None ↦ record { name = t; count = 1 } ]
 
 abbrev pub counted_escape : Counted → Escape
 counted_escape c = name_escape c.name c.count

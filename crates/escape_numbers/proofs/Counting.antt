@@ -15,8 +15,8 @@ use Rattle.base_ascii.proofs.Ranges.{between_in}
 use Rattle.base_ascii.proofs.Searching.{end_whole}
 use Rattle.escape_numbers.specs.Numbers.{digit_of, number_after, number_of, unsigned, count_of}
 use Rattle.escape_numbers.specs.NumbersHelpers.{last_from, last_of, countable}
-use Rattle.escape_numbers.specs.declared.Number.TheVariants.{Missing}
 use Rattle.escape_numbers.proofs.Numbering.{digit_letter, digit_none}
+use Rattle.std.specs.Prelude.{None}
 
 -- ---- the last byte
 
@@ -47,17 +47,17 @@ no_digit b e = go (is_letter b) refl
     go true f = omega (arith, between_in 65 90 (upper b) f, digit_letter b refl f refl e refl)
     go false f = omega (arith, digit_none b f refl e refl)
 
-unended : (limit n b : ℕ) (s : List ℕ) → is_digit (last_from b s) ≡ false → number_after 10 limit n (b ∷ s) ≡ Missing
+unended : (limit n b : ℕ) (s : List ℕ) → is_digit (last_from b s) ≡ false → number_after 10 limit n (b ∷ s) ≡ None
 unfolding number_after last_from
 unended limit n b [] e = rw (number_after, le-ltb _ _ (no_digit b e))
 unended limit n b (c ∷ s) e = go (ltb (digit_of b) 10) (unended limit (n * 10 + digit_of b) c s e)
   where
-    go : (r : Bool) → number_after 10 limit (n * 10 + digit_of b) (c ∷ s) ≡ Missing
-        → elim r [ true ↦ number_after 10 limit (n * 10 + digit_of b) (c ∷ s) | false ↦ Missing ] ≡ Missing
+    go : (r : Bool) → number_after 10 limit (n * 10 + digit_of b) (c ∷ s) ≡ None
+        → elim r [ true ↦ number_after 10 limit (n * 10 + digit_of b) (c ∷ s) | false ↦ None ] ≡ None
     go true m = m
     go false m = refl
 
-no_number : (limit : ℕ) (s : List ℕ) → is_digit (last_of s) ≡ false → number_of 10 limit s ≡ Missing
+no_number : (limit : ℕ) (s : List ℕ) → is_digit (last_of s) ≡ false → number_of 10 limit s ≡ None
 unfolding number_of last_of
 no_number limit [] e = refl
 no_number limit (b ∷ s) e = unended limit 0 b s e
@@ -79,7 +79,7 @@ last_unsigned (b ∷ s) e = go (eqb b 43)
     go true = last_drop is_digit zero_no_digit 1 (b ∷ s) e
     go false = e
 
-no_count : (s : List ℕ) → is_digit (last_of s) ≡ false → count_of s ≡ Missing
+no_count : (s : List ℕ) → is_digit (last_of s) ≡ false → count_of s ≡ None
 unfolding count_of
 no_count s e = no_number (2 ^ 64 - 1) (unsigned s) (last_unsigned s e)
 
@@ -95,7 +95,7 @@ neither : (a b : Bool) → (a || b) ≡ false → (a ≡ false) × (b ≡ false)
 neither true b e = absurd (false≢true (sym e))
 neither false b e = (refl, e)
 
-pub uncounted : (t : List ℕ) → countable t ≡ false → (k : ℕ) → count_of (trim (drop k t)) ≡ Missing
+pub uncounted : (t : List ℕ) → countable t ≡ false → (k : ℕ) → count_of (trim (drop k t)) ≡ None
 unfolding countable
 uncounted t u k =
     let n = neither (is_digit (last_of t)) (is_space (last_of t)) u in

@@ -16,8 +16,7 @@ use mir.Val.{Fits}
 use Rattle.base_ascii.specs.Bytes.{is_digit, is_letter, upper}
 use Rattle.base_ascii.proofs.Searching.{tail}
 use Rattle.escape_numbers.specs.Numbers.{digit_of, number_after, number_of, hex_of, unsigned, count_of}
-use Rattle.escape_numbers.specs.declared.Number.{Number}
-use Rattle.escape_numbers.specs.declared.Number.TheVariants.{Value, Missing}
+use Rattle.std.specs.Prelude.{Option, Some, None}
 
 -- ---- a digit
 
@@ -38,19 +37,19 @@ module _ (b : ℕ) {d : Bool} where
 -- ---- digits one after the other
 
 -- a number past the limit stays past it
-over : (base limit : ℕ) → 0 < base → (s : List ℕ) (n : ℕ) → limit < n → number_after base limit n s ≡ Missing
+over : (base limit : ℕ) → 0 < base → (s : List ℕ) (n : ℕ) → limit < n → number_after base limit n s ≡ None
 unfolding number_after
 over base limit p [] n h = rw (number_after, lt-leb _ _ h)
 over base limit p (b ∷ s) n h =
     go (ltb (digit_of b) base) (over base limit p s (n * base + digit_of b) (omega (arith, le-mul_of_pos_right n p)))
   where
-    go : (r : Bool) → number_after base limit (n * base + digit_of b) s ≡ Missing
-        → elim r [ true ↦ number_after base limit (n * base + digit_of b) s | false ↦ Missing ] ≡ Missing
+    go : (r : Bool) → number_after base limit (n * base + digit_of b) s ≡ None
+        → elim r [ true ↦ number_after base limit (n * base + digit_of b) s | false ↦ None ] ≡ None
     go true e = e
     go false e = refl
 
 -- the i digits passed made n, and the rest gives the answer w
-pub record Made (base limit : ℕ) (s : List ℕ) (w : Number) (n i : ℕ) : Type 0 where
+pub record Made (base limit : ℕ) (s : List ℕ) (w : Option ℕ) (n i : ℕ) : Type 0 where
   pub within : i ≤ length s
   pub low : n ≤ limit
   pub gives : number_after base limit n (drop i s) ≡ w
@@ -60,7 +59,7 @@ unfolding number_of
 made_start base limit [] h = absurd (h refl)
 made_start base limit (b ∷ s) h = record { within = omega arith; low = omega arith; gives = refl }
 
-pub number_empty : (base limit : ℕ) (s : List ℕ) → length s ≡ 0 → Missing ≡ number_of base limit s
+pub number_empty : (base limit : ℕ) (s : List ℕ) → length s ≡ 0 → None ≡ number_of base limit s
 unfolding number_of
 number_empty base limit [] h = refl
 number_empty base limit (b ∷ s) h = absurd (omega arith)
@@ -68,19 +67,19 @@ number_empty base limit (b ∷ s) h = absurd (omega arith)
 pub made_fits : {base limit n d : ℕ} → n ≤ (limit - d) / base → d < base → (0 < base) × (base ≤ limit) → n * base + d ≤ limit
 made_fits {base} {limit} {n} {d} o l p = let f : n * base ≤ limit - d = (le-div_iff_mul-le p.0).0 o in omega (arith, p.1)
 
-module _ {base limit : ℕ} {s : List ℕ} {w : Number} {n i : ℕ} where
-  pub made_end : length s ≤ i → Made base limit s w n i → Value n ≡ w
+module _ {base limit : ℕ} {s : List ℕ} {w : (Option ℕ)} {n i : ℕ} where
+  pub made_end : length s ≤ i → Made base limit s w n i → Some n ≡ w
   unfolding number_after
   made_end h k =
-      let e : number_after base limit n (drop i s) ≡ Value n = rw (drop_of_length-le s h, number_after, le-leb _ _ k.low) in
+      let e : number_after base limit n (drop i s) ≡ Some n = rw (drop_of_length-le s h, number_after, le-leb _ _ k.low) in
       sym e ∙ k.gives
 
   module _ {d : ℕ} where
-    pub made_other : base ≤ d → d ≡ digit_of (get_or s i 0) → i < length s → Made base limit s w n i → Missing ≡ w
+    pub made_other : base ≤ d → d ≡ digit_of (get_or s i 0) → i < length s → Made base limit s w n i → None ≡ w
     unfolding number_after
     made_other l q h k =
         let f : base ≤ digit_of (get_or s i 0) = rw q at l in
-        let e : number_after base limit n (drop i s) ≡ Missing = rw (drop-cons s i 0 h, number_after, le-ltb _ _ f) in
+        let e : number_after base limit n (drop i s) ≡ None = rw (drop-cons s i 0 h, number_after, le-ltb _ _ f) in
         sym e ∙ k.gives
 
     next : d < base → d ≡ digit_of (get_or s i 0) → i < length s → Made base limit s w n i → number_after base limit (n * base + d) (drop (i + 1) s) ≡ w
@@ -91,7 +90,7 @@ module _ {base limit : ℕ} {s : List ℕ} {w : Number} {n i : ℕ} where
         rw (add-one, drop-cons s i 0 h, number_after, lt-ltb _ _ f, q) in
         sym e ∙ k.gives
 
-    pub made_over : (limit - d) / base < n → d < base → d ≡ digit_of (get_or s i 0) → i < length s → Made base limit s w n i → (0 < base) × (base ≤ limit) → Missing ≡ w
+    pub made_over : (limit - d) / base < n → d < base → d ≡ digit_of (get_or s i 0) → i < length s → Made base limit s w n i → (0 < base) × (base ≤ limit) → None ≡ w
     made_over o l q h k p =
         let f : limit - d < n * base = (div-lt_iff_lt-mul p.0).0 o in
         sym (over base limit p.0 (drop (i + 1) s) (n * base + d) (omega (arith, p.1))) ∙ next l q h k
@@ -101,56 +100,56 @@ module _ {base limit : ℕ} {s : List ℕ} {w : Number} {n i : ℕ} where
     made_turn o l q h k p = record { within = omega arith; low = made_fits o l p; gives = next l q h k }
 
 -- a number that was found is within the limit
-within_after : (base limit : ℕ) (s : List ℕ) (n v : ℕ) → number_after base limit n s ≡ Value v → v ≤ limit
+within_after : (base limit : ℕ) (s : List ℕ) (n v : ℕ) → number_after base limit n s ≡ Some v → v ≤ limit
 unfolding number_after
 within_after base limit [] n v e = go (leb n limit) refl e
   where
-    go : (r : Bool) → leb n limit ≡ r → elim r [ true ↦ Value n | false ↦ Missing ] ≡ Value v → v ≤ limit
+    go : (r : Bool) → leb n limit ≡ r → elim r [ true ↦ Some n | false ↦ None ] ≡ Some v → v ≤ limit
     go true f g = let z : n ≡ v = cc in omega (arith, leb-true n limit f)
     go false f g = let z : ◌≡◌ {A = ℕ} 0 1 = cc in absurd (omega arith)
 within_after base limit (b ∷ s) n v e = go (ltb (digit_of b) base) e (within_after base limit s (n * base + digit_of b) v)
   where
-    go : (r : Bool) → elim r [ true ↦ number_after base limit (n * base + digit_of b) s | false ↦ Missing ] ≡ Value v
-        → (number_after base limit (n * base + digit_of b) s ≡ Value v → v ≤ limit) → v ≤ limit
+    go : (r : Bool) → elim r [ true ↦ number_after base limit (n * base + digit_of b) s | false ↦ None ] ≡ Some v
+        → (number_after base limit (n * base + digit_of b) s ≡ Some v → v ≤ limit) → v ≤ limit
     go true g f = f g
     go false g f = let z : ◌≡◌ {A = ℕ} 0 1 = cc in absurd (omega arith)
 
-number_within : (base limit : ℕ) (s : List ℕ) {v : ℕ} → Value v ≡ number_of base limit s → v ≤ limit
+number_within : (base limit : ℕ) (s : List ℕ) {v : ℕ} → Some v ≡ number_of base limit s → v ≤ limit
 unfolding number_of
 number_within base limit [] e = let z : ◌≡◌ {A = ℕ} 0 1 = cc in absurd (omega arith)
 number_within base limit (b ∷ s) {v} e = within_after base limit (b ∷ s) 0 v (sym e)
 
 -- so the byte that a name of digits gives is one
-pub decimal_byte : (s : List ℕ) {v : ℕ} {r : Number} → r ≡ Value v → r ≡ number_of 10 255 s → Fits w8 v
+pub decimal_byte : (s : List ℕ) {v : ℕ} {r : (Option ℕ)} → r ≡ Some v → r ≡ number_of 10 255 s → Fits w8 v
 decimal_byte s f e = record { fits = omega (arith, number_within 10 255 s (sym f ∙ e)) }
 
 -- ---- a $ in front
 
-pub hex_empty : (s : List ℕ) → length s ≡ 0 → Missing ≡ hex_of s
+pub hex_empty : (s : List ℕ) → length s ≡ 0 → None ≡ hex_of s
 unfolding hex_of
 hex_empty [] h = refl
 hex_empty (b ∷ s) h = absurd (omega arith)
 
-pub hex_other : (s : List ℕ) → (get_or s 0 0 ≡ 36 → ⊥) → Missing ≡ hex_of s
+pub hex_other : (s : List ℕ) → (get_or s 0 0 ≡ 36 → ⊥) → None ≡ hex_of s
 unfolding hex_of
 hex_other [] h = refl
 hex_other (b ∷ s) h = rw (hex_of, ne_eqb b 36 h)
 
-pub hex_digits_lem : (s : List ℕ) {r : Number} → r ≡ number_of 16 255 (take (length s - 1) (drop 1 s)) → get_or s 0 0 ≡ 36 → (length s ≡ 0 → ⊥) → r ≡ hex_of s
+pub hex_digits_lem : (s : List ℕ) {r : (Option ℕ)} → r ≡ number_of 16 255 (take (length s - 1) (drop 1 s)) → get_or s 0 0 ≡ 36 → (length s ≡ 0 → ⊥) → r ≡ hex_of s
 unfolding hex_of
 hex_digits_lem [] e h l = absurd (l refl)
 hex_digits_lem (b ∷ s) e h l = rw (hex_of, eq-eqb b 36 h) (e ∙ ap (number_of 16 255) (tail (b ∷ s) 1))
 
-hex_within : (s : List ℕ) {v : ℕ} → Value v ≡ hex_of s → v ≤ 255
+hex_within : (s : List ℕ) {v : ℕ} → Some v ≡ hex_of s → v ≤ 255
 unfolding hex_of
 hex_within [] e = let z : ◌≡◌ {A = ℕ} 0 1 = cc in absurd (omega arith)
 hex_within (b ∷ s) {v} e = go (eqb b 36) e
   where
-    go : (r : Bool) → Value v ≡ elim r [ true ↦ number_of 16 255 s | false ↦ Missing ] → v ≤ 255
+    go : (r : Bool) → Some v ≡ elim r [ true ↦ number_of 16 255 s | false ↦ None ] → v ≤ 255
     go true f = number_within 16 255 s f
     go false f = let z : ◌≡◌ {A = ℕ} 0 1 = cc in absurd (omega arith)
 
-pub hex_byte_lem : (s : List ℕ) {v : ℕ} {r : Number} → r ≡ Value v → r ≡ hex_of s → Fits w8 v
+pub hex_byte_lem : (s : List ℕ) {v : ℕ} {r : (Option ℕ)} → r ≡ Some v → r ≡ hex_of s → Fits w8 v
 hex_byte_lem s f e = record { fits = omega (arith, hex_within s (sym f ∙ e)) }
 
 -- ---- a + in front
@@ -172,6 +171,6 @@ plus_left_out (b ∷ s) h l = rw (unsigned, eq-eqb b 43 h) (tail (b ∷ s) 1)
 
 -- ---- a count
 
-pub count_is : (s : List ℕ) {t : List ℕ} {r : Number} → r ≡ number_of 10 (2 ^ 64 - 1) t → t ≡ unsigned s → r ≡ count_of s
+pub count_is : (s : List ℕ) {t : List ℕ} {r : (Option ℕ)} → r ≡ number_of 10 (2 ^ 64 - 1) t → t ≡ unsigned s → r ≡ count_of s
 unfolding count_of
 count_is s e u = e ∙ ap (number_of 10 (2 ^ 64 - 1)) u

@@ -5,12 +5,6 @@ ghost use Rattle.std.specs.Prelude.{◌≡◌, ◌≤◌, ◌<◌};
 ghost use Rattle.escape_numbers.specs.Numbers.{digit_of, number_of, hex_of, count_of, unsigned};
 ghost use Rattle.escape_numbers.specs.NumbersHelpers.{countable};
 
-#[derive(Clone, Copy)]
-pub enum Number {
-    Value(u64),
-    Missing,
-}
-
 // What a byte counts as a digit: 0 to 9, and a letter from 10 on; 36 for the rest.
 fn digit_of(b: u8) -> u64
     ensures { result ≡ digit_of b }
@@ -25,38 +19,38 @@ fn digit_of(b: u8) -> u64
 }
 
 // The number that one or more digits make, if it is within the limit.
-pub fn number_in(s: &[u8], base: u64, limit: u64) -> Number
+pub fn number_in(s: &[u8], base: u64, limit: u64) -> Option<u64>
     requires { (0 < base) × (base ≤ limit) }
     ensures { result ≡ number_of base limit s.now }
 {
     if s.len() == 0 {
-        return Number::Missing;
+        return None;
     }
     let mut n: u64 = 0;
     let mut i: usize = 0;
     while i < s.len() {
         let d = digit_of(s[i]);
         if base <= d {
-            return Number::Missing;
+            return None;
         }
         if n > (limit - d) / base {
-            return Number::Missing;
+            return None;
         }
         n = n * base + d;
         i += 1;
     }
-    Number::Value(n)
+    Some(n)
 }
 
 // $ and hex digits, up to 255.
-pub fn hex_number(s: &[u8]) -> Number
+pub fn hex_number(s: &[u8]) -> Option<u64>
     ensures { result ≡ hex_of s.now }
 {
     if s.len() == 0 {
-        return Number::Missing;
+        return None;
     }
     if s[0] != b'$' {
-        return Number::Missing;
+        return None;
     }
     number_in(&s[1..], 16, 255)
 }
@@ -72,7 +66,7 @@ fn without_plus(s: &[u8]) -> &[u8]
 }
 
 // The count that a text is.
-pub fn count_of(s: &[u8]) -> Number
+pub fn count_of(s: &[u8]) -> Option<u64>
     ensures { result ≡ count_of s.now }
 {
     number_in(without_plus(s), 10, 0xFFFF_FFFF_FFFF_FFFF)

@@ -7,8 +7,6 @@ use native.Mathlib.Omega.{arith}
 use lib.ListN.{length, take}
 use lib.Seq.{length-take-le}
 use Rattle.base_ascii.specs.Search.{equals, last}
-use Rattle.base_ascii.specs.declared.search.Found.{Found}
-use Rattle.base_ascii.specs.declared.search.Found.TheVariants.{At}
 use Rattle.base_ascii.proofs.Searching.{last_within}
 use Rattle.word_search.specs.Find.{name_in}
 use Rattle.word_search.specs.declared.Match.{Match}
@@ -17,19 +15,19 @@ use Rattle.word_tables.specs.Escapes.{escape_names}
 use Rattle.escape_numbers.specs.Numbers.{number_of, hex_of}
 use Rattle.escape_bytes.specs.Keys.{key_escape}
 use Rattle.escape_bytes.specs.Escape.{name_escape}
-use Rattle.escape_numbers.specs.declared.Number.{Number}
-use Rattle.escape_numbers.specs.declared.Number.TheVariants.{Value, Missing}
 use Rattle.escape_bytes.specs.declared.Escape.{Escape}
 use Rattle.escape_bytes.specs.declared.Escape.TheVariants.{Byte, Unknown}
+use Rattle.std.specs.Prelude.{Option, Some}
+use Rattle.std.specs.Prelude.{None}
 
 -- ---- a name
 
 name_some : (name : List ℕ) (count : ℕ) → (length name ≡ 0 → ⊥) → name_escape name count
     ≡ elim (number_of 10 255 name) [
-      | Value v ↦ Byte v count
-      | Missing ↦ elim (hex_of name) [
-        | Value v ↦ Byte v count
-        | Missing ↦ elim (name_in escape_names name) [ Word i u code ↦ Byte code count | Nothing ↦ key_escape name count ]
+      | Some v ↦ Byte v count
+      | None ↦ elim (hex_of name) [
+        | Some v ↦ Byte v count
+        | None ↦ elim (name_in escape_names name) [ Word i u code ↦ Byte code count | Nothing ↦ key_escape name count ]
       ]
     ]
 unfolding name_escape
@@ -41,26 +39,26 @@ unfolding name_escape
 name_empty [] count h = refl
 name_empty (b ∷ s) count h = absurd (omega arith)
 
-module _ (name : List ℕ) (count : ℕ) {d : Number} where
-  pub name_decimal : {v : ℕ} → d ≡ Value v → d ≡ number_of 10 255 name → (length name ≡ 0 → ⊥) → Byte v count ≡ name_escape name count
+module _ (name : List ℕ) (count : ℕ) {d : (Option ℕ)} where
+  pub name_decimal : {v : ℕ} → d ≡ Some v → d ≡ number_of 10 255 name → (length name ≡ 0 → ⊥) → Byte v count ≡ name_escape name count
   name_decimal e p some = rw (name_some name count some, sym p ∙ e)
 
-  pub name_hex : {x : Number} {v : ℕ} → x ≡ Value v → x ≡ hex_of name → d ≡ Missing → d ≡ number_of 10 255 name → (length name ≡ 0 → ⊥) → Byte v count ≡ name_escape name count
+  pub name_hex : {x : (Option ℕ)} {v : ℕ} → x ≡ Some v → x ≡ hex_of name → d ≡ None → d ≡ number_of 10 255 name → (length name ≡ 0 → ⊥) → Byte v count ≡ name_escape name count
   name_hex e q m p some = rw (name_some name count some, sym p ∙ m, sym q ∙ e)
 
-  module _ {x : Number} {w : Match} where
-    pub name_listed : {i u code : ℕ} → w ≡ Word i u code → w ≡ name_in escape_names name → x ≡ Missing → x ≡ hex_of name → d ≡ Missing → d ≡ number_of 10 255 name
+  module _ {x : (Option ℕ)} {w : Match} where
+    pub name_listed : {i u code : ℕ} → w ≡ Word i u code → w ≡ name_in escape_names name → x ≡ None → x ≡ hex_of name → d ≡ None → d ≡ number_of 10 255 name
         → (length name ≡ 0 → ⊥) → Byte code count ≡ name_escape name count
     name_listed e f n q m p some = rw (name_some name count some, sym p ∙ m, sym q ∙ n, sym f ∙ e)
 
-    pub name_keyed : {k : Escape} → k ≡ key_escape name count → w ≡ Nothing → w ≡ name_in escape_names name → x ≡ Missing → x ≡ hex_of name → d ≡ Missing
+    pub name_keyed : {k : Escape} → k ≡ key_escape name count → w ≡ Nothing → w ≡ name_in escape_names name → x ≡ None → x ≡ hex_of name → d ≡ None
         → d ≡ number_of 10 255 name → (length name ≡ 0 → ⊥) → k ≡ name_escape name count
     name_keyed g e f n q m p some = g ∙ rw (name_some name count some, sym p ∙ m, sym q ∙ n, sym f ∙ e)
 
 -- ---- a *
 
 -- the place of a * is one of the text
-pub star_within : (t : List ℕ) {f : Found} {n : ℕ} → f ≡ At n → f ≡ last (equals 42) t → n < length t
+pub star_within : (t : List ℕ) {f : (Option ℕ)} {n : ℕ} → f ≡ Some n → f ≡ last (equals 42) t → n < length t
 star_within t e l = last_within (equals 42) t (sym l ∙ e)
 
 -- the part before it is as long as it must be

@@ -14,8 +14,6 @@ use borrow.Author.Tests.{eqb-true, lt-ltb, le-ltb, not-true}
 use Rattle.base_ascii.specs.Bytes.{between, is_space}
 use Rattle.base_ascii.specs.Search.{equals, front, past, last, past_end}
 use Rattle.base_ascii.specs.Trim.{trim}
-use Rattle.base_ascii.specs.declared.search.Found.{Found}
-use Rattle.base_ascii.specs.declared.search.Found.TheVariants.{At, Nowhere}
 use Rattle.base_ascii.proofs.Laws.{trim_space}
 use Rattle.base_ascii.proofs.Searching.{tail, front_more, front_none, front_le, front_take, end_take, end_le, last_within, Behind}
 use Rattle.escape_numbers.specs.Numbers.{count_of}
@@ -24,9 +22,8 @@ use Rattle.escape_bytes.specs.Escape.{Counted, name_escape, repeated, starred, c
 use Rattle.escapes.specs.TailHelpers.{tail_escape, TailOf, whole_tail, number_tail, starred_tail}
 use Rattle.escape_bytes.specs.declared.Escape.{Escape}
 use Rattle.escapes.specs.declared.Tail.{Tail}
-use Rattle.escape_numbers.specs.declared.Number.{Number}
-use Rattle.escape_numbers.specs.declared.Number.TheVariants.{Value, Missing}
 use Rattle.escape_numbers.proofs.Counting.{uncounted}
+use Rattle.std.specs.Prelude.{Option, Some, None}
 
 -- ---- an end of a text, without the bytes at its end that pass a test
 
@@ -89,50 +86,50 @@ drop_take (suc k) (suc n) (b ∷ s) = let e : n - k ≡ suc n - suc k = omega ar
 
 -- ---- the last byte that passes a test, from a place on
 
-last_drop : (p : ℕ → Bool) (k : ℕ) (s : List ℕ) {n : ℕ} → last p s ≡ At n → k ≤ n → last p (drop k s) ≡ At (n - k)
+last_drop : (p : ℕ → Bool) (k : ℕ) (s : List ℕ) {n : ℕ} → last p s ≡ Some n → k ≤ n → last p (drop k s) ≡ Some (n - k)
 unfolding last
-last_drop p zero s {n} e h = let z : n ≡ n - 0 = omega arith in e ∙ ap At z
+last_drop p zero s {n} e h = let z : n ≡ n - 0 = omega arith in e ∙ ap Some z
 last_drop p (suc k) [] {n} e h = let z : ◌≡◌ {A = ℕ} 0 1 = cc in absurd (omega arith)
 last_drop p (suc k) (b ∷ s) {n} e h = go (last p s) (p b) (λ m. last_drop p k s) e
   where
-    go : (f : Found) (r : Bool) → ((m : ℕ) → f ≡ At m → k ≤ m → last p (drop k s) ≡ At (m - k))
-        → elim f [ At m ↦ At (suc m) | Nowhere ↦ cond r (At 0) Nowhere ] ≡ At n → last p (drop k s) ≡ At (n - suc k)
-    go (At m) r w q = let z : suc m ≡ n = cc in let y : m - k ≡ n - suc k = omega arith in w m refl (omega arith) ∙ ap At y
-    go Nowhere true w q = let z : 0 ≡ n = cc in absurd (omega arith)
-    go Nowhere false w q = let z : ◌≡◌ {A = ℕ} 0 1 = cc in absurd (omega arith)
+    go : (f : Option ℕ) (r : Bool) → ((m : ℕ) → f ≡ Some m → k ≤ m → last p (drop k s) ≡ Some (m - k))
+        → elim f [ Some m ↦ Some (suc m) | None ↦ cond r (Some 0) None ] ≡ Some n → last p (drop k s) ≡ Some (n - suc k)
+    go (Some m) r w q = let z : suc m ≡ n = cc in let y : m - k ≡ n - suc k = omega arith in w m refl (omega arith) ∙ ap Some y
+    go None true w q = let z : 0 ≡ n = cc in absurd (omega arith)
+    go None false w q = let z : ◌≡◌ {A = ℕ} 0 1 = cc in absurd (omega arith)
 
-last_none : (p : ℕ → Bool) (k : ℕ) (s : List ℕ) → Behind (last p s) k → last p (drop k s) ≡ Nowhere
+last_none : (p : ℕ → Bool) (k : ℕ) (s : List ℕ) → Behind (last p s) k → last p (drop k s) ≡ None
 unfolding last
 last_none p zero s h = go (last p s) h
   where
-    go : (f : Found) → Behind f 0 → f ≡ Nowhere
-    go (At n) q = absurd (omega arith)
-    go Nowhere q = refl
+    go : (f : Option ℕ) → Behind f 0 → f ≡ None
+    go (Some n) q = absurd (omega arith)
+    go None q = refl
 last_none p (suc k) [] h = refl
 last_none p (suc k) (b ∷ s) h = last_none p k s (go (last p s) (p b) h)
   where
-    go : (f : Found) (r : Bool) → Behind (elim f [ At m ↦ At (suc m) | Nowhere ↦ cond r (At 0) Nowhere ]) (suc k) → Behind f k
-    go (At m) r q = omega arith
-    go Nowhere r q = tt
+    go : (f : Option ℕ) (r : Bool) → Behind (elim f [ Some m ↦ Some (suc m) | None ↦ cond r (Some 0) None ]) (suc k) → Behind f k
+    go (Some m) r q = omega arith
+    go None r q = tt
 
 -- ---- a text with white space in front, as a name and its count
 
 -- the whole and no count, or the part before a * and the number behind it
-split : List ℕ → List ℕ → Number → Counted
-split entire part (Value zero) = record { name = entire; count = 1 }
-split entire part (Value (suc k)) = record { name = part; count = suc k }
-split entire part Missing = record { name = entire; count = 1 }
+split : List ℕ → List ℕ → Option ℕ → Counted
+split entire part (Some zero) = record { name = entire; count = 1 }
+split entire part (Some (suc k)) = record { name = part; count = suc k }
+split entire part None = record { name = entire; count = 1 }
 
-is_split : (t : List ℕ) (n : ℕ) (c : Number) → repeated t n c ≡ split t (trim (take n t)) c
+is_split : (t : List ℕ) (n : ℕ) (c : Option ℕ) → repeated t n c ≡ split t (trim (take n t)) c
 unfolding repeated split
-is_split t n (Value zero) = refl
-is_split t n (Value (suc k)) = refl
-is_split t n Missing = refl
+is_split t n (Some zero) = refl
+is_split t n (Some (suc k)) = refl
+is_split t n None = refl
 
 -- where the last * stands is asked before the white space is taken away
-named : List ℕ → Found → Counted
-named s (At n) = split (past is_space s) (trim (take n s)) (count_of (trim (drop (suc n) s)))
-named s Nowhere = record { name = past is_space s; count = 1 }
+named : List ℕ → Option ℕ → Counted
+named s (Some n) = split (past is_space s) (trim (take n s)) (count_of (trim (drop (suc n) s)))
+named s None = record { name = past is_space s; count = 1 }
 
 star_solid : (b : ℕ) → is_space b ≡ true → eqb b 42 ≡ false
 unfolding between
@@ -147,13 +144,13 @@ unfolding counted_name named last front starred
 name_past [] = refl
 name_past (b ∷ s) = go (is_space b) refl (name_past s)
   where
-    step : is_space b ≡ true → (f : Found) → named s f ≡ named (b ∷ s) (elim f [ At m ↦ At (suc m) | Nowhere ↦ cond (eqb b 42) (At 0) Nowhere ])
-    step e (At n) = rw (front_more is_space b s e, trim_space b (take n s) e)
-    step e Nowhere = rw (star_solid b e, front_more is_space b s e)
+    step : is_space b ≡ true → (f : Option ℕ) → named s f ≡ named (b ∷ s) (elim f [ Some m ↦ Some (suc m) | None ↦ cond (eqb b 42) (Some 0) None ])
+    step e (Some n) = rw (front_more is_space b s e, trim_space b (take n s) e)
+    step e None = rw (star_solid b e, front_more is_space b s e)
 
-    whole : past is_space (b ∷ s) ≡ b ∷ s → (f : Found) → elim f [ At n ↦ starred (b ∷ s) n | Nowhere ↦ record { name = b ∷ s; count = 1 } ] ≡ named (b ∷ s) f
-    whole q (At n) = rw q (is_split (b ∷ s) n (count_of (trim (drop (suc n) (b ∷ s)))))
-    whole q Nowhere = rw q
+    whole : past is_space (b ∷ s) ≡ b ∷ s → (f : Option ℕ) → elim f [ Some n ↦ starred (b ∷ s) n | None ↦ record { name = b ∷ s; count = 1 } ] ≡ named (b ∷ s) f
+    whole q (Some n) = rw q (is_split (b ∷ s) n (count_of (trim (drop (suc n) (b ∷ s)))))
+    whole q None = rw q
 
     go : (x : Bool) → is_space b ≡ x → counted_name (past is_space s) ≡ named s (last (equals 42) s) → counted_name (past is_space (b ∷ s)) ≡ named (b ∷ s) (last (equals 42) (b ∷ s))
     go true e f = rw (front_more is_space b s e) (f ∙ step e (last (equals 42) s))
@@ -199,7 +196,7 @@ module _ (t : List ℕ) where
       let e : k + suc (n - k) ≡ suc n = omega arith in
       drop-drop (suc (n - k)) k solid ∙ ap (λ (i : ℕ). drop i solid) e
 
-  named_star : {n k : ℕ} {c : Number} → last (equals 42) solid ≡ At n → count_of (trim (drop (suc n) solid)) ≡ c → k ≤ n
+  named_star : {n k : ℕ} {c : (Option ℕ)} → last (equals 42) solid ≡ Some n → count_of (trim (drop (suc n) solid)) ≡ c → k ≤ n
       → named_at k ≡ split (past is_space (drop k solid)) (trim (drop k (take n solid))) c
   unfolding named
   named_star {n} {k} e f h =
@@ -221,9 +218,9 @@ module _ (t : List ℕ) where
       ∙ sym (take-take m n solid short)
       ∙ end_take is_space part
 
-  module _ {n : ℕ} (e : last (equals 42) solid ≡ At n) where
+  module _ {n : ℕ} (e : last (equals 42) solid ≡ Some n) where
     -- the * is in what is left, or it is not
-    named_by : {c : Number} → count_of (trim (drop (suc n) solid)) ≡ c → (k : ℕ)
+    named_by : {c : (Option ℕ)} → count_of (trim (drop (suc n) solid)) ≡ c → (k : ℕ)
         → named_at k ≡ elim (ltb k (suc n)) [ true ↦ split (past is_space (drop k solid)) (trim (drop k (take n solid))) c | false ↦ entire_at k ]
     named_by {c} f k = go (dec_le k n)
       where
@@ -232,7 +229,7 @@ module _ (t : List ℕ) where
         go (no h) = named_none k (rw e (omega arith)) ∙ rw (le-ltb k (suc n) (omega arith))
 
     -- a number that is no count
-    uncounted_tail : {c : Number} → count_of (trim (drop (suc n) solid)) ≡ c → ((entire part : List ℕ) → split entire part c ≡ record { name = entire; count = 1 })
+    uncounted_tail : {c : (Option ℕ)} → count_of (trim (drop (suc n) solid)) ≡ c → ((entire part : List ℕ) → split entire part c ≡ record { name = entire; count = 1 })
         → TailOf t (whole_tail (length solid))
     uncounted_tail {c} f g = whole_tail_lem refl (λ k. named_by f k ∙ go k (ltb k (suc n)))
       where
@@ -240,11 +237,11 @@ module _ (t : List ℕ) where
         go k true = g (past is_space (drop k solid)) (trim (drop k (take n solid)))
         go k false = refl
 
-    counted_tail : (c : Number) → count_of (trim (drop (suc n) solid)) ≡ c → TailOf t (number_tail solid n c)
+    counted_tail : (c : Option ℕ) → count_of (trim (drop (suc n) solid)) ≡ c → TailOf t (number_tail solid n c)
     unfolding number_tail tail_escape split
-    counted_tail (Value zero) f = uncounted_tail f (λ entire part. refl)
-    counted_tail Missing f = uncounted_tail f (λ entire part. refl)
-    counted_tail (Value (suc c)) f =
+    counted_tail (Some zero) f = uncounted_tail f (λ entire part. refl)
+    counted_tail None f = uncounted_tail f (λ entire part. refl)
+    counted_tail (Some (suc c)) f =
         record {
           end_within = within refl;
           name_within_lem = omega (arith, end_le is_space (take n solid), length-take n solid, within refl);
@@ -275,41 +272,41 @@ module _ (t : List ℕ) {end : ℕ} where
       none : countable (past_end is_space t) ≡ false
       none = ap countable (sym (is_solid t q)) ∙ sym p ∙ not-true b n
 
-      go : (k : ℕ) (f : Found) → named (drop k (past_end is_space t)) f ≡ record { name = past is_space (drop k (past_end is_space t)); count = 1 }
-      go k (At m) = rw (drop-drop (suc m) k (past_end is_space t), uncounted (past_end is_space t) none (k + suc m))
-      go k Nowhere = refl
+      go : (k : ℕ) (f : Option ℕ) → named (drop k (past_end is_space t)) f ≡ record { name = past is_space (drop k (past_end is_space t)); count = 1 }
+      go k (Some m) = rw (drop-drop (suc m) k (past_end is_space t), uncounted (past_end is_space t) none (k + suc m))
+      go k None = refl
 
-  module _ {w : Tail} {f : Found} where
-    pub tail_unstarred : w ≡ whole_tail end → f ≡ Nowhere → f ≡ last (equals 42) (take end t) → end ≡ length (past_end is_space t) → TailOf t w
+  module _ {w : Tail} {f : (Option ℕ)} where
+    pub tail_unstarred : w ≡ whole_tail end → f ≡ None → f ≡ last (equals 42) (take end t) → end ≡ length (past_end is_space t) → TailOf t w
     tail_unstarred g e l q =
-        let none : last (equals 42) (past_end is_space t) ≡ Nowhere = ap (last (equals 42)) (sym (is_solid t q)) ∙ sym l ∙ e in
+        let none : last (equals 42) (past_end is_space t) ≡ None = ap (last (equals 42)) (sym (is_solid t q)) ∙ sym l ∙ e in
         rw g (whole_tail_lem t q (λ k. named_none t k (rw none tt)))
 
-    pub tail_starred : {n : ℕ} → w ≡ starred_tail (take end t) n → f ≡ At n → f ≡ last (equals 42) (take end t) → end ≡ length (past_end is_space t) → TailOf t w
+    pub tail_starred : {n : ℕ} → w ≡ starred_tail (take end t) n → f ≡ Some n → f ≡ last (equals 42) (take end t) → end ≡ length (past_end is_space t) → TailOf t w
     unfolding starred_tail
     tail_starred {n} g e l q =
-        let star : last (equals 42) (past_end is_space t) ≡ At n = ap (last (equals 42)) (sym (is_solid t q)) ∙ sym l ∙ e in
+        let star : last (equals 42) (past_end is_space t) ≡ Some n = ap (last (equals 42)) (sym (is_solid t q)) ∙ sym l ∙ e in
         rw (g, is_solid t q) (counted_tail t star (count_of (trim (drop (suc n) (past_end is_space t)))) refl)
 
-module _ (t : List ℕ) (n : ℕ) {c : Number} {a : List ℕ} where
+module _ (t : List ℕ) (n : ℕ) {c : (Option ℕ)} {a : List ℕ} where
   number_behind : c ≡ count_of a → a ≡ trim (take (length t - (n + 1)) (drop (n + 1) t)) → c ≡ count_of (trim (drop (suc n) t))
   number_behind k b = k ∙ ap count_of (b ∙ ap trim (tail t (n + 1) ∙ rw add-one))
 
-  pub starred_counted : {m i : ℕ} → i ≡ length (past_end is_space (take n t)) → (m ≡ 0 → ⊥) → c ≡ Value m → c ≡ count_of a → a ≡ trim (take (length t - (n + 1)) (drop (n + 1) t))
+  pub starred_counted : {m i : ℕ} → i ≡ length (past_end is_space (take n t)) → (m ≡ 0 → ⊥) → c ≡ Some m → c ≡ count_of a → a ≡ trim (take (length t - (n + 1)) (drop (n + 1) t))
       → ◌≡◌ {A = Tail} (record { end = length t; star = n + 1; name = i; count = m }) (starred_tail t n)
   unfolding starred_tail number_tail
   starred_counted {m} {i} q z e k b = go m z ∙ ap (number_tail t n) (sym e ∙ number_behind k b)
     where
-      go : (m : ℕ) → (m ≡ 0 → ⊥) → ◌≡◌ {A = Tail} (record { end = length t; star = n + 1; name = i; count = m }) (number_tail t n (Value m))
+      go : (m : ℕ) → (m ≡ 0 → ⊥) → ◌≡◌ {A = Tail} (record { end = length t; star = n + 1; name = i; count = m }) (number_tail t n (Some m))
       go zero z = absurd (z refl)
       go (suc m) z = rw (q, add-one)
 
   module _ {w : Tail} where
-    pub starred_zero : {m : ℕ} → w ≡ whole_tail (length t) → m ≡ 0 → c ≡ Value m → c ≡ count_of a → a ≡ trim (take (length t - (n + 1)) (drop (n + 1) t)) → w ≡ starred_tail t n
+    pub starred_zero : {m : ℕ} → w ≡ whole_tail (length t) → m ≡ 0 → c ≡ Some m → c ≡ count_of a → a ≡ trim (take (length t - (n + 1)) (drop (n + 1) t)) → w ≡ starred_tail t n
     unfolding starred_tail number_tail
-    starred_zero g z e k b = g ∙ ap (number_tail t n) (sym (e ∙ ap Value z) ∙ number_behind k b)
+    starred_zero g z e k b = g ∙ ap (number_tail t n) (sym (e ∙ ap Some z) ∙ number_behind k b)
 
-    pub starred_missing : w ≡ whole_tail (length t) → c ≡ Missing → c ≡ count_of a → a ≡ trim (take (length t - (n + 1)) (drop (n + 1) t)) → w ≡ starred_tail t n
+    pub starred_missing : w ≡ whole_tail (length t) → c ≡ None → c ≡ count_of a → a ≡ trim (take (length t - (n + 1)) (drop (n + 1) t)) → w ≡ starred_tail t n
     unfolding starred_tail number_tail
     starred_missing g e k b = g ∙ ap (number_tail t n) (sym e ∙ number_behind k b)
 

@@ -9,8 +9,7 @@ use Rattle.escape_bytes.specs.Escape.{escape_of, name_escape}
 use Rattle.escape_numbers.specs.Numbers.{count_of}
 use Rattle.escape_bytes.specs.declared.Escape.{Escape}
 use Rattle.escapes.specs.declared.Tail.{Tail}
-use Rattle.escape_numbers.specs.declared.Number.{Number}
-use Rattle.escape_numbers.specs.declared.Number.TheVariants.{Value, Missing}
+use Rattle.std.specs.Prelude.{Option, Some, None}
 
 -- what a tail makes of a text from place k on: the name before the *, so often as its count says, where the * is in what is left; else
 -- the whole is the name
@@ -32,10 +31,10 @@ abbrev pub whole_tail : ℕ → Tail
 whole_tail n = record { end = n; star = 0; name = 0; count = 0 }
 
 -- a text that ends in no white space, with a * at place n, and the number behind it
-unfoldable pub number_tail : List ℕ → ℕ → Number → Tail
-number_tail t n (Value zero) = whole_tail (length t)
-number_tail t n (Value (suc k)) = record { end = length t; star = suc n; name = length (past_end is_space (take n t)); count = suc k }
-number_tail t n Missing = whole_tail (length t)
+unfoldable pub number_tail : List ℕ → ℕ → Option ℕ → Tail
+number_tail t n (Some zero) = whole_tail (length t)
+number_tail t n (Some (suc k)) = record { end = length t; star = suc n; name = length (past_end is_space (take n t)); count = suc k }
+number_tail t n None = whole_tail (length t)
 
 unfoldable pub starred_tail : List ℕ → ℕ → Tail
 unfolding number_tail

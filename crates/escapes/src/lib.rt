@@ -9,9 +9,8 @@ ghost use Rattle.escape_bytes.specs.Escape.{escape_of, name_escape};
 ghost use Rattle.escapes.specs.TailHelpers.{TailOf, whole_tail, starred_tail};
 
 use base_ascii::search;
-use base_ascii::search::{Found, Kind};
+use base_ascii::search::Kind;
 use escape_bytes::Escape;
-use escape_numbers::Number;
 use word_search::Match;
 use word_tables::spellings;
 
@@ -55,8 +54,8 @@ pub fn tail_of(inside: &[u8]) -> Tail
         return whole(end);
     }
     match search::last(text, Kind::Is(b'*')) {
-        Found::At(star) => starred_tail(text, star),
-        Found::Nowhere => whole(end),
+        Some(star) => starred_tail(text, star),
+        None => whole(end),
     }
 }
 
@@ -79,7 +78,7 @@ fn starred_tail(text: &[u8], star: usize) -> Tail
 {
     let from = star + 1;
     match escape_numbers::count_of(base_ascii::trim(&text[from..])) {
-        Number::Value(count) => {
+        Some(count) => {
             if count == 0 {
                 return whole(text.len());
             }
@@ -90,7 +89,7 @@ fn starred_tail(text: &[u8], star: usize) -> Tail
                 count,
             }
         }
-        Number::Missing => whole(text.len()),
+        None => whole(text.len()),
     }
 }
 
@@ -127,16 +126,16 @@ fn resolve_name(name: &[u8], count: u64, bytes: &[u8], index: &[u16]) -> Escape
         return Escape::Unknown;
     }
     match escape_numbers::number_in(name, 10, 255) {
-        Number::Value(v) => Escape::Byte {
+        Some(v) => Escape::Byte {
             byte: v as u8,
             count,
         },
-        Number::Missing => match escape_numbers::hex_number(name) {
-            Number::Value(v) => Escape::Byte {
+        None => match escape_numbers::hex_number(name) {
+            Some(v) => Escape::Byte {
                 byte: v as u8,
                 count,
             },
-            Number::Missing => match word_match::match_escape(name, bytes, index) {
+            None => match word_match::match_escape(name, bytes, index) {
                 Match::Word {
                     index: _,
                     used: _,

@@ -14,8 +14,6 @@ use Rattle.word_dialects.specs.declared.Dialect.TheVariants.{Auto, BasicV2, Tsb,
 use Rattle.text_domain.specs.Domain.{checked_text, text_check_answer}
 use Rattle.text_lines.specs.SplitHelpers.{line_from}
 use Rattle.text_lines.specs.TextLines.{text_lines}
-use Rattle.text_domain.specs.declared.TextCheck.{TextCheck}
-use Rattle.text_domain.specs.declared.TextCheck.TheVariants.{Fine, Refused}
 use Rattle.text_lines.specs.declared.LineRule.{LineRule}
 use Rattle.text_lines.specs.declared.LineRule.TheVariants.{AsGiven, AfterCr}
 use Rattle.text_lines.specs.declared.TextLine.{TextLine}
@@ -25,6 +23,7 @@ use Rattle.guess_evidence.specs.Evidence.{line_evidence}
 use Rattle.guess_variables.specs.Variables.{line_names}
 use Rattle.guess.specs.Guess.{any_evidence, evidence, all_names, none_demoted, names, guessed_dialect, resolved, word_sets}
 use Rattle.guess_evidence.proofs.Steps.{evidence_blank}
+use Rattle.std.specs.Prelude.{Result, Ok, Err}
 
 -- ---- evidence
 
@@ -109,12 +108,12 @@ module _ {d : Dialect} (t : List ℕ) where
   unfolding guessed_dialect
   as_basic35 e = rw e
 
-module _ (d : Dialect) (t : List ℕ) {c : TextCheck} where
-  pub resolved_fine : {r : Dialect} → r ≡ guessed_dialect d t → c ≡ Fine → text_check_answer c ≡ checked_text t → done r ≡ resolved d t
+module _ (d : Dialect) (t : List ℕ) {c : (Result (Unit {0}) Refusal)} where
+  pub resolved_fine : {r : Dialect} → r ≡ guessed_dialect d t → c ≡ (Ok tt) → text_check_answer c ≡ checked_text t → done r ≡ resolved d t
   unfolding resolved
   resolved_fine q e p = rw (← p, e) (ap done q)
 
-  pub resolved_refused : {x : Refusal} → c ≡ Refused x → text_check_answer c ≡ checked_text t → refused (numbered x) ≡ resolved d t
+  pub resolved_refused : {x : Refusal} → c ≡ Err x → text_check_answer c ≡ checked_text t → refused (numbered x) ≡ resolved d t
   unfolding resolved
   resolved_refused e p = rw (← p, e)
 

@@ -12,8 +12,8 @@ use Rattle.text_lines.specs.declared.LineRule.{LineRule}
 use Rattle.text_lines.specs.declared.LineRule.TheVariants.{AsGiven, AfterCr}
 use Rattle.guess_evidence.specs.Evidence.{line_evidence}
 use Rattle.guess_variables.specs.Variables.{line_names}
-use Rattle.guess.specs.declared.resolve.Resolved.{Resolved}
-use Rattle.guess.specs.declared.resolve.Resolved.TheVariants.{Is, Refused}
+use Rattle.std.specs.Prelude.{Result, Ok, Err}
+use Rattle.base_refusals.specs.declared.Refusal.{Refusal}
 
 -- ---- over the lines of a text
 
@@ -54,9 +54,9 @@ unfoldable pub resolved : Dialect → List ℕ → Answer Dialect
 unfolding checked_text guessed_dialect
 resolved d t = and_then (checked_text t) (λ _. done (guessed_dialect d t))
 
-abbrev pub resolved_answer : Resolved → Answer Dialect
-resolved_answer (Is d) = done d
-resolved_answer (Refused r) = refused (numbered r)
+abbrev pub resolved_answer : Result Dialect Refusal → Answer Dialect
+resolved_answer (Ok d) = done d
+resolved_answer (Err r) = refused (numbered r)
 
 -- ---- the words that are live, and those that are demoted: the text after CR handling (document 01: "Tsb makes every TSB word live,
 -- BasicV2 none. Auto makes none live unless tsb_statement_evidence holds; then words found by tsb_words_used_as_variables are demoted

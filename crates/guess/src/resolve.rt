@@ -5,17 +5,10 @@ ghost use Rattle.text_lines.specs.TextLines.{text_lines};
 ghost use Rattle.guess.specs.Guess.{evidence as evidence_of, all_names, guessed_dialect, resolved, resolved_answer, word_sets};
 
 use base_refusals::Refusal;
-use text_domain::TextCheck;
 use text_lines::LineRule;
 use word_dialects::Dialect;
 use word_match::sets::Sets;
 use word_tables::spellings;
-
-#[derive(Clone, Copy)]
-pub enum Resolved {
-    Is(Dialect),
-    Refused(Refusal),
-}
 
 // Whether a line of the text proves that it is TSB.
 pub fn text_evidence(text: &[u8], rule: LineRule, bytes: &[u8], index: &[u16]) -> bool
@@ -74,12 +67,12 @@ fn guessed(text: &[u8], dialect: Dialect) -> Dialect
 }
 
 // The dialect by which a text is taken.
-pub fn resolved_dialect(text: &[u8], dialect: Dialect) -> Resolved
+pub fn resolved_dialect(text: &[u8], dialect: Dialect) -> Result<Dialect, Refusal>
     ensures { resolved_answer result ≡ resolved dialect text.now }
 {
     match text_domain::check_text(text) {
-        TextCheck::Fine => Resolved::Is(guessed(text, dialect)),
-        TextCheck::Refused(refusal) => Resolved::Refused(refusal),
+        Ok(()) => Ok(guessed(text, dialect)),
+        Err(refusal) => Err(refusal),
     }
 }
 

@@ -16,8 +16,6 @@ use Rattle.base_steps.specs.Again.{again}
 use Rattle.base_steps.proofs.Nearer.{Nearer, again_on}
 use Rattle.base_ascii.specs.Bytes.{between, upper, is_digit, is_letter}
 use Rattle.base_ascii.specs.Search.{is_white, is_blank, front, past}
-use Rattle.base_ascii.specs.declared.search.Found.{Found}
-use Rattle.base_ascii.specs.declared.search.Found.TheVariants.{At, Nowhere}
 use Rattle.base_ascii.proofs.Searching.{tail, front_le, front_more}
 use Rattle.word_search.specs.Compare.{begins}
 use Rattle.word_search.specs.Find.{word_in}
@@ -39,6 +37,7 @@ use Rattle.guess_evidence.specs.declared.DecidingWord.TheVariants.{Decides, None
 use Rattle.guess_uses.proofs.Behind.{rest, rest_long}
 use Rattle.guess_places.proofs.Places.{Same, stretch}
 use Rattle.guess_places.proofs.Words.{begins_long, word_bounds, no_letter, not_rem, not_data, letter_high, letter_not_white}
+use Rattle.std.specs.Prelude.{Option, Some, None}
 
 -- ---- what a word proves
 
@@ -181,22 +180,22 @@ abbrev Standing : Type 0
 Standing = ℕ × Place × List ℕ
 
 -- what is answered behind a step
-abbrev behind_step : (Standing → Found) → ℕ → List ℕ → EvidenceStep → Found
-behind_step more i t Proved = At i
-behind_step more i t Remark = Nowhere
+abbrev behind_step : (Standing → Option ℕ) → ℕ → List ℕ → EvidenceStep → Option ℕ
+behind_step more i t Proved = Some i
+behind_step more i t Remark = None
 behind_step more i t (On used next) = more (i + used, next, drop used t)
 
-on_some : (more : Standing → Found) (i : ℕ) (place : Place) (t : List ℕ) → 0 < length t → deciding_on more (i, place, t) ≡ behind_step more i t (evidence_step place t)
+on_some : (more : Standing → Option ℕ) (i : ℕ) (place : Place) (t : List ℕ) → 0 < length t → deciding_on more (i, place, t) ≡ behind_step more i t (evidence_step place t)
 unfolding deciding_on
 on_some more i place [] h = absurd (omega arith)
 on_some more i place (b ∷ s) h = go (evidence_step place (b ∷ s))
   where
-    go : (x : EvidenceStep) → elim x [ Proved ↦ At i | Remark ↦ Nowhere | On used next ↦ more (i + used, next, drop used (b ∷ s)) ] ≡ behind_step more i (b ∷ s) x
+    go : (x : EvidenceStep) → elim x [ Proved ↦ Some i | Remark ↦ None | On used next ↦ more (i + used, next, drop used (b ∷ s)) ] ≡ behind_step more i (b ∷ s) x
     go Proved = refl
     go Remark = refl
     go (On used next) = refl
 
-near : Nearer {S = Standing} {R = Found} (λ x. length x.2) deciding_on
+near : Nearer {S = Standing} {R = (Option ℕ)} (λ x. length x.2) deciding_on
 unfolding deciding_on
 near x f g h = go x.0 x.1 x.2 h
   where
@@ -209,14 +208,14 @@ near x f g h = go x.0 x.1 x.2 h
         same Remark q = refl
         same (On used next) q = k (i + used, next, drop used (b ∷ s)) (omega (arith, q.0, length-drop used (b ∷ s)))
 
-abbrev from : Standing → Found
+abbrev from : Standing → Option ℕ
 from y = deciding_from y.0 y.1 y.2
 
 once : (i : ℕ) (place : Place) (t : List ℕ) → deciding_from i place t ≡ deciding_on from (i, place, t)
 unfolding deciding_from
-once i place t = again_on near Nowhere (λ y. suc (length y.2)) (λ y. omega arith) (i, place, t)
+once i place t = again_on near None (λ y. suc (length y.2)) (λ y. omega arith) (i, place, t)
 
-none_left : (i : ℕ) (place : Place) → deciding_from i place [] ≡ Nowhere
+none_left : (i : ℕ) (place : Place) → deciding_from i place [] ≡ None
 unfolding deciding_on
 none_left i place = once i place []
 
@@ -225,7 +224,7 @@ stepped : (i : ℕ) (place : Place) (t : List ℕ) {s x : EvidenceStep} → s �
 stepped i place t e q h = once i place t ∙ on_some from i place t h ∙ ap (behind_step from i t) (sym q ∙ e)
 
 -- what is left of the line answers what the line does, w
-pub record Scanned (line : List ℕ) (w : Found) (place : Place) (i : ℕ) : Type 0 where
+pub record Scanned (line : List ℕ) (w : Option ℕ) (place : Place) (i : ℕ) : Type 0 where
   pub within : i ≤ length line
   pub gives : deciding_from i place (drop i line) ≡ w
 
@@ -246,20 +245,20 @@ pub scanned_start : (l : List ℕ) {i : ℕ} → i ≡ number_length l → Scann
 unfolding deciding_place
 scanned_start l {i} e = record { within = omega (arith, number_le l); gives = ap (λ (n : ℕ). deciding_from n Start (drop n l)) e }
 
-pub scanned_end : {line : List ℕ} {w : Found} {place : Place} {i : ℕ} → length line ≤ i → Scanned line w place i → Nowhere ≡ w
+pub scanned_end : {line : List ℕ} {w : (Option ℕ)} {place : Place} {i : ℕ} → length line ≤ i → Scanned line w place i → None ≡ w
 scanned_end {line} {w} {place} {i} h k = sym (none_left i place) ∙ (rw (drop_of_length-le line h) at k.gives)
 
-pub empty_nowhere : (line : List ℕ) → length line ≡ 0 → Nowhere ≡ deciding_place line
+pub empty_nowhere : (line : List ℕ) → length line ≡ 0 → None ≡ deciding_place line
 empty_nowhere line h = scanned_end {i = number_length line} (omega arith) (scanned_start line refl)
 
 module _ (line : List ℕ) (place : Place) (i : ℕ) {s : EvidenceStep} where
   there : {x : EvidenceStep} → s ≡ x → s ≡ evidence_step place (rest line i) → i < length line → deciding_from i place (drop i line) ≡ behind_step from i (drop i line) x
   there e q h = stepped i place (drop i line) e (q ∙ ap (evidence_step place) (tail line i)) (omega (arith, length-drop i line))
 
-  pub scanned_proved : {w : Found} → s ≡ Proved → s ≡ evidence_step place (rest line i) → i < length line → Scanned line w place i → At i ≡ w
+  pub scanned_proved : {w : (Option ℕ)} → s ≡ Proved → s ≡ evidence_step place (rest line i) → i < length line → Scanned line w place i → Some i ≡ w
   scanned_proved e q h k = sym (there e q h) ∙ k.gives
 
-  pub scanned_remark : {w : Found} → s ≡ Remark → s ≡ evidence_step place (rest line i) → i < length line → Scanned line w place i → Nowhere ≡ w
+  pub scanned_remark : {w : (Option ℕ)} → s ≡ Remark → s ≡ evidence_step place (rest line i) → i < length line → Scanned line w place i → None ≡ w
   scanned_remark e q h k = sym (there e q h) ∙ k.gives
 
   module _ {used : ℕ} {next : Place} (e : s ≡ On used next) (q : s ≡ evidence_step place (rest line i)) (h : i < length line) where
@@ -272,7 +271,7 @@ module _ (line : List ℕ) (place : Place) (i : ℕ) {s : EvidenceStep} where
     pub on_fits : Fits w64 (length line) → Fits w64 (i + used)
     on_fits f = record { fits = omega (arith, f.fits, far.1) }
 
-    scanned_turn : {w : Found} → Scanned line w place i → Scanned line w next (i + used)
+    scanned_turn : {w : (Option ℕ)} → Scanned line w place i → Scanned line w next (i + used)
     scanned_turn k =
         record { within = far.1; gives = ap (deciding_from (i + used) next) (sym (drop-drop used i line)) ∙ sym (there e q h) ∙ k.gives }
 
@@ -287,7 +286,7 @@ module _ (place : Place) (b : ℕ) where
   pub gap : {r : Bool} → r ≡ is_plain place → b ≡ 0x20 → r ≡ (eqb b 0x20 && is_plain place)
   gap p e = p ∙ simp (eq-eqb _ _ e)
 
-pub gap_turn : (line : List ℕ) (place : Place) (i : ℕ) {w : Found} {r : Bool} → r ≡ true → r ≡ (eqb (get_or line i 0) 0x20 && is_plain place) → i < length line
+pub gap_turn : (line : List ℕ) (place : Place) (i : ℕ) {w : (Option ℕ)} {r : Bool} → r ≡ true → r ≡ (eqb (get_or line i 0) 0x20 && is_plain place) → i < length line
     → Scanned line w place i → Scanned line w place (i + 1)
 unfolding evidence_step
 gap_turn line place i {w} {r} e g h k = go (eqb (get_or line i 0) 0x20) refl (is_plain place) refl (sym g ∙ e)
@@ -302,7 +301,7 @@ gap_turn line place i {w} {r} e g h k = go (eqb (get_or line i 0) 0x20) refl (is
 
 -- ---- a step, and the bytes of a string or of DATA behind it
 
-same_turn : (line : List ℕ) (place : Place) (j : ℕ) {w : Found} → j < length line → Same place (get_or line j 0) → Scanned line w place j → Scanned line w place (j + 1)
+same_turn : (line : List ℕ) (place : Place) (j : ℕ) {w : (Option ℕ)} → j < length line → Same place (get_or line j 0) → Scanned line w place j → Scanned line w place (j + 1)
 unfolding evidence_step
 same_turn line place j h s k =
     let q : On 1 place ≡ evidence_step place (rest line j) = sym (left _ _ s.apart ∙ ap (On 1) (ap (aside place) (first_there line j) ∙ s.same)) in
@@ -315,23 +314,23 @@ module _ (line : List ℕ) (place : Place) (i : ℕ) {s : EvidenceStep} {used : 
   pub behind_within : i + used ≤ length line
   behind_within = (far line place i e q h).1
 
-  pub scanned_stretch : {w : Found} {n : ℕ} → n ≡ front (stays next) (rest line (i + used)) → Scanned line w place i → Scanned line w next (i + used + n)
+  pub scanned_stretch : {w : (Option ℕ)} {n : ℕ} → n ≡ front (stays next) (rest line (i + used)) → Scanned line w place i → Scanned line w next (i + used + n)
   scanned_stretch {w} p k = stretch line next i used p behind_within (Scanned line w next) (λ j g o. same_turn line next j g o) (scanned_turn line place i e q h k)
 
 -- ---- a word decides exactly where there is evidence, and stands within the line
 
-abbrev is_at : Found → Bool
-is_at (At i) = true
-is_at Nowhere = false
+abbrev is_at : Option ℕ → Bool
+is_at (Some i) = true
+is_at None = false
 
-same_walk : (k i : ℕ) (place : Place) (t : List ℕ) → is_at (again Nowhere deciding_on k (i, place, t)) ≡ again false evidence_on k (place, t)
+same_walk : (k i : ℕ) (place : Place) (t : List ℕ) → is_at (again None deciding_on k (i, place, t)) ≡ again false evidence_on k (place, t)
 unfolding again deciding_on evidence_on
 same_walk zero i place t = refl
 same_walk (suc k) i place [] = refl
 same_walk (suc k) i place (b ∷ s) = go (evidence_step place (b ∷ s)) (λ j next u. same_walk k j next u)
   where
-    go : (x : EvidenceStep) → ((j : ℕ) (next : Place) (u : List ℕ) → is_at (again Nowhere deciding_on k (j, next, u)) ≡ again false evidence_on k (next, u))
-        → is_at (elim x [ Proved ↦ At i | Remark ↦ Nowhere | On used next ↦ again Nowhere deciding_on k (i + used, next, drop used (b ∷ s)) ])
+    go : (x : EvidenceStep) → ((j : ℕ) (next : Place) (u : List ℕ) → is_at (again None deciding_on k (j, next, u)) ≡ again false evidence_on k (next, u))
+        → is_at (elim x [ Proved ↦ Some i | Remark ↦ None | On used next ↦ again None deciding_on k (i + used, next, drop used (b ∷ s)) ])
         ≡ elim x [ Proved ↦ true | Remark ↦ false | On used next ↦ again false evidence_on k (next, drop used (b ∷ s)) ]
     go Proved f = refl
     go Remark f = refl
@@ -345,40 +344,40 @@ pub word_by_evidence : (l : List ℕ) → decides (deciding_word l) ≡ line_evi
 unfolding deciding_word decides
 word_by_evidence l = go (deciding_place l) ∙ place_by_evidence l
   where
-    go : (f : Found) → decides (elim f [ At i ↦ Decides i (list_place (drop i l)) | Nowhere ↦ NoneDecides ]) ≡ is_at f
-    go (At i) = refl
-    go Nowhere = refl
+    go : (f : Option ℕ) → decides (elim f [ Some i ↦ Decides i (list_place (drop i l)) | None ↦ NoneDecides ]) ≡ is_at f
+    go (Some i) = refl
+    go None = refl
 
-walk_within : (k i : ℕ) (place : Place) (t : List ℕ) {j : ℕ} → again Nowhere deciding_on k (i, place, t) ≡ At j → j ≤ i + length t
+walk_within : (k i : ℕ) (place : Place) (t : List ℕ) {j : ℕ} → again None deciding_on k (i, place, t) ≡ Some j → j ≤ i + length t
 unfolding again deciding_on
 walk_within zero i place t {j} e = let z : ◌≡◌ {A = ℕ} 0 1 = cc in absurd (omega arith)
 walk_within (suc k) i place [] {j} e = let z : ◌≡◌ {A = ℕ} 0 1 = cc in absurd (omega arith)
 walk_within (suc k) i place (b ∷ s) {j} e = go (evidence_step place (b ∷ s)) (far_step place (b ∷ s) (omega arith)) (λ n next u q. walk_within k n next u q) e
   where
-    go : (x : EvidenceStep) → Far (suc (length s)) x → ((n : ℕ) (next : Place) (u : List ℕ) → again Nowhere deciding_on k (n, next, u) ≡ At j → j ≤ n + length u)
-        → elim x [ Proved ↦ At i | Remark ↦ Nowhere | On used next ↦ again Nowhere deciding_on k (i + used, next, drop used (b ∷ s)) ] ≡ At j
+    go : (x : EvidenceStep) → Far (suc (length s)) x → ((n : ℕ) (next : Place) (u : List ℕ) → again None deciding_on k (n, next, u) ≡ Some j → j ≤ n + length u)
+        → elim x [ Proved ↦ Some i | Remark ↦ None | On used next ↦ again None deciding_on k (i + used, next, drop used (b ∷ s)) ] ≡ Some j
         → j ≤ i + suc (length s)
     go Proved d f q = let p : i ≡ j = cc in omega arith
     go Remark d f q = let z : ◌≡◌ {A = ℕ} 0 1 = cc in absurd (omega arith)
     go (On used next) d f q = omega (arith, f (i + used) next (drop used (b ∷ s)) q, length-drop used (b ∷ s), d.1)
 
-module _ (l : List ℕ) {f : Found} where
-  pub evidence_somewhere : {i : ℕ} → f ≡ At i → f ≡ deciding_place l → true ≡ line_evidence l
+module _ (l : List ℕ) {f : (Option ℕ)} where
+  pub evidence_somewhere : {i : ℕ} → f ≡ Some i → f ≡ deciding_place l → true ≡ line_evidence l
   evidence_somewhere e q = sym (ap is_at (sym q ∙ e)) ∙ place_by_evidence l
 
-  pub evidence_nowhere : f ≡ Nowhere → f ≡ deciding_place l → false ≡ line_evidence l
+  pub evidence_nowhere : f ≡ None → f ≡ deciding_place l → false ≡ line_evidence l
   evidence_nowhere e q = sym (ap is_at (sym q ∙ e)) ∙ place_by_evidence l
 
-  pub place_within : {i : ℕ} → f ≡ At i → f ≡ deciding_place l → i ≤ length l
+  pub place_within : {i : ℕ} → f ≡ Some i → f ≡ deciding_place l → i ≤ length l
   unfolding deciding_place deciding_from
   place_within e q =
       omega (arith, walk_within (suc (length (drop (number_length l) l))) (number_length l) Start (drop (number_length l) l) (sym q ∙ e), length-drop (number_length l) l, number_le l)
 
-  pub word_told : {i n : ℕ} → n ≡ list_place (rest l i) → f ≡ At i → f ≡ deciding_place l → Decides i n ≡ deciding_word l
+  pub word_told : {i n : ℕ} → n ≡ list_place (rest l i) → f ≡ Some i → f ≡ deciding_place l → Decides i n ≡ deciding_word l
   unfolding deciding_word
   word_told {i} p e q = rw (deciding_word, sym q ∙ e) (ap (Decides i) (p ∙ ap list_place (tail l i)))
 
-  pub no_word_told : f ≡ Nowhere → f ≡ deciding_place l → NoneDecides ≡ deciding_word l
+  pub no_word_told : f ≡ None → f ≡ deciding_place l → NoneDecides ≡ deciding_word l
   unfolding deciding_word
   no_word_told e q = rw (deciding_word, sym q ∙ e)
 

@@ -5,8 +5,6 @@ use Rattle.std.specs.Prelude.{ℕ, suc, ◌+◌, Bool, true, false, List, [], �
 use Rattle.base_steps.specs.Again.{again}
 use Rattle.base_ascii.specs.Bytes.{is_digit}
 use Rattle.base_ascii.specs.Search.{is_white, front, past}
-use Rattle.base_ascii.specs.declared.search.Found.{Found}
-use Rattle.base_ascii.specs.declared.search.Found.TheVariants.{At, Nowhere}
 use Rattle.word_search.specs.Compare.{begins}
 use Rattle.word_search.specs.Find.{word_in}
 use Rattle.word_search.specs.declared.Match.TheVariants.{Word, Nothing}
@@ -20,6 +18,7 @@ use Rattle.guess_evidence.specs.declared.EvidenceStep.{EvidenceStep}
 use Rattle.guess_evidence.specs.declared.EvidenceStep.TheVariants.{Proved, Remark, On}
 use Rattle.guess_evidence.specs.declared.DecidingWord.{DecidingWord}
 use Rattle.guess_evidence.specs.declared.DecidingWord.TheVariants.{Decides, NoneDecides}
+use Rattle.std.specs.Prelude.{Option, Some, None}
 
 -- a TSB word in front of a text proves it
 unfoldable pub word_proves : Place → List ℕ → Bool
@@ -81,19 +80,19 @@ line_evidence l = evidence_from Start (drop (number_length l) l)
 -- ---- the same walk, which answers where the word that proves it stands
 
 -- a step so many bytes into the line; then on from behind it
-unfoldable pub deciding_on : (ℕ × Place × List ℕ → Found) → ℕ × Place × List ℕ → Found
+unfoldable pub deciding_on : (ℕ × Place × List ℕ → Option ℕ) → ℕ × Place × List ℕ → Option ℕ
 unfolding evidence_step
 deciding_on more x =
     elim x.2 [
-      | [] ↦ Nowhere
-      | b ∷ s ↦ elim (evidence_step x.1 x.2) [ Proved ↦ At x.0 | Remark ↦ Nowhere | On used next ↦ more (x.0 + used, next, drop used x.2) ]
+      | [] ↦ None
+      | b ∷ s ↦ elim (evidence_step x.1 x.2) [ Proved ↦ Some x.0 | Remark ↦ None | On used next ↦ more (x.0 + used, next, drop used x.2) ]
     ]
 
-unfoldable pub deciding_from : ℕ → Place → List ℕ → Found
+unfoldable pub deciding_from : ℕ → Place → List ℕ → Option ℕ
 unfolding again deciding_on
-deciding_from i place t = again Nowhere deciding_on (suc (length t)) (i, place, t)
+deciding_from i place t = again None deciding_on (suc (length t)) (i, place, t)
 
-unfoldable pub deciding_place : List ℕ → Found
+unfoldable pub deciding_place : List ℕ → Option ℕ
 unfolding deciding_from number_length
 deciding_place l = deciding_from (number_length l) Start (drop (number_length l) l)
 
@@ -104,7 +103,7 @@ list_place t = elim (word_in tsb_words t) [ Word index used token ↦ index | No
 
 unfoldable pub deciding_word : List ℕ → DecidingWord
 unfolding deciding_place list_place
-deciding_word l = elim (deciding_place l) [ At i ↦ Decides i (list_place (drop i l)) | Nowhere ↦ NoneDecides ]
+deciding_word l = elim (deciding_place l) [ Some i ↦ Decides i (list_place (drop i l)) | None ↦ NoneDecides ]
 
 -- a word decides
 unfoldable pub decides : DecidingWord → Bool

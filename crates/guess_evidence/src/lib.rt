@@ -10,7 +10,7 @@ ghost use Rattle.guess_places.specs.Places.{is_plain};
 ghost use Rattle.guess_uses.specs.MarkHelpers.{MarksOf};
 
 use base_ascii::search;
-use base_ascii::search::{Found, Kind};
+use base_ascii::search::Kind;
 use guess_places::place::Place;
 use guess_places::{beginnings, place};
 use guess_uses::{lists, proving};
@@ -157,7 +157,7 @@ fn is_gap(place: Place, b: u8) -> bool
 }
 
 // A space is passed without a step, since no byte is more frequent.
-fn marked_place(line: &[u8], marks: &[u8], bytes: &[u8], index: &[u16]) -> Found
+fn marked_place(line: &[u8], marks: &[u8], bytes: &[u8], index: &[u16]) -> Option<usize>
     requires { SpellsWords bytes.now index.now × MarksOf White line.now marks.now }
     ensures { result ≡ deciding_place line.now }
 {
@@ -169,10 +169,10 @@ fn marked_place(line: &[u8], marks: &[u8], bytes: &[u8], index: &[u16]) -> Found
         } else {
             match evidence_step(place, &line[i..], marks, bytes, index) {
                 EvidenceStep::Proved => {
-                    return Found::At(i);
+                    return Some(i);
                 }
                 EvidenceStep::Remark => {
-                    return Found::Nowhere;
+                    return None;
                 }
                 EvidenceStep::On { used, place: next } => {
                     let behind = i + used;
@@ -182,10 +182,10 @@ fn marked_place(line: &[u8], marks: &[u8], bytes: &[u8], index: &[u16]) -> Found
             }
         }
     }
-    Found::Nowhere
+    None
 }
 
-fn long_place(line: &[u8], bytes: &[u8], index: &[u16]) -> Found
+fn long_place(line: &[u8], bytes: &[u8], index: &[u16]) -> Option<usize>
     requires { SpellsWords bytes.now index.now × (length line.now ≤ 16384) }
     ensures { result ≡ deciding_place line.now }
 {
@@ -195,7 +195,7 @@ fn long_place(line: &[u8], bytes: &[u8], index: &[u16]) -> Found
     marked_place(line, &marks, bytes, index)
 }
 
-fn longest_place(line: &[u8], bytes: &[u8], index: &[u16]) -> Found
+fn longest_place(line: &[u8], bytes: &[u8], index: &[u16]) -> Option<usize>
     requires { SpellsWords bytes.now index.now × (length line.now ≤ 1048576) }
     ensures { result ≡ deciding_place line.now }
 {
@@ -207,14 +207,14 @@ fn longest_place(line: &[u8], bytes: &[u8], index: &[u16]) -> Found
 
 // Where the first word that proves it stands. A short line needs no room for marks, a longer one 4 KB or 256 KB; no text has a line that is
 // longer still.
-fn deciding_place(line: &[u8], bytes: &[u8], index: &[u16]) -> Found
+fn deciding_place(line: &[u8], bytes: &[u8], index: &[u16]) -> Option<usize>
     requires { SpellsWords bytes.now index.now }
     ensures { result ≡ deciding_place line.now }
 {
     let n = line.len();
     // Of a line of blanks nothing is left.
     if n == 0 {
-        return Found::Nowhere;
+        return None;
     }
     if n > 256 {
         if n <= 16384 {
@@ -233,8 +233,8 @@ pub fn line_evidence(line: &[u8], bytes: &[u8], index: &[u16]) -> bool
     ensures { result ≡ line_evidence line.now }
 {
     match deciding_place(line, bytes, index) {
-        Found::At(_) => true,
-        Found::Nowhere => false,
+        Some(_) => true,
+        None => false,
     }
 }
 
@@ -244,11 +244,11 @@ fn word_with(line: &[u8], bytes: &[u8], index: &[u16]) -> DecidingWord
     ensures { result ≡ deciding_word line.now }
 {
     match deciding_place(line, bytes, index) {
-        Found::At(offset) => DecidingWord::Decides {
+        Some(offset) => DecidingWord::Decides {
             offset,
             word: list_place(&line[offset..], bytes, index),
         },
-        Found::Nowhere => DecidingWord::NoneDecides,
+        None => DecidingWord::NoneDecides,
     }
 }
 

@@ -11,7 +11,6 @@ ghost use Rattle.base_bits.specs.PenHelpers.{Ready, drawn};
 ghost use Rattle.image_index.specs.IndexHelpers.{Sound, found_from, low_jumps, low_targets, CountedIs, pair_bits, line_bits, target_bit, target_bits, jump_bits, index_bits, Faultless, NumbersMarked};
 
 use base_bits::Pen;
-use base_lent::Outcome;
 use base_refusals::Refusal;
 use image_jumps::Next;
 use image_readers::{Checked, Step, links};
@@ -24,31 +23,31 @@ pub enum Counted {
 }
 
 // Stores the index of an image at the start of a buffer, and answers how long it is.
-pub fn write_index(image: &[u8], out: &mut [u8]) -> Outcome
+pub fn write_index(image: &[u8], out: &mut [u8]) -> Result<usize, Refusal>
     ensures { left result out.new ≡ into_buffer (line_index image.now) out.old }
 {
     match links::check(image) {
         Checked::Image { load: _, lines } => index_lines(image, out, lines),
-        Checked::Refused(refusal) => Outcome::Refused(refusal),
+        Checked::Refused(refusal) => Err(refusal),
     }
 }
 
 // The same for an image without a fault, of so many lines.
-fn index_lines(image: &[u8], out: &mut [u8], lines: usize) -> Outcome
+fn index_lines(image: &[u8], out: &mut [u8], lines: usize) -> Result<usize, Refusal>
     requires { Faultless image.now lines }
     ensures { left result out.new ≡ into_buffer (line_index image.now) out.old }
 {
     if lines > 8191 {
-        return Outcome::Refused(Refusal::TooManyLines);
+        return Err(Refusal::TooManyLines);
     }
     match count_jumps(image, &image[..0]) {
-        Counted::TooHigh => Outcome::Refused(Refusal::TargetTooHigh),
+        Counted::TooHigh => Err(Refusal::TargetTooHigh),
         Counted::Jumps(jumps) => {
             let needed = (23 + 32 * lines + 29 * jumps) / 8;
             if needed > out.len() {
-                return Outcome::Refused(Refusal::NoRoom { needed });
+                return Err(Refusal::NoRoom { needed });
             }
-            Outcome::Done(put_index(out, image, lines))
+            Ok(put_index(out, image, lines))
         }
     }
 }
@@ -65,7 +64,7 @@ fn put_index(out: &mut [u8], image: &[u8], lines: usize) -> usize
 }
 
 // Stores the report on an image's jumps with no target at the start of a buffer, and answers how long it is.
-pub fn write_report(image: &[u8], out: &mut [u8]) -> Outcome
+pub fn write_report(image: &[u8], out: &mut [u8]) -> Result<usize, Refusal>
     ensures { left result out.new ≡ into_buffer (jump_report image.now) out.old }
 {
     match links::check(image) {
@@ -74,26 +73,26 @@ pub fn write_report(image: &[u8], out: &mut [u8]) -> Outcome
             image_marks::mark_numbers(image, &mut marked);
             report_lines(image, out, lines, &marked)
         }
-        Checked::Refused(refusal) => Outcome::Refused(refusal),
+        Checked::Refused(refusal) => Err(refusal),
     }
 }
 
 // The report on an image without a fault, of so many lines, whose numbers are marked.
-fn report_lines(image: &[u8], out: &mut [u8], lines: usize, marked: &[u8]) -> Outcome
+fn report_lines(image: &[u8], out: &mut [u8], lines: usize, marked: &[u8]) -> Result<usize, Refusal>
     requires { Faultless image.now lines × NumbersMarked (map index_line (found_from image.now 2)) marked.now }
     ensures { left result out.new ≡ into_buffer (jump_report image.now) out.old }
 {
     if lines > 8191 {
-        return Outcome::Refused(Refusal::TooManyLines);
+        return Err(Refusal::TooManyLines);
     }
     match count_jumps(image, marked) {
-        Counted::TooHigh => Outcome::Refused(Refusal::TargetTooHigh),
+        Counted::TooHigh => Err(Refusal::TargetTooHigh),
         Counted::Jumps(jumps) => {
             let needed = (7 + 29 * jumps) / 8;
             if needed > out.len() {
-                return Outcome::Refused(Refusal::NoRoom { needed });
+                return Err(Refusal::NoRoom { needed });
             }
-            Outcome::Done(put_report(out, image, marked))
+            Ok(put_report(out, image, marked))
         }
     }
 }

@@ -7,7 +7,6 @@ ghost use Rattle.image_rows.specs.Jumps.{target_text, sources_text, places_on, j
 ghost use Rattle.image_rows.specs.PartHelpers.{Adds, AddsMany};
 
 use crate::parts::{add_row, add_text};
-use base_lent::Outcome;
 use base_refusals::Refusal;
 use image_references::Row;
 
@@ -74,14 +73,14 @@ pub fn lend_jumps(
     nexts: &[usize],
     marked: &[u8],
     out: &mut [u8],
-) -> Outcome
+) -> Result<usize, Refusal>
     requires { (length firsts.now ≤ 65536) × (length nexts.now ≤ 65536) }
     ensures { left result out.new ≡ into_buffer (done (jumps_text index.now firsts.now nexts.now marked.now)) out.old }
 {
     let mut none = [0u8; 1];
     let needed = add_rows(&mut none, index, firsts, nexts, marked);
     if out.len() < needed {
-        return Outcome::Refused(Refusal::NoRoom { needed });
+        return Err(Refusal::NoRoom { needed });
     }
-    Outcome::Done(add_rows(out, index, firsts, nexts, marked))
+    Ok(add_rows(out, index, firsts, nexts, marked))
 }

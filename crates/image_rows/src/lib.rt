@@ -6,7 +6,7 @@ ghost use Rattle.base_refusals.specs.Answer.{done};
 ghost use Rattle.base_lent.specs.Lent.{into_buffer, left};
 ghost use Rattle.image_rows.specs.Found.{found_row, missing_row};
 
-use base_lent::Outcome;
+use base_refusals::Refusal;
 use image_readers::Line;
 use say_put::lend_row;
 
@@ -15,7 +15,7 @@ mod parts;
 pub mod places;
 
 // The row of a line that was found by its number, after so many headers.
-pub fn lend_found(line: Line, visited: usize, out: &mut [u8]) -> Outcome
+pub fn lend_found(line: Line, visited: usize, out: &mut [u8]) -> Result<usize, Refusal>
     ensures { left result out.new ≡ into_buffer (done (found_row line visited)) out.old }
 {
     let link = line.link as usize;
@@ -30,7 +30,7 @@ pub fn lend_found(line: Line, visited: usize, out: &mut [u8]) -> Outcome
 }
 
 // The row of a number that no line has, behind the name of what was read.
-pub fn lend_missing(name: &[u8], number: u16, visited: usize, out: &mut [u8]) -> Outcome
+pub fn lend_missing(name: &[u8], number: u16, visited: usize, out: &mut [u8]) -> Result<usize, Refusal>
     requires { length name.now ≤ 4352 }
     ensures { left result out.new ≡ into_buffer (done (missing_row name.now number visited)) out.old }
 {

@@ -6,7 +6,6 @@ ghost use Rattle.image_rows.specs.Places.{place_text, places_shown};
 ghost use Rattle.image_rows.specs.PartHelpers.{Adds, AddsTwo, Stores, IsText};
 
 use crate::parts::{add_row, add_text};
-use base_lent::Outcome;
 use base_refusals::Refusal;
 use image_readers::{By, Checked, Line, Step};
 
@@ -53,24 +52,24 @@ fn add_places(out: &mut [u8], image: &[u8], by: By, origins: &[usize]) -> usize
     }
 }
 
-fn lend_checked(image: &[u8], by: By, origins: &[usize], out: &mut [u8]) -> Outcome
+fn lend_checked(image: &[u8], by: By, origins: &[usize], out: &mut [u8]) -> Result<usize, Refusal>
     requires { IsText (places_shown by image.now origins.now) }
     ensures { left result out.new ≡ into_buffer (places_shown by image.now origins.now) out.old }
 {
     let mut none = [0u8; 1];
     let needed = add_places(&mut none, image, by, origins);
     if out.len() < needed {
-        return Outcome::Refused(Refusal::NoRoom { needed });
+        return Err(Refusal::NoRoom { needed });
     }
-    Outcome::Done(add_places(out, image, by, origins))
+    Ok(add_places(out, image, by, origins))
 }
 
 // The rows of an image's lines; origins are the text lines of the first so many.
-pub fn lend_places(image: &[u8], by: By, origins: &[usize], out: &mut [u8]) -> Outcome
+pub fn lend_places(image: &[u8], by: By, origins: &[usize], out: &mut [u8]) -> Result<usize, Refusal>
     ensures { left result out.new ≡ into_buffer (places_shown by image.now origins.now) out.old }
 {
     match image_readers::check_by(image, by) {
         Checked::Image { load: _, lines: _ } => lend_checked(image, by, origins, out),
-        Checked::Refused(refusal) => Outcome::Refused(refusal),
+        Checked::Refused(refusal) => Err(refusal),
     }
 }

@@ -8,7 +8,7 @@ ghost use Rattle.base_lent.specs.Lent.{into_buffer, left};
 ghost use Rattle.say_put.specs.Rows.{row_text};
 ghost use Rattle.image_sentences.specs.Sentences.{target_sentence, fault_sentence, program_sentence, disk_sentence, refused_sentence};
 
-use base_lent::Outcome;
+use base_refusals::Refusal;
 use image_faults::Fault;
 use say_put::lend_row;
 
@@ -56,7 +56,7 @@ const UNFIT_FILES: [u8; 33] = *b": not fit for the master; # files";
 
 const UNFIT: [u8; 24] = *b": not fit for the master";
 
-fn lend_target(name: &[u8], number: usize, target: usize, out: &mut [u8]) -> Outcome
+fn lend_target(name: &[u8], number: usize, target: usize, out: &mut [u8]) -> Result<usize, Refusal>
     requires { length name.now ≤ 4352 }
     ensures { left result out.new ≡ into_buffer (done (target_sentence name.now number target)) out.old }
 {
@@ -67,14 +67,14 @@ fn lend_target(name: &[u8], number: usize, target: usize, out: &mut [u8]) -> Out
 }
 
 // A row with a number of at most 65535, and another.
-fn lend_about(name: &[u8], row: &[u8], number: u16, value: usize, out: &mut [u8]) -> Outcome
+fn lend_about(name: &[u8], row: &[u8], number: u16, value: usize, out: &mut [u8]) -> Result<usize, Refusal>
     requires { (length name.now ≤ 4352) × (length row.now ≤ 128) }
     ensures { left result out.new ≡ into_buffer (done (row_text name.now row.now number value 0)) out.old }
 {
     lend_row(name, row, number as usize, value, 0, out)
 }
 
-pub fn lend_fault(name: &[u8], fault: Fault, out: &mut [u8]) -> Outcome
+pub fn lend_fault(name: &[u8], fault: Fault, out: &mut [u8]) -> Result<usize, Refusal>
     requires { length name.now ≤ 4352 }
     ensures { left result out.new ≡ into_buffer (done (fault_sentence name.now fault)) out.old }
 {
@@ -92,7 +92,7 @@ pub fn lend_fault(name: &[u8], fault: Fault, out: &mut [u8]) -> Outcome
 }
 
 // The last line of a program: its load address, and how many lines it has.
-pub fn lend_program(name: &[u8], load: usize, lines: usize, fit: bool, out: &mut [u8]) -> Outcome
+pub fn lend_program(name: &[u8], load: usize, lines: usize, fit: bool, out: &mut [u8]) -> Result<usize, Refusal>
     requires { length name.now ≤ 4352 }
     ensures { left result out.new ≡ into_buffer (done (program_sentence name.now load lines fit)) out.old }
 {
@@ -109,7 +109,7 @@ pub fn lend_program(name: &[u8], load: usize, lines: usize, fit: bool, out: &mut
 }
 
 // The last line of a disk: how many files it has.
-pub fn lend_disk(name: &[u8], files: usize, fit: bool, out: &mut [u8]) -> Outcome
+pub fn lend_disk(name: &[u8], files: usize, fit: bool, out: &mut [u8]) -> Result<usize, Refusal>
     requires { length name.now ≤ 4352 }
     ensures { left result out.new ≡ into_buffer (done (disk_sentence name.now files fit)) out.old }
 {
@@ -126,7 +126,7 @@ pub fn lend_disk(name: &[u8], files: usize, fit: bool, out: &mut [u8]) -> Outcom
 }
 
 // The last line of what no reader, or no disk, could be made of.
-pub fn lend_refused(name: &[u8], out: &mut [u8]) -> Outcome
+pub fn lend_refused(name: &[u8], out: &mut [u8]) -> Result<usize, Refusal>
     requires { length name.now ≤ 4352 }
     ensures { left result out.new ≡ into_buffer (done (refused_sentence name.now)) out.old }
 {

@@ -1,6 +1,6 @@
 // Dialects as the bytes that stand for them, and op 13: the default load address.
 use judge_frames::Answer;
-use word_dialects::{Dialect, Named};
+use word_dialects::Dialect;
 
 pub fn byte_of(dialect: Dialect) -> u8 {
     match dialect {
@@ -16,8 +16,8 @@ pub fn default_load(payload: &[u8]) -> bool {
         return judge_frames::reject();
     }
     match word_dialects::dialect_by_number(payload[0]) {
-        Named::Known(dialect) => send_load(word_dialects::default_load(dialect)),
-        Named::Refused(_) => judge_frames::reject(),
+        Ok(dialect) => send_load(word_dialects::default_load(dialect)),
+        Err(_) => judge_frames::reject(),
     }
 }
 

@@ -1,14 +1,13 @@
 // Ops 01, 02, 0A, 0B, 10, 11, 14 to 17, 1C, 1F, 30 and 31: the calls that write into a lent buffer, and those that tell the room for it.
 ghost use Rattle.std.specs.Prelude.{◌≤◌};
 
+use base_refusals::Refusal;
 use crate::texts;
-use base_lent::Outcome;
 use crunch_rules::Options;
 use image_readers::By;
 use judge_frames::rooms;
 use list_options::ListOptions;
 use texts::Asked;
-use word_dialects::Named;
 
 #[derive(Clone, Copy)]
 pub enum Call {
@@ -82,12 +81,12 @@ fn listing_under(dialect: u8, mode: u8, by: By) -> Request {
         return Request::Unknown;
     }
     match word_dialects::dialect_by_number(dialect) {
-        Named::Known(dialect) => Request::Known(Call::ListUnder(ListOptions {
+        Ok(dialect) => Request::Known(Call::ListUnder(ListOptions {
             dialect,
             remarks: mode == 1,
             by,
         })),
-        Named::Refused(_) => Request::Unknown,
+        Err(_) => Request::Unknown,
     }
 }
 
@@ -118,7 +117,7 @@ fn answer_in(request: Request, input: &[u8], room: &mut [u8]) -> bool {
     }
 }
 
-fn written(call: Call, input: &[u8], room: &mut [u8]) -> Outcome {
+fn written(call: Call, input: &[u8], room: &mut [u8]) -> Result<usize, Refusal> {
     match call {
         Call::Crunch(options) => crunch_image::crunch(input, options, room),
         Call::List => list_image::list(input, room),
@@ -151,6 +150,6 @@ fn send_room(call: Call, input: &[u8]) -> bool {
     }
 }
 
-fn send_length(outcome: Outcome) -> bool {
+fn send_length(outcome: Result<usize, Refusal>) -> bool {
     judge_frames::length_of(outcome).send()
 }

@@ -2,8 +2,7 @@
 use crate::dialects;
 use crunch_rules::Options;
 use guess::resolve;
-use guess::resolve::Resolved;
-use word_dialects::{Dialect, Named};
+use word_dialects::Dialect;
 
 #[derive(Clone, Copy)]
 pub enum Asked {
@@ -33,13 +32,13 @@ fn asked_for(load: u16, dialect: u8, bits: u8) -> Asked {
         return Asked::Unknown;
     }
     match word_dialects::dialect_by_number(dialect) {
-        Named::Known(dialect) => Asked::With(Options {
+        Ok(dialect) => Asked::With(Options {
             load,
             dialect,
             profile: bits % 2 == 1,
             forms: bits / 2 == 1,
         }),
-        Named::Refused(_) => Asked::Unknown,
+        Err(_) => Asked::Unknown,
     }
 }
 
@@ -48,14 +47,14 @@ pub fn resolved_dialect(payload: &[u8]) -> bool {
         return judge_frames::reject();
     }
     match word_dialects::dialect_by_number(payload[0]) {
-        Named::Known(dialect) => send_resolved(&payload[1..], dialect),
-        Named::Refused(_) => judge_frames::reject(),
+        Ok(dialect) => send_resolved(&payload[1..], dialect),
+        Err(_) => judge_frames::reject(),
     }
 }
 
 fn send_resolved(text: &[u8], dialect: Dialect) -> bool {
     match resolve::resolved_dialect(text, dialect) {
-        Resolved::Is(dialect) => judge_frames::tell(dialects::byte_of(dialect)),
-        Resolved::Refused(refusal) => judge_frames::refuse(refusal),
+        Ok(dialect) => judge_frames::tell(dialects::byte_of(dialect)),
+        Err(refusal) => judge_frames::refuse(refusal),
     }
 }

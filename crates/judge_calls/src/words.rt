@@ -1,11 +1,10 @@
 // Ops 04 and 05: calls on a word, which is the whole payload.
 use crate::dialects;
-use word_dialects::Named;
 
 pub fn dialect_by_name(word: &[u8]) -> bool {
     match word_dialects::dialect_by_name(word) {
-        Named::Known(dialect) => judge_frames::tell(dialects::byte_of(dialect)),
-        Named::Refused(refusal) => judge_frames::refuse(refusal),
+        Ok(dialect) => judge_frames::tell(dialects::byte_of(dialect)),
+        Err(refusal) => judge_frames::refuse(refusal),
     }
 }
 

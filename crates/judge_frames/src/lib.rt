@@ -6,7 +6,6 @@ pub mod rooms;
 ghost use Rattle.std.specs.Prelude.{◌≡◌, ◌+◌, ◌*◌, ◌^◌, ◌≤◌, length};
 ghost use Rattle.judge_frames.specs.FramesHelpers.{u16_at, u32_at, u64_at, Sendable};
 
-use base_lent::Outcome;
 use base_refusals::Refusal;
 
 // Where the answers go: standard output.
@@ -169,12 +168,12 @@ impl Answer {
 }
 
 // The answer of a call with a lent buffer, or of one that measures.
-pub fn length_of(outcome: Outcome) -> Answer
+pub fn length_of(outcome: Result<usize, Refusal>) -> Answer
     ensures { Sendable result }
 {
     match outcome {
-        Outcome::Done(n) => Answer::done().number(n),
-        Outcome::Refused(refusal) => Answer::refused(refusal),
+        Ok(n) => Answer::done().number(n),
+        Err(refusal) => Answer::refused(refusal),
     }
 }
 

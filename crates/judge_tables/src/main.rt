@@ -6,7 +6,6 @@
 
 ghost use Rattle.word_tables.specs.WordsHelpers.{SpellsWords};
 
-use base_lent::Outcome;
 use escape_bytes::Escape;
 use word_match::sets::Sets;
 use word_search::Match;
@@ -103,12 +102,12 @@ fn print_listing(byte: u8, image: &[u8]) {
     print_code(byte);
     io::write_all(STDOUT_FILENO, b"\t");
     match list_image::list(image, &mut text) {
-        Outcome::Done(n) => {
+        Ok(n) => {
             if n <= text.len() {
                 io::write_all(STDOUT_FILENO, &text[0..n]);
             }
         }
-        Outcome::Refused(_) => {
+        Err(_) => {
             io::write_all(STDOUT_FILENO, b"refused\n");
         }
     }

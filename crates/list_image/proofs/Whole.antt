@@ -11,8 +11,6 @@ use Rattle.base_refusals.specs.Answer.{Answer, done, refused, map_done, numbered
 use Rattle.base_refusals.specs.declared.Refusal.{Refusal}
 use Rattle.base_refusals.specs.Numbers.{no_room}
 use Rattle.base_lent.specs.Lent.{Lent, into_buffer, room_for, outcome_answer}
-use Rattle.base_lent.specs.declared.Outcome.{Outcome}
-use Rattle.base_lent.specs.declared.Outcome.TheVariants.{Done, Refused as RefusedOutcome}
 use Rattle.base_lent.specs.Stores.{Room, Put, HasRoom}
 use Rattle.base_lent.proofs.Storing.{room_first, room_second, put_both}
 use Rattle.base_lent.proofs.Outcomes.{told_outcome, has_room, into_refused, into_none, into_done}
@@ -35,6 +33,7 @@ use Rattle.list_options.specs.Modes.{rules_under, original_options, heeds_prefix
 use Rattle.list_options.specs.declared.ListOptions.{ListOptions}
 use Rattle.list_image.specs.Listing.{lines_listing, listing_by, listing, listing_under}
 use Rattle.list_lines.proofs.Lining.{line_parts}
+use Rattle.std.specs.Prelude.{Result, Ok, Err}
 
 -- what is left to list of an image, from an offset on
 abbrev left_from : By → Rules → List ℕ → ℕ → Answer (List ℕ)
@@ -179,15 +178,15 @@ written_long k = k.owed.long
 
 -- ---- what is measured decides
 
-module _ (by : By) (rules : Rules) (image buffer : List ℕ) {r : Outcome} (e : outcome_answer r ≡ room_for (listing_by by rules image)) where
-  pub room_there : {n : ℕ} → r ≡ Done n → n ≤ length buffer → HasRoom buffer (listing_by by rules image)
+module _ (by : By) (rules : Rules) (image buffer : List ℕ) {r : (Result ℕ Refusal)} (e : outcome_answer r ≡ room_for (listing_by by rules image)) where
+  pub room_there : {n : ℕ} → r ≡ Ok n → n ≤ length buffer → HasRoom buffer (listing_by by rules image)
   room_there is h = has_room buffer (listing_by by rules image) (told_outcome is e) h
 
-  pub no_room_lem : {n : ℕ} → r ≡ Done n → length buffer < n
+  pub no_room_lem : {n : ℕ} → r ≡ Ok n → length buffer < n
       → ◌≡◌ {A = Lent} (record { answer = refused (no_room n); buffer = buffer }) (into_buffer (listing_by by rules image) buffer)
   no_room_lem is h = into_none buffer (listing_by by rules image) (told_outcome is e) h
 
-  pub no_listing : {n : Refusal} → r ≡ RefusedOutcome n
+  pub no_listing : {n : Refusal} → r ≡ Err n
       → ◌≡◌ {A = Lent} (record { answer = refused (numbered n); buffer = buffer }) (into_buffer (listing_by by rules image) buffer)
   no_listing is = into_refused buffer (listing_by by rules image) (told_outcome is e)
 

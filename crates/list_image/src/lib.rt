@@ -7,28 +7,27 @@ ghost use Rattle.list_texts.specs.TextsHelpers.{SpellsTexts};
 ghost use Rattle.base_lent.specs.Stores.{HasRoom};
 ghost use Rattle.list_image.specs.Listing.{listing, listing_by, listing_under};
 
-use base_lent::Outcome;
 use base_refusals::Refusal;
 use image_readers::{By, Checked, Step};
 use image_units::Rules;
 use list_options::ListOptions;
 
 // Stores the listing of an image at the start of a buffer, as the original lists it, and answers how long it is.
-pub fn list(image: &[u8], out: &mut [u8]) -> Outcome
+pub fn list(image: &[u8], out: &mut [u8]) -> Result<usize, Refusal>
     ensures { left result out.new ≡ into_buffer (listing image.now) out.old }
 {
     list_under(image, list_options::original(), out)
 }
 
 // The room that this listing of an image needs.
-pub fn room(image: &[u8]) -> Outcome
+pub fn room(image: &[u8]) -> Result<usize, Refusal>
     ensures { outcome_answer result ≡ room_for (listing image.now) }
 {
     room_under(image, list_options::original())
 }
 
 // Stores the listing of an image at the start of a buffer, as the options ask for it, and answers how long it is.
-pub fn list_under(image: &[u8], options: ListOptions, out: &mut [u8]) -> Outcome
+pub fn list_under(image: &[u8], options: ListOptions, out: &mut [u8]) -> Result<usize, Refusal>
     ensures { left result out.new ≡ into_buffer (listing_under options image.now) out.old }
 {
     let by = options.by;
@@ -43,7 +42,7 @@ pub fn list_under(image: &[u8], options: ListOptions, out: &mut [u8]) -> Outcome
 }
 
 // The room that this listing of an image needs.
-pub fn room_under(image: &[u8], options: ListOptions) -> Outcome
+pub fn room_under(image: &[u8], options: ListOptions) -> Result<usize, Refusal>
     ensures { outcome_answer result ≡ room_for (listing_under options image.now) }
 {
     let by = options.by;
@@ -64,7 +63,7 @@ fn list_with(
     by: By,
     rules: Rules,
     image: &[u8],
-) -> Outcome
+) -> Result<usize, Refusal>
     requires { SpellsTexts bytes.now starts.now }
     ensures { left result out.new ≡ into_buffer (listing_by by rules image.now) out.old }
 {
@@ -82,15 +81,15 @@ fn list_checked(
     by: By,
     rules: Rules,
     image: &[u8],
-) -> Outcome
+) -> Result<usize, Refusal>
     requires { SpellsTexts bytes.now starts.now × (length image.now ≤ length out.old / 9) }
     ensures { left result out.new ≡ into_buffer (listing_by by rules image.now) out.old }
 {
     match image_readers::check_by(image, by) {
         Checked::Image { load: _, lines: _ } => {
-            Outcome::Done(write(out, bytes, starts, by, rules, image))
+            Ok(write(out, bytes, starts, by, rules, image))
         }
-        Checked::Refused(refusal) => Outcome::Refused(refusal),
+        Checked::Refused(refusal) => Err(refusal),
     }
 }
 
@@ -102,22 +101,22 @@ fn list_measured(
     by: By,
     rules: Rules,
     image: &[u8],
-) -> Outcome
+) -> Result<usize, Refusal>
     requires { SpellsTexts bytes.now starts.now }
     ensures { left result out.new ≡ into_buffer (listing_by by rules image.now) out.old }
 {
     match measure(bytes, starts, by, rules, image) {
-        Outcome::Done(needed) => {
+        Ok(needed) => {
             if needed > out.len() {
-                return Outcome::Refused(Refusal::NoRoom { needed });
+                return Err(Refusal::NoRoom { needed });
             }
-            Outcome::Done(write(out, bytes, starts, by, rules, image))
+            Ok(write(out, bytes, starts, by, rules, image))
         }
-        Outcome::Refused(refusal) => Outcome::Refused(refusal),
+        Err(refusal) => Err(refusal),
     }
 }
 
-fn measure(bytes: &[u8], starts: &[u16], by: By, rules: Rules, image: &[u8]) -> Outcome
+fn measure(bytes: &[u8], starts: &[u16], by: By, rules: Rules, image: &[u8]) -> Result<usize, Refusal>
     requires { SpellsTexts bytes.now starts.now }
     ensures { outcome_answer result ≡ room_for (listing_by by rules image.now) }
 {
@@ -132,10 +131,10 @@ fn measure(bytes: &[u8], starts: &[u16], by: By, rules: Rules, image: &[u8]) -> 
                 offset = line.next;
             }
             Step::End => {
-                return Outcome::Done(n);
+                return Ok(n);
             }
             Step::Refused(refusal) => {
-                return Outcome::Refused(refusal);
+                return Err(refusal);
             }
         }
     }

@@ -10,11 +10,8 @@ use Rattle.base_refusals.specs.Answer.{Answer, done, refused, numbered}
 use Rattle.base_refusals.specs.Code.{code_of, length_code}
 use Rattle.base_lent.specs.Lent.{Lent, into_buffer, room_for, outcome_answer, left}
 use Rattle.base_refusals.specs.declared.Code.{Code}
-use Rattle.base_lent.specs.declared.Outcome.{Outcome}
-use Rattle.base_lent.specs.declared.Outcome.TheVariants.{Done, Refused}
 use Rattle.base_refusals.specs.declared.Refusal.{Refusal}
 use Rattle.disk_rules.specs.Calls.{Holding, After, changed_answer, disk_answer, leaving}
-use Rattle.disk_rules.specs.declared.Changed.{Changed}
 use Rattle.disk_directory.specs.Listing.{directory_text, Shows}
 use Rattle.disk_rules.specs.declared.DiskCheck.{DiskCheck}
 use Rattle.image_index_entries.specs.declared.Held.{Held}
@@ -25,8 +22,9 @@ use Rattle.count_images.specs.Carried.{Kept, carried_answer, carried}
 use Rattle.count_images.specs.declared.Carried.{Carried}
 use Rattle.count_images.specs.declared.Carried.TheVariants.{Apart}
 use Rattle.moldthatch.specs.Told.{Told, told_code, bare_code, told_disk, holding_code, shown_directory, held_code, relinking_code, fate_code, told_totals}
+use Rattle.std.specs.Prelude.{Result, Ok, Err}
 
-module _ (o : Outcome) {c : Code} (code : c ≡ length_code (outcome_answer o)) where
+module _ (o : Result ℕ Refusal) {c : Code} (code : c ≡ length_code (outcome_answer o)) where
   pub tells : {b : List ℕ} {l : Lent} → left o b ≡ l → ◌≡◌ {A = Told} (record { code = c; buffer = b }) (told_code l)
   tells {b} q = ap (λ (x : Code). record { code = x; buffer = b }) code ∙ ap told_code q
 
@@ -44,11 +42,11 @@ module _ (r : Refusal) {c : Code} (code : c ≡ code_of (numbered r)) where
 
 -- ---- disks
 
-pub tells_disk : (r : Changed) {c : Code} → c ≡ bare_code (changed_answer r) → {d : List ℕ} {a : After} → leaving r d ≡ a → ◌≡◌ {A = Told} (record { code = c; buffer = d }) (told_disk a)
+pub tells_disk : (r : Result (Unit {0}) Refusal) {c : Code} → c ≡ bare_code (changed_answer r) → {d : List ℕ} {a : After} → leaving r d ≡ a → ◌≡◌ {A = Told} (record { code = c; buffer = d }) (told_disk a)
 tells_disk r code {d} q = ap (λ (x : Code). record { code = x; buffer = d }) code ∙ ap told_disk q
 
-pub tells_changed : (r : Changed) {m : Changed} → r ≡ m → {c : Code} → c ≡ bare_code (changed_answer m) → c ≡ bare_code (changed_answer r)
-tells_changed r e code = code ∙ ap (λ (x : Changed). bare_code (changed_answer x)) (sym e)
+pub tells_changed : (r : Result (Unit {0}) Refusal) {m : (Result (Unit {0}) Refusal)} → r ≡ m → {c : Code} → c ≡ bare_code (changed_answer m) → c ≡ bare_code (changed_answer r)
+tells_changed r e code = code ∙ ap (λ (x : Result (Unit {0}) Refusal). bare_code (changed_answer x)) (sym e)
 
 pub tells_holding : (r : DiskCheck) {m : DiskCheck} → r ≡ m → {a : Answer Holding} → disk_answer r ≡ a → {c : Code} → c ≡ holding_code (disk_answer m) → c ≡ holding_code a
 tells_holding r e q code = code ∙ ap (λ (x : DiskCheck). holding_code (disk_answer x)) (sym e) ∙ ap holding_code q
@@ -60,12 +58,12 @@ clipped_length m k e = e ∙ ap (λ (x : ℕ). min x k) zero_front
     zero_front : 0 + m ≡ m
     zero_front = omega arith
 
-pub tells_directory : (o : Outcome) {c : Code} → c ≡ length_code (outcome_answer o) → (disk buffer : List ℕ) {b : List ℕ} → Shows disk buffer o b → ◌≡◌ {A = Told} (record { code = c; buffer = b }) (shown_directory disk buffer)
-tells_directory (Done n) code disk buffer {b} shows =
+pub tells_directory : (o : Result ℕ Refusal) {c : Code} → c ≡ length_code (outcome_answer o) → (disk buffer : List ℕ) {b : List ℕ} → Shows disk buffer o b → ◌≡◌ {A = Told} (record { code = c; buffer = b }) (shown_directory disk buffer)
+tells_directory (Ok n) code disk buffer {b} shows =
     ap (λ (x : Code). record { code = x; buffer = b }) (code ∙ ap (λ (x : ℕ). length_code (done x)) (clipped_length _ _ shows.1.ends))
     ∙ ap (λ (x : List ℕ). record { code = length_code (done (min (length (directory_text disk)) (length buffer))); buffer = x }) shows.1.stored
     ∙ simp shows.0
-tells_directory (Refused r) code disk buffer {b} shows =
+tells_directory (Err r) code disk buffer {b} shows =
     ap (λ (x : Code). record { code = x; buffer = b }) (code ∙ ap code_of shows.1)
     ∙ ap (λ (x : List ℕ). record { code = code_of bad_disk; buffer = x }) shows.2
     ∙ simp shows.0

@@ -9,8 +9,6 @@ use Rattle.base_refusals.specs.declared.Code.{Code}
 use Rattle.base_refusals.specs.declared.Refusal.{Refusal}
 use Rattle.word_dialects.specs.Dialects.{by_number, named_answer}
 use Rattle.word_dialects.specs.declared.Dialect.{Dialect}
-use Rattle.word_dialects.specs.declared.Named.{Named}
-use Rattle.word_dialects.specs.declared.Named.TheVariants.{Known, Refused}
 use Rattle.image_readers.specs.Answers.{step_answer}
 use Rattle.image_readers.specs.Image.{Found}
 use Rattle.image_readers.specs.declared.Step.{Step}
@@ -25,6 +23,7 @@ use Rattle.moldthatch.specs.declared.lines.LineCode.{LineCode}
 use Rattle.moldthatch.specs.Given.{measured_with}
 use Rattle.moldthatch.specs.ToldLines.{no_line, step_code, visit_code, measured_code}
 use Rattle.moldthatch.proofs.TellingOptions.{of_known, of_unknown}
+use Rattle.std.specs.Prelude.{Result, Ok, Err}
 
 -- none, for a refusal
 pub tells_none : (r : Refusal) {k : Code} → k ≡ code_of (numbered r) → {c : LineCode} → c ≡ no_line k → c ≡ no_line (code_of (numbered r))
@@ -47,12 +46,12 @@ module _ {c : LineCode} where
   tells_measured r e code = code ∙ ap (λ (x : LineMeasured). measured_code (line_answer x)) (sym e)
 
 -- the line at a place of the image that a text would have
-module _ (g : CrunchNumbers) (place : ℕ) (text : List ℕ) {n : Named} (answer : named_answer n ≡ by_number g.dialect) {c : LineCode} where
-  pub tells_there : {d : Dialect} → n ≡ Known d → {p : Options} → p ≡ crunch_options g d → (r : LineMeasured) → c ≡ measured_code (line_answer r)
+module _ (g : CrunchNumbers) (place : ℕ) (text : List ℕ) {n : (Result Dialect Refusal)} (answer : named_answer n ≡ by_number g.dialect) {c : LineCode} where
+  pub tells_there : {d : Dialect} → n ≡ Ok d → {p : Options} → p ≡ crunch_options g d → (r : LineMeasured) → c ≡ measured_code (line_answer r)
       → line_answer r ≡ line_measured p place text → c ≡ measured_code (measured_with g place text)
   tells_there e is r code q =
       code
       ∙ ap measured_code (q ∙ ap (λ (x : Options). line_measured x place text) is ∙ of_known (λ d. line_measured (crunch_options g d) place text) g.dialect answer e)
 
-  pub tells_unmeasured : {r : Refusal} → n ≡ Refused r → c ≡ no_line (code_of (numbered r)) → c ≡ measured_code (measured_with g place text)
+  pub tells_unmeasured : {r : Refusal} → n ≡ Err r → c ≡ no_line (code_of (numbered r)) → c ≡ measured_code (measured_with g place text)
   tells_unmeasured e code = code ∙ ap measured_code (of_unknown (λ d. line_measured (crunch_options g d) place text) g.dialect answer e)

@@ -11,8 +11,6 @@ use Rattle.base_refusals.specs.declared.Code.{Code}
 use Rattle.base_refusals.specs.declared.Refusal.{Refusal}
 use Rattle.word_dialects.specs.Dialects.{by_number, named_answer}
 use Rattle.word_dialects.specs.declared.Dialect.{Dialect}
-use Rattle.word_dialects.specs.declared.Named.{Named}
-use Rattle.word_dialects.specs.declared.Named.TheVariants.{Known, Refused}
 use Rattle.image_units.specs.declared.Mode.{Mode}
 use Rattle.library_numbers.specs.FaultNumbers.{mode_number, mode_of}
 use Rattle.library_numbers.proofs.Walking.{mode_back}
@@ -28,6 +26,7 @@ use Rattle.moldthatch.specs.declared.stretch.PlaceNumbers.{PlaceNumbers}
 use Rattle.moldthatch.specs.declared.stretch.StretchCode.{StretchCode}
 use Rattle.moldthatch.specs.ToldStretch.{place_numbers, place_of_kind, stretch_place, stretch_code, StretchTold, stretch_told, stretched_with}
 use Rattle.moldthatch.proofs.TellingOptions.{of_known, of_unknown}
+use Rattle.std.specs.Prelude.{Result, Ok, Err}
 
 -- ---- numbers name the place that they were made from
 
@@ -72,8 +71,8 @@ tells_no_stretch r x code = ap (λ (y : Code). record { code = y; place = x }) c
 abbrev held_by : List ℕ → List ℕ → ListOptions → Place → Stretched
 held_by body buffer p q = stretch_of (rules_under p) body (length buffer) q
 
-module _ (g : ListNumbers) (body : List ℕ) (x : PlaceNumbers) (buffer : List ℕ) {n : Named} (answer : named_answer n ≡ by_number g.dialect) {c : StretchCode} where
-  pub tells_stretch : {d : Dialect} → n ≡ Known d → {p : ListOptions} → p ≡ list_options g d → {q : Place} → q ≡ stretch_place x → (r : Stretch) → c ≡ stretch_code r → {b : List ℕ}
+module _ (g : ListNumbers) (body : List ℕ) (x : PlaceNumbers) (buffer : List ℕ) {n : (Result Dialect Refusal)} (answer : named_answer n ≡ by_number g.dialect) {c : StretchCode} where
+  pub tells_stretch : {d : Dialect} → n ≡ Ok d → {p : ListOptions} → p ≡ list_options g d → {q : Place} → q ≡ stretch_place x → (r : Stretch) → c ≡ stretch_code r → {b : List ℕ}
       → (r ≡ stretch_answer (stretch_of (rules_under p) body (length buffer) q)) × (b ≡ sets buffer 0 (stretch_of (rules_under p) body (length buffer) q).text)
       → ◌≡◌ {A = StretchTold} (record { told = c; buffer = b }) (stretched_with g body x buffer)
   tells_stretch {d} e {p} is {q} at r code {b} meets =
@@ -83,7 +82,7 @@ module _ (g : ListNumbers) (body : List ℕ) (x : PlaceNumbers) (buffer : List �
       ∙ ap (λ (y : Place). stretch_told x buffer (done (held_by body buffer (list_options g d) y))) at
       ∙ ap (stretch_told x buffer) (of_known (λ k. done (held_by body buffer (list_options g k) (stretch_place x))) g.dialect answer e)
 
-  pub tells_unstretched : {r : Refusal} → n ≡ Refused r → c ≡ record { code = code_of (numbered r); place = x } → ◌≡◌ {A = StretchTold} (record { told = c; buffer = buffer }) (stretched_with g body x buffer)
+  pub tells_unstretched : {r : Refusal} → n ≡ Err r → c ≡ record { code = code_of (numbered r); place = x } → ◌≡◌ {A = StretchTold} (record { told = c; buffer = buffer }) (stretched_with g body x buffer)
   tells_unstretched e code =
       ap (λ (y : StretchCode). record { told = y; buffer = buffer }) code
       ∙ ap (stretch_told x buffer) (of_unknown (λ k. done (held_by body buffer (list_options g k) (stretch_place x))) g.dialect answer e)

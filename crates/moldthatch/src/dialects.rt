@@ -10,11 +10,11 @@ ghost use Rattle.crunch_rules.specs.Measured.{nonblank_lines};
 ghost use Rattle.moldthatch.specs.Given.{resolved_by};
 ghost use Rattle.moldthatch.specs.ToldDialects.{dialect_code, load_code, escape_code};
 
+use base_refusals::Refusal;
 use base_refusals::Code;
 use escape_bytes::Escape;
 use guess::resolve;
-use guess::resolve::Resolved;
-use word_dialects::{Dialect, Named};
+use word_dialects::Dialect;
 use word_match::tsb;
 
 // The number of the dialect that a word names.
@@ -39,8 +39,8 @@ pub extern "C" fn moldthatch_resolved_dialect(text: &[u8], dialect: u8) -> Code
     ensures { result ≡ dialect_code (resolved_by dialect text.now) }
 {
     match word_dialects::dialect_by_number(dialect) {
-        Named::Known(known) => resolved_code(resolve::resolved_dialect(text, known)),
-        Named::Refused(refusal) => base_refusals::refusal_code(refusal),
+        Ok(known) => resolved_code(resolve::resolved_dialect(text, known)),
+        Err(refusal) => base_refusals::refusal_code(refusal),
     }
 }
 
@@ -68,32 +68,32 @@ pub extern "C" fn moldthatch_origins(text: &[u8], out: &mut [usize]) -> usize
     crunch_origins::origins(text, out)
 }
 
-fn named_code(named: Named) -> Code
+fn named_code(named: Result<Dialect, Refusal>) -> Code
     ensures { result ≡ dialect_code (named_answer named) }
 {
     match named {
-        Named::Known(dialect) => dialect_code(dialect),
-        Named::Refused(refusal) => base_refusals::refusal_code(refusal),
+        Ok(dialect) => dialect_code(dialect),
+        Err(refusal) => base_refusals::refusal_code(refusal),
     }
 }
 
-fn load_code(named: Named) -> Code
+fn load_code(named: Result<Dialect, Refusal>) -> Code
     ensures { result ≡ load_code (named_answer named) }
 {
     match named {
-        Named::Known(dialect) => {
+        Ok(dialect) => {
             base_refusals::with_one(0, base_ascii::wide16(word_dialects::default_load(dialect)))
         }
-        Named::Refused(refusal) => base_refusals::refusal_code(refusal),
+        Err(refusal) => base_refusals::refusal_code(refusal),
     }
 }
 
-fn resolved_code(resolved: Resolved) -> Code
+fn resolved_code(resolved: Result<Dialect, Refusal>) -> Code
     ensures { result ≡ dialect_code (resolved_answer resolved) }
 {
     match resolved {
-        Resolved::Is(dialect) => dialect_code(dialect),
-        Resolved::Refused(refusal) => base_refusals::refusal_code(refusal),
+        Ok(dialect) => dialect_code(dialect),
+        Err(refusal) => base_refusals::refusal_code(refusal),
     }
 }
 

@@ -6,8 +6,9 @@ ghost use Rattle.say_put.specs.Clipped.{Clipped};
 ghost use Rattle.disk_names.specs.Names.{name_given};
 ghost use Rattle.moldthatch.specs.Told.{told_code, bare_code, told_disk, holding_code, shown_directory};
 
+use base_refusals::Refusal;
 use base_refusals::Code;
-use disk_rules::{Changed, DiskCheck};
+use disk_rules::DiskCheck;
 
 // Makes a disk without files.
 #[unsafe(no_mangle)]
@@ -73,16 +74,16 @@ pub extern "C" fn moldthatch_disk_name(text: &[u8], out: &mut [u8]) -> usize
     disk_names::given(text, out)
 }
 
-fn changed_code(changed: Changed) -> Code
+fn changed_code(changed: Result<(), Refusal>) -> Code
     ensures { result ≡ bare_code (changed_answer changed) }
 {
     match changed {
-        Changed::Done => Code {
+        Ok(()) => Code {
             number: 0,
             count: 0,
             first: 0,
             second: 0,
         },
-        Changed::Refused(refusal) => base_refusals::refusal_code(refusal),
+        Err(refusal) => base_refusals::refusal_code(refusal),
     }
 }

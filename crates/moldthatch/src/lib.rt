@@ -18,7 +18,6 @@ ghost use Rattle.moldthatch.specs.Told.{told_code};
 use base_refusals::Code;
 use image_readers::{links, terminators};
 use library_numbers::{CrunchNumbers, ListNumbers};
-use word_dialects::Named;
 
 pub mod counts;
 pub mod dialects;
@@ -39,14 +38,14 @@ pub extern "C" fn moldthatch_crunch_with(
     ensures { record { code = result; buffer = out.new } ≡ told_code (into_buffer (crunched_with options text.now) out.old) }
 {
     match word_dialects::dialect_by_number(options.dialect) {
-        Named::Known(known) => {
+        Ok(known) => {
             base_lent::outcome_code(crunch_image::crunch(
                 text,
                 library_numbers::crunch_options(options, known),
                 out,
             ))
         }
-        Named::Refused(refusal) => base_refusals::refusal_code(refusal),
+        Err(refusal) => base_refusals::refusal_code(refusal),
     }
 }
 
@@ -56,11 +55,11 @@ pub extern "C" fn moldthatch_crunch_with_room(text: &[u8], options: CrunchNumber
     ensures { result ≡ length_code (room_for (crunched_with options text.now)) }
 {
     match word_dialects::dialect_by_number(options.dialect) {
-        Named::Known(known) => base_lent::outcome_code(crunch_image::room(
+        Ok(known) => base_lent::outcome_code(crunch_image::room(
             text,
             library_numbers::crunch_options(options, known),
         )),
-        Named::Refused(refusal) => base_refusals::refusal_code(refusal),
+        Err(refusal) => base_refusals::refusal_code(refusal),
     }
 }
 
@@ -119,14 +118,14 @@ pub extern "C" fn moldthatch_list_with(image: &[u8], options: ListNumbers, out: 
     ensures { record { code = result; buffer = out.new } ≡ told_code (into_buffer (listed_with options image.now) out.old) }
 {
     match word_dialects::dialect_by_number(options.dialect) {
-        Named::Known(known) => {
+        Ok(known) => {
             base_lent::outcome_code(list_image::list_under(
                 image,
                 library_numbers::list_options(options, known),
                 out,
             ))
         }
-        Named::Refused(refusal) => base_refusals::refusal_code(refusal),
+        Err(refusal) => base_refusals::refusal_code(refusal),
     }
 }
 
@@ -136,13 +135,13 @@ pub extern "C" fn moldthatch_list_with_room(image: &[u8], options: ListNumbers) 
     ensures { result ≡ length_code (room_for (listed_with options image.now)) }
 {
     match word_dialects::dialect_by_number(options.dialect) {
-        Named::Known(known) => {
+        Ok(known) => {
             base_lent::outcome_code(list_image::room_under(
                 image,
                 library_numbers::list_options(options, known),
             ))
         }
-        Named::Refused(refusal) => base_refusals::refusal_code(refusal),
+        Err(refusal) => base_refusals::refusal_code(refusal),
     }
 }
 

@@ -15,7 +15,6 @@ use crunch_rules::LineMeasured;
 use image_find::Sought;
 use image_readers::{Line, Step, links, terminators};
 use library_numbers::{CrunchNumbers, crunch_options};
-use word_dialects::Named;
 
 // A line, where `found` is 1: its link and number, its address in memory, the offsets of its body and of what follows it. The code is 0, with
 // what is told beside the line, or why there is none.
@@ -66,10 +65,10 @@ pub extern "C" fn moldthatch_measured_line(
     ensures { result ≡ measured_code (measured_with options place text.now) }
 {
     match word_dialects::dialect_by_number(options.dialect) {
-        Named::Known(known) => {
+        Ok(known) => {
             measured_code(crunch_image::measured_line(text, crunch_options(options, known), place))
         }
-        Named::Refused(refusal) => refused_line(refusal),
+        Err(refusal) => refused_line(refusal),
     }
 }
 

@@ -7,7 +7,6 @@ ghost use Rattle.moldthatch.specs.ToldStretch.{stretch_place, place_numbers, str
 use base_refusals::{Code, Refusal};
 use library_numbers::{ListNumbers, list_options};
 use list_stretches::{Place, Stretch};
-use word_dialects::Named;
 
 // What is left of a line: of kind 0 all of it, with its number; of kind 1 its body from a place on, in a mode, and the line's end; of any
 // other kind nothing. A mode is 1 in quotes, 2 in a remark, 3 in DATA, 4 in quotes there, and any other number in none of them.
@@ -39,13 +38,13 @@ pub extern "C" fn moldthatch_list_stretch(
     ensures { record { told = result; buffer = out.new } ≡ stretched_with options body.now place out.old }
 {
     match word_dialects::dialect_by_number(options.dialect) {
-        Named::Known(known) => stretch_code(list_stretches::list_stretch(
+        Ok(known) => stretch_code(list_stretches::list_stretch(
             body,
             list_options(options, known),
             place_of(place),
             out,
         )),
-        Named::Refused(refusal) => refused_stretch(refusal, place),
+        Err(refusal) => refused_stretch(refusal, place),
     }
 }
 

@@ -3,17 +3,17 @@
 -- Assumes nothing.
 use Rattle.std.specs.Prelude.{ℕ, ◌+◌, List, ◌∷◌, ◌++◌, take, drop}
 use Rattle.base_ascii.specs.Search.{equals, last}
-use Rattle.base_ascii.specs.declared.search.Found.TheVariants.{At, Nowhere}
 use Rattle.word_search.specs.Spelling.{bytes_of}
+use Rattle.std.specs.Prelude.{Some, None}
 
 -- what stands behind a word's last mark, or before it; the word where it has none
 unfoldable pub behind_last : ℕ → List ℕ → List ℕ
 unfolding last
-behind_last mark word = elim (last (equals mark) word) [ At n ↦ drop (n + 1) word | Nowhere ↦ word ]
+behind_last mark word = elim (last (equals mark) word) [ Some n ↦ drop (n + 1) word | None ↦ word ]
 
 unfoldable pub before_last : ℕ → List ℕ → List ℕ
 unfolding last
-before_last mark word = elim (last (equals mark) word) [ At n ↦ take n word | Nowhere ↦ word ]
+before_last mark word = elim (last (equals mark) word) [ Some n ↦ take n word | None ↦ word ]
 
 -- without its folder, and without what stands from its last dot on
 unfoldable pub plain_name : List ℕ → List ℕ

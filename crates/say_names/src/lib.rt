@@ -6,7 +6,7 @@ ghost use Rattle.say_put.specs.Clipped.{Clipped};
 ghost use Rattle.say_names.specs.Names.{behind_last, before_last, plain_name, listing_name};
 
 use base_ascii::search;
-use base_ascii::search::{Found, Kind};
+use base_ascii::search::Kind;
 use say_put::put_text;
 
 // What stands behind a place.
@@ -23,8 +23,8 @@ pub fn behind_last(word: &[u8], mark: u8) -> &[u8]
     ensures { result.now ≡ behind_last mark word.now }
 {
     match search::last(word, Kind::Is(mark)) {
-        Found::At(n) => behind(word, n),
-        Found::Nowhere => word,
+        Some(n) => behind(word, n),
+        None => word,
     }
 }
 
@@ -33,8 +33,8 @@ pub fn before_last(word: &[u8], mark: u8) -> &[u8]
     ensures { result.now ≡ before_last mark word.now }
 {
     match search::last(word, Kind::Is(mark)) {
-        Found::At(n) => &word[..n],
-        Found::Nowhere => word,
+        Some(n) => &word[..n],
+        None => word,
     }
 }
 

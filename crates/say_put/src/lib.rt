@@ -10,7 +10,6 @@ ghost use Rattle.say_put.specs.Clipped.{Clipped};
 ghost use Rattle.say_put.specs.Rows.{filled, row_text};
 ghost use Rattle.say_put.specs.SpeltHelpers.{Spelt};
 
-use base_lent::Outcome;
 use base_refusals::Refusal;
 
 pub fn put_text(out: &mut [u8], at: usize, text: &[u8]) -> usize
@@ -102,14 +101,14 @@ pub fn fill(
 }
 
 // A whole text in a lent buffer, from its start on; where there is no room, the buffer is as it was.
-pub fn lend_text(text: &[u8], out: &mut [u8]) -> Outcome
+pub fn lend_text(text: &[u8], out: &mut [u8]) -> Result<usize, Refusal>
     ensures { left result out.new ≡ into_buffer (done text.now) out.old }
 {
     let needed = text.len();
     if out.len() < needed {
-        return Outcome::Refused(Refusal::NoRoom { needed });
+        return Err(Refusal::NoRoom { needed });
     }
-    Outcome::Done(put_text(out, 0, text))
+    Ok(put_text(out, 0, text))
 }
 
 // The same of a row with three numbers for its marks, behind the words that stand in front of it.
@@ -120,7 +119,7 @@ pub fn lend_row(
     second: usize,
     third: usize,
     out: &mut [u8],
-) -> Outcome
+) -> Result<usize, Refusal>
     requires { (length front.now ≤ 4352) × (length row.now ≤ 128) }
     ensures { left result out.new ≡ into_buffer (done (row_text front.now row.now first second third)) out.old }
 {

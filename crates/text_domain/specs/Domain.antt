@@ -5,8 +5,8 @@ use Rattle.std.specs.Prelude.{ℕ, suc, Bool, true, false, ◌&&◌, List, [], �
 use Rattle.base_ascii.specs.Search.{starts_with}
 use Rattle.base_refusals.specs.Numbers.{text_too_long, bad_byte}
 use Rattle.base_refusals.specs.Answer.{Answer, done, refused, numbered}
-use Rattle.text_domain.specs.declared.TextCheck.{TextCheck}
-use Rattle.text_domain.specs.declared.TextCheck.TheVariants.{Fine, Refused}
+use Rattle.std.specs.Prelude.{Result, Ok, Err}
+use Rattle.base_refusals.specs.declared.Refusal.{Refusal}
 
 -- the text begins with the pair CF 80
 unfoldable pub is_pi : List ℕ → Bool
@@ -31,6 +31,6 @@ checked_text t =
     ]
 
 -- the case of the enum, with document 01's number and values
-abbrev pub text_check_answer : TextCheck → Answer (Unit {0})
-text_check_answer Fine = done tt
-text_check_answer (Refused r) = refused (numbered r)
+abbrev pub text_check_answer : Result (Unit {0}) Refusal → Answer (Unit {0})
+text_check_answer (Ok tt) = done tt
+text_check_answer (Err r) = refused (numbered r)

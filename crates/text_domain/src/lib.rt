@@ -12,13 +12,6 @@ use base_refusals::Refusal;
 
 mod eights;
 
-// What a check of a text answers.
-#[derive(Clone, Copy)]
-pub enum TextCheck {
-    Fine,
-    Refused(Refusal),
-}
-
 // Whether a text begins with the letter pi.
 fn is_pi(text: &[u8]) -> bool
     ensures { result ≡ is_pi text.now }
@@ -62,15 +55,15 @@ fn domain_length(text: &[u8]) -> usize
 }
 
 // Whether a text is one that is taken: not too long, and each byte in the domain.
-pub fn check_text(text: &[u8]) -> TextCheck
+pub fn check_text(text: &[u8]) -> Result<(), Refusal>
     ensures { text_check_answer result ≡ checked_text text.now }
 {
     if text.len() > 1048576 {
-        return TextCheck::Refused(Refusal::TextTooLong { length: text.len() });
+        return Err(Refusal::TextTooLong { length: text.len() });
     }
     let fine = domain_length(text);
     if fine < text.len() {
-        return TextCheck::Refused(Refusal::BadByte { offset: fine });
+        return Err(Refusal::BadByte { offset: fine });
     }
-    TextCheck::Fine
+    Ok(())
 }

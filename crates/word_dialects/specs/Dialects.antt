@@ -12,8 +12,8 @@ use Rattle.base_refusals.specs.Answer.{Answer, done, refused, numbered}
 use Rattle.word_search.specs.Spelling.{◌means◌}
 use Rattle.word_dialects.specs.declared.Dialect.{Dialect}
 use Rattle.word_dialects.specs.declared.Dialect.TheVariants.{Auto, BasicV2, Tsb, Basic35}
-use Rattle.word_dialects.specs.declared.Named.{Named}
-use Rattle.word_dialects.specs.declared.Named.TheVariants.{Known, Refused}
+use Rattle.std.specs.Prelude.{Result, Ok, Err}
+use Rattle.base_refusals.specs.declared.Refusal.{Refusal}
 
 -- the dialect of a number: there are four
 unfoldable pub by_number : ℕ → Answer Dialect
@@ -47,9 +47,9 @@ unfolding dialect_names meaning trim
 named w = cond (leb (length w) 64 && is_ascii w) (dialect_found (meaning dialect_names (trim w))) (refused unknown_dialect)
 
 -- the enum's cases as document 01 numbers them
-abbrev pub named_answer : Named → Answer Dialect
-named_answer (Known d) = done d
-named_answer (Refused r) = refused (numbered r)
+abbrev pub named_answer : Result Dialect Refusal → Answer Dialect
+named_answer (Ok d) = done d
+named_answer (Err r) = refused (numbered r)
 
 abbrev pub is_basic35 : Dialect → Bool
 is_basic35 Auto = false

@@ -19,12 +19,6 @@ pub enum Dialect {
     Basic35,
 }
 
-#[derive(Clone, Copy)]
-pub enum Named {
-    Known(Dialect),
-    Refused(Refusal),
-}
-
 const NAME_BYTES: [u8; 46] = *b"AUTOBASIC2BASICV2V2BASIC-V2TSBSIMONSEXTBASIC35";
 
 const NAME_STARTS: [u16; 10] = [0, 4, 10, 17, 19, 27, 30, 36, 39, 46];
@@ -42,27 +36,27 @@ const NAME_DIALECTS: [Dialect; 9] = [
 ];
 
 // The dialect of a number, as callers in other languages give it.
-pub fn dialect_by_number(number: u8) -> Named
+pub fn dialect_by_number(number: u8) -> Result<Dialect, Refusal>
     ensures { named_answer result ≡ by_number number }
 {
     match number {
-        0 => Named::Known(Dialect::Auto),
-        1 => Named::Known(Dialect::BasicV2),
-        2 => Named::Known(Dialect::Tsb),
-        3 => Named::Known(Dialect::Basic35),
-        _ => Named::Refused(Refusal::UnknownDialect),
+        0 => Ok(Dialect::Auto),
+        1 => Ok(Dialect::BasicV2),
+        2 => Ok(Dialect::Tsb),
+        3 => Ok(Dialect::Basic35),
+        _ => Err(Refusal::UnknownDialect),
     }
 }
 
 // The dialect that a word names: trimmed, without regard to case.
-pub fn dialect_by_name(word: &[u8]) -> Named
+pub fn dialect_by_name(word: &[u8]) -> Result<Dialect, Refusal>
     ensures { named_answer result ≡ named word.now }
 {
     if word.len() > 64 {
-        return Named::Refused(Refusal::UnknownDialect);
+        return Err(Refusal::UnknownDialect);
     }
     if !base_ascii::is_ascii(word) {
-        return Named::Refused(Refusal::UnknownDialect);
+        return Err(Refusal::UnknownDialect);
     }
     let name = base_ascii::trim(word);
     let k = word_search::first_passing(
@@ -74,9 +68,9 @@ pub fn dialect_by_name(word: &[u8]) -> Named
         0,
     );
     if k < 9 {
-        return Named::Known(NAME_DIALECTS[k]);
+        return Ok(NAME_DIALECTS[k]);
     }
-    Named::Refused(Refusal::UnknownDialect)
+    Err(Refusal::UnknownDialect)
 }
 
 pub fn is_basic35(dialect: Dialect) -> bool

@@ -4,8 +4,6 @@ use Rattle.base_ascii.specs.Search.{of_kind, last}
 use Rattle.base_ascii.proofs.Searching.{Backward}
 use Rattle.base_ascii.proofs.search.last.Given as goal
 
-abbrev pub invariant-loop-e : goal.invariant-loop-e
-invariant-loop-e l = Backward (last (of_kind l.kind)) l.s l.e
+abbrev pub invariant-loop-i : goal.invariant-loop-i
+invariant-loop-i l = Backward (last (of_kind l.kind)) l.s l.i
 
-abbrev pub decreases-loop-e : goal.decreases-loop-e
-decreases-loop-e l = l.e

@@ -1,16 +1,18 @@
 -- `base_ascii::search::solid` meets its contract.
 -- Assumes nothing.
-use Rattle.base_ascii.proofs.Searching.{backward_start, end_turn, end_found, end_end}
+use Rattle.std.proofs.Common.{rules, tests, ◌∙◌, ◌≡◌, ap, ◌-◌, length, reverse}
+use Rattle.std.specs.List.{prefix_len}
+use Rattle.std.proofs.lemmas.Iterator.Adapters.{YieldsList-from_rev_slice}
+use Rattle.std.proofs.lemmas.Iterator.Consumers.{count_from_yields_List}
+use Rattle.std.proofs.lemmas.Iterator.Search.{YieldsList-from_take_while}
+use Rattle.std.proofs.lemmas.List.Folds.{length-prefix_len}
+use Rattle.base_ascii.specs.Search.{of_kind}
+use Rattle.base_ascii.proofs.Searching.{end_counted}
 use Rattle.base_ascii.proofs.search.solid.Goals as goal
 
-pub loop-e-init : goal.loop-e-init
-loop-e-init c = search backward_start
-
-pub returns-then-not-is_kind : goal.returns-then-not-is_kind
-returns-then-not-is_kind c = search end_found
-
-pub loop-e-preserved : goal.loop-e-preserved
-loop-e-preserved c = search end_turn
-
 pub returns : goal.returns
-returns c = search end_end
+returns c =
+    let counted : c.count.result ≡ prefix_len (of_kind c.args.kind) (reverse c.args.s.now) = count_from_yields_List c.take_while.result _ c.count.ensures.ran
+        (YieldsList-from_take_while _ (of_kind c.args.kind) (YieldsList-from_rev_slice c.args.s.now (cc)) c.take_while.ensures.closure c.take_while.ensures.done (λ x b q k. search (rules, tests)))
+        ∙ length-prefix_len (of_kind c.args.kind) (reverse c.args.s.now) in
+    ap (λ n. length c.args.s.now - n) counted ∙ end_counted (of_kind c.args.kind) c.args.s.now
