@@ -6,16 +6,16 @@ use mathlib.Core.List.{List}
 use native.Mathlib.Omega.{arith}
 use lib.ListN.{length}
 use borrow.Author.Tests.{le-leb, lt-leb}
-use Rattle.base_refusals.specs.Answer.{Answer, done, refused}
+use Rattle.base_refusals.specs.Answer.{Answer, done, refused, answered}
 use Rattle.base_refusals.specs.Numbers.{Numbered, no_room}
-use Rattle.base_lent.specs.Lent.{Lent, into_buffer, room_for, outcome_answer}
+use Rattle.base_lent.specs.Lent.{Lent, into_buffer, room_for}
 use Rattle.base_lent.specs.Stores.{Put, HasRoom}
 use Rattle.std.specs.Prelude.{Result}
 use Rattle.base_refusals.specs.declared.Refusal.{Refusal}
 
 -- what an outcome is known to be, its answer is
-pub told_outcome : {r x : (Result ℕ Refusal)} {a : Answer ℕ} → r ≡ x → outcome_answer r ≡ a → outcome_answer x ≡ a
-told_outcome d e = ap outcome_answer (sym d) ∙ e
+pub told_outcome : {r x : (Result ℕ Refusal)} {a : Answer ℕ} → r ≡ x → answered r ≡ a → answered x ≡ a
+told_outcome d e = ap answered (sym d) ∙ e
 
 module _ (buffer : List ℕ) where
   pub has_room : (a : Answer (List ℕ)) {n : ℕ} → done n ≡ room_for a → n ≤ length buffer → HasRoom buffer a

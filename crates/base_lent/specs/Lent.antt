@@ -1,11 +1,10 @@
 -- A result that goes into a lent buffer (document 01, "Numbers of refusal": "A refusal changes nothing lent. A success returns the
 -- length and changes only that many bytes at the buffer's start"; 6 is "given exactly when the text has an image and the buffer is shorter").
 -- Assumes nothing.
-use Rattle.std.specs.Prelude.{ℕ, cond, List, leb, length}
+use Rattle.std.specs.Prelude.{ℕ, cond, List, leb, length, Result}
 use Rattle.std.proofs.lemmas.List.Edits.{sets}
 use Rattle.base_refusals.specs.Numbers.{no_room}
-use Rattle.base_refusals.specs.Answer.{Answer, done, refused, map_done, numbered}
-use Rattle.std.specs.Prelude.{Result, Ok, Err}
+use Rattle.base_refusals.specs.Answer.{Answer, done, refused, map_done, answered}
 use Rattle.base_refusals.specs.declared.Refusal.{Refusal}
 
 -- what a call answers, and what the buffer that it was lent holds then
@@ -25,11 +24,6 @@ into_buffer (refused n) buffer = record { answer = refused n; buffer = buffer }
 abbrev pub room_for : Answer (List ℕ) → Answer ℕ
 room_for = map_done length
 
--- the enum's cases as document 01 numbers them
-abbrev pub outcome_answer : Result ℕ Refusal → Answer ℕ
-outcome_answer (Ok length) = done length
-outcome_answer (Err r) = refused (numbered r)
-
--- an outcome, and the buffer as it was left
+-- a call's result, and the buffer as it was left
 abbrev pub left : Result ℕ Refusal → List ℕ → Lent
-left r buffer = record { answer = outcome_answer r; buffer = buffer }
+left r buffer = record { answer = answered r; buffer = buffer }

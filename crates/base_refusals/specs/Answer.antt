@@ -1,5 +1,6 @@
 -- What a call answers: a result, or a refusal with document 01's number and values.
 -- Assumes nothing.
+use Rattle.std.specs.Prelude.{Result, Ok, Err}
 use Rattle.base_refusals.specs.Numbers.{Numbered, text_too_long, bad_byte, missing_line_number, line_number_out_of_range, address_overflow, no_room, image_too_long, too_short, unexpected_eof, missing_end, link_backward, link_outside, link_no_end, unknown_dialect, line_number_too_high, not_ascending, zero_in_body, body_length, bad_disk, bad_name, name_taken, no_such_file, directory_full, disk_full, too_many_images, too_many_lines, target_too_high}
 use Rattle.base_refusals.specs.declared.Refusal.{Refusal}
 use Rattle.base_refusals.specs.declared.Refusal.TheVariants.{TextTooLong, BadByte, MissingLineNumber, LineNumberOutOfRange, AddressOverflow, NoRoom, ImageTooLong, TooShort, UnexpectedEof, MissingEnd, LinkBackward, LinkOutside, LinkNoEnd, UnknownDialect, NumberTooHigh, NotAscending, ZeroInBody, BodyLength, BadDisk, BadName, NameTaken, NoSuchFile, DirectoryFull, DiskFull, TooManyImages, TooManyLines, TargetTooHigh}
@@ -37,6 +38,11 @@ numbered DiskFull = disk_full
 numbered TooManyImages = too_many_images
 numbered TooManyLines = too_many_lines
 numbered TargetTooHigh = target_too_high
+
+-- what a call's Result says
+abbrev pub answered : {A : Type 0} → Result A Refusal → Answer A
+answered (Ok a) = done a
+answered (Err r) = refused (numbered r)
 
 -- the same refusal, or the result taken further
 abbrev pub map_done : {A B : Type 0} → (A → B) → Answer A → Answer B

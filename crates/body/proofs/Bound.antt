@@ -65,7 +65,7 @@ live_long : (s : Sets) (t : List ℕ) {i u k : ℕ} → live_word s tsb_words t 
 unfolding live_word among_in
 live_long s t {i} {u} {k} e = go (among_in (is_demoted s) tsb_words t) e
   where
-    go : (d : Match) → elim d [ Word j v c ↦ Nothing | Nothing ↦ among_in (is_live s) tsb_words t ] ≡ Word i u k → 2 ≤ u
+    go : (d : Option Match) → elim d [ Word j v c ↦ Nothing | Nothing ↦ among_in (is_live s) tsb_words t ] ≡ Word i u k → 2 ≤ u
     go (Word j v c) q = let z : ◌≡◌ {A = ℕ} 0 1 = cc in absurd (omega arith)
     go Nothing q = found_long _ tsb_words 0 tsb_long q
 
@@ -78,7 +78,7 @@ by_test : (r : Bool) (x y : Move) → Narrow x → Narrow y → Narrow (elim r [
 by_test true x y f g = f
 by_test false x y f g = g
 
-by_match : (m : Match) (x : ℕ → ℕ → Move) (y : Move) → ((i u k : ℕ) → m ≡ Word i u k → Narrow (x u k)) → Narrow y
+by_match : (m : Option Match) (x : ℕ → ℕ → Move) (y : Move) → ((i u k : ℕ) → m ≡ Word i u k → Narrow (x u k)) → Narrow y
     → Narrow (elim m [ Word i u k ↦ x u k | Nothing ↦ y ])
 by_match (Word i u k) x y f g = f i u k refl
 by_match Nothing x y f g = g
@@ -167,7 +167,7 @@ unstarred s e h = go (dec_le close star)
         let low : length (drop star s) ≤ before (equals 0x7D) (drop star s) = ltb-false _ _ e in
         absurd (omega (arith, low, length-drop star s, front_drop (other (equals 0x7D)) star s (omega arith)))
 
-escaped_narrow : (n : ℕ) (x : Escape) → Often 1 x → Narrow (escaped n x)
+escaped_narrow : (n : ℕ) (x : Option Escape) → Often 1 x → Narrow (escaped n x)
 unfolding escaped
 escaped_narrow n (Byte b count) e = omega (arith, length_written (escaped n (Byte b count)), e)
 escaped_narrow n Unknown e = byte_narrow 0x7B

@@ -37,7 +37,7 @@ by_test : (t : List ℕ) (r : Bool) (x y : Move) → (r ≡ true → Moves t x) 
 by_test t true x y f g = f refl
 by_test t false x y f g = g refl
 
-by_match : (t : List ℕ) (m : Match) (x : ℕ → ℕ → Move) (y : Move) → ((i u k : ℕ) → m ≡ Word i u k → Moves t (x u k)) → (m ≡ Nothing → Moves t y)
+by_match : (t : List ℕ) (m : Option Match) (x : ℕ → ℕ → Move) (y : Move) → ((i u k : ℕ) → m ≡ Word i u k → Moves t (x u k)) → (m ≡ Nothing → Moves t y)
     → Moves t (elim m [ Word i u k ↦ x u k | Nothing ↦ y ])
 by_match t (Word i u k) x y f g = f i u k refl
 by_match t Nothing x y f g = g refl
@@ -83,7 +83,7 @@ module _ (t : List ℕ) (h : 0 < length t) where
   unfolding string_byte
   byte_takes b = by_test t (eqb b 0x22) (one 0x22 Plain) (one (lettered b) String) (λ _. one_takes) (λ _. one_takes)
 
-escape_takes : (b : ℕ) (s : List ℕ) (n : ℕ) → n < length s → (x : Escape) → Moves (b ∷ s) (escaped n x)
+escape_takes : (b : ℕ) (s : List ℕ) (n : ℕ) → n < length s → (x : Option Escape) → Moves (b ∷ s) (escaped n x)
 unfolding escaped
 escape_takes b s n h (Byte c count) = record { more = omega arith; most = omega arith }
 escape_takes b s n h Unknown = byte_takes (b ∷ s) (omega arith) 0x7B

@@ -108,7 +108,7 @@ operator_some : (b : ℕ) → eqb b 0 ≡ false → eqb (plain_byte b) 0 ≡ fal
 unfolding plain_byte word_in some_tokens operators
 operator_some b n = go (word_in operators (b ∷ [])) refl (eqb b 0x3F)
   where
-    go : (w : Match) → word_in operators (b ∷ []) ≡ w → (q : Bool) → eqb (elim w [ Word i u k ↦ k | Nothing ↦ cond q 0x99 b ]) 0 ≡ false
+    go : (w : Option Match) → word_in operators (b ∷ []) ≡ w → (q : Bool) → eqb (elim w [ Word i u k ↦ k | Nothing ↦ cond q 0x99 b ]) 0 ≡ false
     go (Word i u k) e q = found_some (λ n w. passes Begins w (b ∷ [])) operators 0 tt e
     go Nothing e true = refl
     go Nothing e false = n

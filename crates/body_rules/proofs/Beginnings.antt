@@ -145,7 +145,7 @@ module _ (r : Bool) (es : List Entry) (a : T (all_start r es)) (t : List ℕ) wh
     unfolding live_word
     live_takes {i} {u} {token} e = go (among_in (is_demoted s) es t) e
       where
-        go : (d : Match) → elim d [ Word j v c ↦ Nothing | Nothing ↦ among_in (is_live s) es t ] ≡ Word i u token → Takes t u
+        go : (d : Option Match) → elim d [ Word j v c ↦ Nothing | Nothing ↦ among_in (is_live s) es t ] ≡ Word i u token → Takes t u
         go (Word j v c) q = let z : ◌≡◌ {A = ℕ} 0 1 = cc in absurd (omega arith)
         go Nothing q = among_takes (is_live s) q
 

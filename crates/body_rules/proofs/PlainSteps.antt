@@ -79,17 +79,17 @@ module _ (l : Lexicon) (t : List ℕ) {r : Move} where
   plain_quote q e = rw (plain_step, eq-eqb _ _ e) (q ∙ ap (λ (b : ℕ). one b String) e)
 
   -- a letter: m is the live TSB word there, v the V2 word or that of BASIC 3.5
-  module _ {m : Match} where
+  module _ {m : Option Match} where
     pub letter_tsb : {i u k : ℕ} → r ≡ token true k Plain u → m ≡ Word i u k → m ≡ live_word l.sets l.tsb t → is_letter (first t) ≡ true → r ≡ plain_step l t
     unfolding plain_step
     letter_tsb q e p a = rw (plain_step, letter_no_quote _ a, sym p ∙ e) q
 
-    pub letter_plain : {v : Match} {i u k : ℕ} {behind : Mode} → r ≡ token false k behind u → behind ≡ opened k → v ≡ Word i u k → v ≡ plain_word l.sets l.v2 l.basic35 t
+    pub letter_plain : {v : Option Match} {i u k : ℕ} {behind : Mode} → r ≡ token false k behind u → behind ≡ opened k → v ≡ Word i u k → v ≡ plain_word l.sets l.v2 l.basic35 t
         → m ≡ Nothing → m ≡ live_word l.sets l.tsb t → is_letter (first t) ≡ true → r ≡ plain_step l t
     unfolding plain_step
     letter_plain q o e p n live a = rw (plain_step, letter_no_quote _ a, sym live ∙ n, sym p ∙ e, ← o) q
 
-    pub letter_left : {v : Match} → r ≡ form_step l t → v ≡ Nothing → v ≡ plain_word l.sets l.v2 l.basic35 t → m ≡ Nothing → m ≡ live_word l.sets l.tsb t → is_letter (first t) ≡ true → r ≡ plain_step l t
+    pub letter_left : {v : Option Match} → r ≡ form_step l t → v ≡ Nothing → v ≡ plain_word l.sets l.v2 l.basic35 t → m ≡ Nothing → m ≡ live_word l.sets l.tsb t → is_letter (first t) ≡ true → r ≡ plain_step l t
     unfolding plain_step
     letter_left q e p n live a = rw (plain_step, letter_no_quote _ a, sym live ∙ n, sym p ∙ e) q
 
@@ -108,7 +108,7 @@ module _ (l : Lexicon) (t : List ℕ) {r : Move} where
   letter_alone q u e a g = letter_other {m = Nothing} q u refl (rw (form_word, not-true l.sets.forms e)) a g
 
   -- another byte: w is the operator there
-  module _ {w : Match} {x : Bool} where
+  module _ {w : Option Match} {x : Bool} where
     pub other_operator : {i u k : ℕ} → r ≡ token false k Plain u → w ≡ Word i u k → w ≡ word_in l.operators t → x ≡ false → x ≡ is_letter (first t)
         → (first t ≡ 0x22 → ⊥) → T (proper l) → r ≡ plain_step l t
     unfolding plain_step form_step sign_step

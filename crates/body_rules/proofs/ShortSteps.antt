@@ -106,7 +106,7 @@ module _ (s : Sets) (b : ℕ) (u : List ℕ) (p : eqb b 0xCF ≡ false) (n : is_
   unfolding plain_byte
   quote_alone e = plain_quote (lexicon s) (b ∷ u) (ap (λ (c : ℕ). one c String) (rw e)) e
 
-  operator_or_other : (w : Match) → w ≡ word_in operators (b ∷ []) → (b ≡ 0x22 → ⊥)
+  operator_or_other : (w : Option Match) → w ≡ word_in operators (b ∷ []) → (b ≡ 0x22 → ⊥)
       → one (elim w [ Word i v k ↦ k | Nothing ↦ cond (eqb b 0x3F) 0x99 b ]) Plain ≡ plain_step (lexicon s) (b ∷ u)
   operator_or_other (Word i v k) f q =
       let r : Takes (b ∷ []) v = word_takes false operators (operators_start (lexicon s) (document_proper s)) (b ∷ []) (sym f) in
@@ -169,7 +169,7 @@ pub no_operator : (b : ℕ) → is_short Plain b ≡ true → Apart (0x3F ∷ 0x
 unfolding plain_byte
 no_operator b e a = go (word_in operators (b ∷ [])) (none b (own_capital b (plain_known b e).1) a.0)
   where
-    go : (w : Match) → w ≡ Nothing → b ≡ elim w [ Word i v k ↦ k | Nothing ↦ cond (eqb b 0x3F) 0x99 b ]
+    go : (w : Option Match) → w ≡ Nothing → b ≡ elim w [ Word i v k ↦ k | Nothing ↦ cond (eqb b 0x3F) 0x99 b ]
     go w q = rw (q, ne_eqb _ _ a.1)
 
 -- ---- the law

@@ -32,7 +32,7 @@ module _ (b : ℕ) where
   capital_to t e = omega (arith, between_in 65 90 b (sym e ∙ t))
 
 -- an escape, n bytes between braces: the string goes on behind it, whatever byte it gives
-module _ (n : ℕ) {x : Escape} where
+module _ (n : ℕ) {x : Option Escape} where
   pub escaped_known : {b count : ℕ} → x ≡ Byte b count
       → ◌≡◌ {A = Move} (record { prefixed = false; byte = b; count = count; mode = String; used = n + 2 }) (escaped n x)
   unfolding escaped

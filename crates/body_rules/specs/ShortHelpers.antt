@@ -4,7 +4,7 @@
 use Rattle.std.specs.Prelude.{ℕ, Bool, true, false, cond, not, ◌&&◌, ◌||◌, List, [], ◌∷◌, eqb}
 use Rattle.base_ascii.specs.Bytes.{upper, between, is_letter}
 use Rattle.word_search.specs.Find.{word_in}
-use Rattle.word_search.specs.declared.Match.TheVariants.{Word, Nothing}
+use Rattle.std.specs.Prelude.{Option, Some, None}
 use Rattle.word_tables.specs.Rom.{operators}
 use Rattle.body_rules.specs.Lexicon.{Lexicon}
 use Rattle.body_rules.specs.Steps.{first, lettered, plain_step, string_step}
@@ -24,7 +24,7 @@ is_short DataQuote b = true
 -- in plain mode: an operator's token, 99 for ?, or the byte
 unfoldable pub plain_byte : ℕ → ℕ
 unfolding word_in operators
-plain_byte b = elim (word_in operators (b ∷ [])) [ Word i u k ↦ k | Nothing ↦ cond (eqb b 0x3F) 0x99 b ]
+plain_byte b = elim (word_in operators (b ∷ [])) [ Some m ↦ m.token | None ↦ cond (eqb b 0x3F) 0x99 b ]
 
 -- what such a byte gives
 unfoldable pub short_byte : Mode → ℕ → ℕ

@@ -3,11 +3,11 @@
 use Rattle.std.specs.Prelude.{ℕ, ◌+◌, ◌-◌, Bool, true, false, cond, ◌&&◌, List, [], ◌∷◌, length, get_or, take, eqb, ltb}
 use Rattle.base_ascii.specs.Bytes.{between, upper}
 use Rattle.word_search.specs.Find.{word_in}
-use Rattle.word_search.specs.declared.Match.TheVariants.{Word, Nothing}
+use Rattle.std.specs.Prelude.{Option, Some, None}
 use Rattle.escape_bytes.specs.Escape.{escape_of}
 use Rattle.base_ascii.specs.Search.{equals, before}
 use Rattle.escape_bytes.specs.declared.Escape.{Escape}
-use Rattle.escape_bytes.specs.declared.Escape.TheVariants.{Byte, Unknown}
+use Rattle.std.specs.Prelude.{Option, Some, None}
 use Rattle.word_match.specs.Sets.{live_word, plain_word}
 use Rattle.body_short_forms.specs.Forms.{form_word}
 use Rattle.body_rules.specs.Lexicon.{Lexicon}
@@ -45,12 +45,12 @@ other_step t =
 -- an operator, or another byte
 unfoldable pub sign_step : Lexicon → List ℕ → Move
 unfolding word_in other_step
-sign_step l t = elim (word_in l.operators t) [ Word i u k ↦ token false k Plain u | Nothing ↦ other_step t ]
+sign_step l t = elim (word_in l.operators t) [ Some m ↦ token false m.token Plain m.used | None ↦ other_step t ]
 
 -- where no whole word stands: a short form of a V2 word (document 02, No. 7), or one of these
 unfoldable pub form_step : Lexicon → List ℕ → Move
 unfolding form_word opened sign_step
-form_step l t = elim (form_word l.sets l.tsb l.v2 t) [ Word i n k ↦ token false k (opened k) n | Nothing ↦ sign_step l t ]
+form_step l t = elim (form_word l.sets l.tsb l.v2 t) [ Some m ↦ token false m.token (opened m.token) m.used | None ↦ sign_step l t ]
 
 -- first that applies: a quote, a live TSB word, a V2 word or one of BASIC 3.5, a short form of a V2 word, an operator, another byte
 unfoldable pub plain_step : Lexicon → List ℕ → Move
@@ -59,10 +59,10 @@ plain_step l t =
     elim (eqb (first t) 0x22) [
       | true ↦ one 0x22 String
       | false ↦ elim (live_word l.sets l.tsb t) [
-        | Word i u k ↦ token true k Plain u
-        | Nothing ↦ elim (plain_word l.sets l.v2 l.basic35 t) [
-          | Word i u k ↦ token false k (opened k) u
-          | Nothing ↦ form_step l t
+        | Some m ↦ token true m.token Plain m.used
+        | None ↦ elim (plain_word l.sets l.v2 l.basic35 t) [
+          | Some m ↦ token false m.token (opened m.token) m.used
+          | None ↦ form_step l t
         ]
       ]
     ]
@@ -80,10 +80,10 @@ unfolding lettered
 string_byte b = elim (eqb b 0x22) [ true ↦ one 0x22 Plain | false ↦ one (lettered b) String ]
 
 -- a brace, and the escape of the n bytes behind it; where that is unknown the brace is a byte like others
-unfoldable pub escaped : ℕ → Escape → Move
+unfoldable pub escaped : ℕ → Option Escape → Move
 unfolding string_byte
-escaped n (Byte b count) = record { prefixed = false; byte = b; count = count; mode = String; used = n + 2 }
-escaped n Unknown = string_byte 0x7B
+escaped n (Some e) = record { prefixed = false; byte = e.byte; count = e.count; mode = String; used = n + 2 }
+escaped n None = string_byte 0x7B
 
 -- a brace and the text behind it, n bytes of which stand in front of the first closing brace
 unfoldable pub braced : List ℕ → ℕ → Move

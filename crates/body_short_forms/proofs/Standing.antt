@@ -134,7 +134,7 @@ module _ (t : List ℕ) where
 pub cut_count : (t : List ℕ) {m : ℕ} → m ≡ min (length t) 7 → m ≡ length (take m t)
 cut_count t {m} e = sym (length-take-le m t (omega arith))
 
-module _ (t : List ℕ) {m : ℕ} {s : List ℕ} {w : Match} where
+module _ (t : List ℕ) {m : ℕ} {s : List ℕ} {w : Option Match} where
   form_of : m ≡ min (length t) 7 → s ≡ form_letters (take m t) → w ≡ match_in Shortens (capitals v2_words) s → stands_for (length s) w ≡ short_form v2_words t
   unfolding short_form word_for passes
   form_of e q f =
@@ -152,7 +152,7 @@ module _ (s : Sets) (t : List ℕ) where
   unfolding tsb_there
   tsb_off e = rw (tsb_there, not-true s.tsb e)
 
-  module _ {w : Match} where
+  module _ {w : Option Match} where
     pub tsb_word : {i u k : ℕ} → w ≡ Word i u k → w ≡ word_in tsb_words t → not s.tsb ≡ false → true ≡ tsb_there s tsb_words t
     unfolding tsb_there
     tsb_word told e on = rw (tsb_there, not-false s.tsb on, ← e, told)
@@ -170,7 +170,7 @@ module _ (s : Sets) (t : List ℕ) where
     unfolding form_word
     forms_behind told e on = rw (form_word, not-false s.forms on, ← e, told)
 
-    pub forms_on : {w : Match} → w ≡ short_form v2_words t → r ≡ false → r ≡ tsb_there s tsb_words t → not s.forms ≡ false → w ≡ form_word s tsb_words v2_words t
+    pub forms_on : {w : Option Match} → w ≡ short_form v2_words t → r ≡ false → r ≡ tsb_there s tsb_words t → not s.forms ≡ false → w ≡ form_word s tsb_words v2_words t
     unfolding form_word
     forms_on q told e on = rw (form_word, not-false s.forms on, ← e, told) q
 
@@ -217,7 +217,7 @@ form_taken : (es : List Entry) (t : List ℕ) {i u k : ℕ} → short_form es t 
 unfolding short_form word_for
 form_taken es t {i} {u} {k} e = go (form_letters t) (letters_most t) e
   where
-    used : (n : ℕ) (m : Match) → stands_for n m ≡ Word i u k → n ≡ u
+    used : (n : ℕ) (m : Option Match) → stands_for n m ≡ Word i u k → n ≡ u
     used n (Word j v c) q = cc
     used n Nothing q = let z : ◌≡◌ {A = ℕ} 0 1 = cc in absurd (omega arith)
 

@@ -14,7 +14,7 @@ use Rattle.word_tables.specs.Tsb.{tsb_words}
 use Rattle.body_short_forms.specs.Forms.{short_form, form_word}
 
 infix 60 ◌is_short_for◌
-abbrev ◌is_short_for◌ : String → Match → Type 0
+abbrev ◌is_short_for◌ : String → Option Match → Type 0
 text is_short_for word = short_form v2_words (bytes_of text) ≡ word
 
 stands-table :

@@ -16,15 +16,15 @@ use word_tables::WordList;
 const LONGEST: usize = 7;
 
 // The V2 word that a short form at the front of the text stands for, if short forms are taken.
-pub fn match_form(text: &[u8], bytes: &[u8], index: &[u16], sets: Sets) -> Match
+pub fn match_form(text: &[u8], bytes: &[u8], index: &[u16], sets: Sets) -> Option<Match>
     requires { SpellsWords bytes.now index.now }
     ensures { result ≡ form_word sets tsb_words v2_words text.now }
 {
     if !sets.forms {
-        return Match::Nothing;
+        return None;
     }
     if tsb_there(text, bytes, index, sets) {
-        return Match::Nothing;
+        return None;
     }
     short_form(text, bytes, index)
 }
@@ -38,33 +38,33 @@ fn tsb_there(text: &[u8], bytes: &[u8], index: &[u16], sets: Sets) -> bool
         return false;
     }
     match word_match::match_tsb(text, bytes, index) {
-        Match::Word {
+        Some(Match {
             index: _,
             used: _,
             token: _,
-        } => true,
-        Match::Nothing => false,
+        }) => true,
+        None => false,
     }
 }
 
 // The same, whatever words are in force. No more letters are looked at than the longest word has.
-pub fn short_form(text: &[u8], bytes: &[u8], index: &[u16]) -> Match
+pub fn short_form(text: &[u8], bytes: &[u8], index: &[u16]) -> Option<Match>
     requires { SpellsWords bytes.now index.now }
     ensures { result ≡ short_form v2_words text.now }
 {
     let to = at_most(text.len());
     let letters = form_letters(&text[..to]);
     match word_match::match_in(WordList::V2, Test::Shortens, letters, bytes, index) {
-        Match::Word {
+        Some(Match {
             index: place,
             used: _,
             token,
-        } => Match::Word {
+        }) => Some(Match {
             index: place,
             used: letters.len(),
             token,
-        },
-        Match::Nothing => Match::Nothing,
+        }),
+        None => None,
     }
 }
 

@@ -104,7 +104,7 @@ module _ (t : List ℕ) {at : ℕ} {w : Span} (s : SpanOf t at w) (e : get_or t 
       let u : length (drop (at + 1) t) ≤ w.close - (at + 1) = omega (arith, length-drop (at + 1) t) in
       q ∙ sym (braced_here ∙ rw (braced, le-ltb _ _ u))
 
-  module _ {x : Escape} (p : x ≡ escape_of (drop (at + 1 - w.from) (take (w.close - w.from) (drop w.from t)))) (l : w.close < length t) where
+  module _ {x : Option Escape} (p : x ≡ escape_of (drop (at + 1 - w.from) (take (w.close - w.from) (drop w.from t)))) (l : w.close < length t) where
     escaped_here : escaped (w.close - (at + 1)) x ≡ string_step (drop at t)
     unfolding braced
     escaped_here =

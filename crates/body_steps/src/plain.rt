@@ -17,29 +17,29 @@ pub fn letter_step(rest: &[u8], bytes: &[u8], index: &[u16], sets: Sets) -> Move
     ensures { result ≡ plain_step (lexicon sets) rest.now }
 {
     match live_word(rest, bytes, index, sets) {
-        Match::Word {
+        Some(Match {
             index: _,
             used,
             token,
-        } => body_rules::token(true, token, Mode::Plain, used),
-        Match::Nothing => match word_match::match_plain(rest, bytes, index, sets) {
-            Match::Word {
+        }) => body_rules::token(true, token, Mode::Plain, used),
+        None => match word_match::match_plain(rest, bytes, index, sets) {
+            Some(Match {
                 index: _,
                 used,
                 token,
-            } => body_rules::token(false, token, body_rules::opened(token), used),
-            Match::Nothing => form_step(rest, bytes, index, sets),
+            }) => body_rules::token(false, token, body_rules::opened(token), used),
+            None => form_step(rest, bytes, index, sets),
         },
     }
 }
 
 // The live TSB word there. Looking a word up copies the sets, so nothing is looked up where no TSB word is live.
-fn live_word(rest: &[u8], bytes: &[u8], index: &[u16], sets: Sets) -> Match
+fn live_word(rest: &[u8], bytes: &[u8], index: &[u16], sets: Sets) -> Option<Match>
     requires { SpellsWords bytes.now index.now }
     ensures { result ≡ live_word sets tsb_words rest.now }
 {
     if !sets.tsb {
-        return Match::Nothing;
+        return None;
     }
     word_match::match_live(rest, bytes, index, sets)
 }
@@ -53,12 +53,12 @@ fn form_step(rest: &[u8], bytes: &[u8], index: &[u16], sets: Sets) -> Move
         return body_rules::one(base_ascii::upper(rest[0]), Mode::Plain);
     }
     match body_short_forms::match_form(rest, bytes, index, sets) {
-        Match::Word {
+        Some(Match {
             index: _,
             used,
             token,
-        } => body_rules::token(false, token, body_rules::opened(token), used),
-        Match::Nothing => body_rules::one(base_ascii::upper(rest[0]), Mode::Plain),
+        }) => body_rules::token(false, token, body_rules::opened(token), used),
+        None => body_rules::one(base_ascii::upper(rest[0]), Mode::Plain),
     }
 }
 

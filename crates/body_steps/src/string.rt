@@ -63,13 +63,13 @@ pub fn brace_step(text: &[u8], at: usize, span: Span, bytes: &[u8], index: &[u16
     }
     let tail = span.tail;
     match escapes::escape_from(&text[from..close], at + 1 - from, tail, bytes, index) {
-        Escape::Byte { byte, count } => Move {
+        Some(Escape { byte, count }) => Move {
             prefixed: false,
             byte,
             count,
             mode: Mode::String,
             used: close + 1 - at,
         },
-        Escape::Unknown => body_rules::one(0x7B, Mode::String),
+        None => body_rules::one(0x7B, Mode::String),
     }
 }

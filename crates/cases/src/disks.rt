@@ -2,7 +2,7 @@
 ghost use Rattle.std.specs.Prelude.{◌≤◌, length};
 
 use base_refusals::Refusal;
-use disk_rules::DiskCheck;
+use disk_rules::Holding;
 use judge_frames::{Answer, rooms};
 
 // Where the name ends that bytes begin with, behind its length; beyond bytes that are too short for one.
@@ -127,11 +127,11 @@ fn send_read(outcome: Result<usize, Refusal>, room: &[u8], disk: &[u8]) -> bool 
 
 pub fn check(disk: &[u8]) -> bool {
     match disk::check(disk) {
-        DiskCheck::Holds { files, free } => Answer::done()
+        Ok(Holding { files, free }) => Answer::done()
             .number(files)
             .number(free)
             .send_with(disk),
-        DiskCheck::Refused(refusal) => Answer::refused(refusal).send_with(disk),
+        Err(refusal) => Answer::refused(refusal).send_with(disk),
     }
 }
 

@@ -5,15 +5,15 @@ use mathlib.Core.Path.{◌≡◌, refl, ap, ◌∙◌}
 use mathlib.Core.List.{List, [], ◌∷◌, flat_map}
 use native.Mathlib.Omega.{arith}
 use Rattle.base_refusals.specs.Numbers.{Numbered}
-use Rattle.base_refusals.specs.Answer.{Answer, done, refused, map_done, numbered}
+use Rattle.base_refusals.specs.Answer.{Answer, done, refused, map_done, numbered, answered}
 use Rattle.base_refusals.specs.declared.Refusal.{Refusal}
 use Rattle.image_readers.specs.declared.By.TheVariants.{Terminators}
 use Rattle.image_readers.specs.declared.Checked.{Checked}
 use Rattle.image_readers.specs.declared.Checked.TheVariants.{Image, Refused}
-use Rattle.image_readers.specs.Answers.{checked_answer}
 use Rattle.image_readers.specs.Bodies.{bodies_from}
 use Rattle.image_readers.specs.NumberedBody.{NumberedBody}
-use Rattle.image_readers.specs.Lines.{Overview, overview_of, overview}
+use Rattle.image_readers.specs.Lines.{overview_of, overview}
+use Rattle.image_readers.specs.declared.Overview.{Overview}
 use Rattle.image_readers.specs.Readers.{step_by}
 use Rattle.image_readers.proofs.Finding.{told_checked}
 use Rattle.image_readers.proofs.Reading.{overview_bodies}
@@ -56,7 +56,7 @@ module _ (image : List ℕ) where
       go (done bs) f = let z : ◌≡◌ {A = ℕ} 0 1 = cc (overview_by f, e) in absurd (omega arith)
       go (refused m) f = ap (map_done _) f ∙ ap refused (cc (overview_by f, e))
 
-module _ (t image : List ℕ) {one two : List ℕ} {r : Checked} (e : one ≡ added t (tally (0xCC ∷ []))) (d : checked_answer r ≡ overview (step_by Terminators) image) where
+module _ (t image : List ℕ) {one two : List ℕ} {r : Checked} (e : one ≡ added t (tally (0xCC ∷ []))) (d : answered r ≡ overview (step_by Terminators) image) where
   pub image_counted : {load lines : ℕ} → r ≡ Image load lines → Tallied (tokens_in image) one two
       → ◌≡◌ {A = Kept} (record { answer = done counted; totals = two }) (with_marks t (tokens_in image))
   image_counted is s =

@@ -14,7 +14,7 @@ ghost use Rattle.count_images.specs.Carried.{carried, with_marks, with_image, jo
 use crate::tallies::{count_image, raise};
 use base_refusals::Refusal;
 use count_totals::{MOST_IMAGES, REFUSED, TAKEN, are_totals};
-use image_readers::{By, Checked};
+use image_readers::By;
 
 mod tallies;
 
@@ -93,11 +93,11 @@ fn take_image(totals: &mut [u64], image: &[u8]) -> Carried
 {
     raise(totals, TAKEN);
     match image_readers::check_by(image, By::Terminators) {
-        Checked::Image { load: _, lines: _ } => {
+        Ok(_) => {
             count_image(totals, image);
             Carried::Taken
         }
-        Checked::Refused(refusal) => {
+        Err(refusal) => {
             raise(totals, REFUSED);
             Carried::Apart(refusal)
         }

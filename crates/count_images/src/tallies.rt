@@ -6,7 +6,7 @@ ghost use Rattle.count_images.specs.Tallies.{tally, added};
 ghost use Rattle.count_images.specs.TallyHelpers.{Raisable, Tallied};
 
 use count_totals::TAKEN;
-use image_readers::{By, Step};
+use image_readers::By;
 use image_units::{Mode, Unit};
 
 // Counts the tokens of an image that reading accepts.
@@ -30,17 +30,17 @@ fn count_lines(totals: &mut [u64], bytes: &[u8], starts: &[u16], image: &[u8])
     let mut offset: usize = 2;
     loop {
         match image_readers::step_by(image, offset, By::Terminators) {
-            Step::Found(line) => {
+            Ok(Some(line)) => {
                 let from = line.from;
                 let to = line.to;
                 count_body(totals, bytes, starts, &image[from..to]);
                 offset = line.next;
             }
-            Step::End => {
+            Ok(None) => {
                 return;
             }
             // An image that is accepted is refused nowhere.
-            Step::Refused(_) => {
+            Err(_) => {
                 return;
             }
         }

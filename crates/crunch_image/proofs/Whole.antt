@@ -6,7 +6,7 @@ use mathlib.Core.Bool.{Bool, true, false}
 use mathlib.Core.List.{List}
 use native.Mathlib.Omega.{arith}
 use lib.ListN.{length}
-use Rattle.base_refusals.specs.Answer.{Answer, done, refused, map_done, and_then}
+use Rattle.base_refusals.specs.Answer.{Answer, done, refused, map_done, and_then, answered}
 use Rattle.base_refusals.specs.declared.Refusal.{Refusal}
 use Rattle.base_refusals.specs.declared.Refusal.TheVariants.{NoRoom}
 use Rattle.base_lent.specs.Lent.{into_buffer, room_for, left}
@@ -15,7 +15,7 @@ use Rattle.base_lent.proofs.Outcomes.{told_outcome, has_room, into_refused, into
 use Rattle.word_match.specs.Sets.{with_forms}
 use Rattle.word_match.specs.declared.sets.Sets.{Sets}
 use Rattle.text_lines.specs.declared.LineRule.TheVariants.{AfterCr}
-use Rattle.text_domain.specs.Domain.{checked_text, text_check_answer}
+use Rattle.text_domain.specs.Domain.{checked_text}
 use Rattle.text_lines.specs.TextLines.{text_lines}
 use Rattle.guess.specs.Guess.{word_sets}
 use Rattle.body_rules.specs.Lexicon.{Lexicon, lexicon}
@@ -40,11 +40,11 @@ mapped_twice f g (refused n) = refl
 
 module _ (o : Options) (place : ℕ) (text : List ℕ) where
   -- the lines of the text, by what its bytes are
-  lines_by : {c x : (Result (Unit {0}) Refusal)} → c ≡ x → text_check_answer c ≡ checked_text text
-      → and_then (text_check_answer x) (λ _. crunch_lines o.profile (text_lexicon o text) 1 0 o.load (text_lines AfterCr text)) ≡ crunched_lines o text
+  lines_by : {c x : (Result (Unit {0}) Refusal)} → c ≡ x → answered c ≡ checked_text text
+      → and_then (answered x) (λ _. crunch_lines o.profile (text_lexicon o text) 1 0 o.load (text_lines AfterCr text)) ≡ crunched_lines o text
   unfolding crunched_lines
   lines_by told is =
-      ap (λ (a : Answer (Unit {0})). and_then a (λ _. crunch_lines o.profile (text_lexicon o text) 1 0 o.load (text_lines AfterCr text))) (ap text_check_answer (sym told) ∙ is)
+      ap (λ (a : Answer (Unit {0})). and_then a (λ _. crunch_lines o.profile (text_lexicon o text) 1 0 o.load (text_lines AfterCr text))) (ap answered (sym told) ∙ is)
 
   image_by : {a : Answer (List NumberedBody)} → a ≡ crunched_lines o text → map_done (image_of o.load) a ≡ crunched o text
   unfolding crunched
@@ -57,28 +57,28 @@ module _ (o : Options) (place : ℕ) (text : List ℕ) where
       ∙ ap (λ (x : Answer (List NumberedBody)). map_done (entry_from place 1) (map_done (λ ls. with_text_lines (lines_at o.load 2 ls) (nonblank_lines text)) x)) e
 
   module _ {c : (Result (Unit {0}) Refusal)} where
-    lines_fine : {sets guessed : Sets} → sets ≡ with_forms o.forms guessed → guessed ≡ word_sets o.dialect text → c ≡ (Ok tt) → text_check_answer c ≡ checked_text text
+    lines_fine : {sets guessed : Sets} → sets ≡ with_forms o.forms guessed → guessed ≡ word_sets o.dialect text → c ≡ (Ok tt) → answered c ≡ checked_text text
         → crunch_lines o.profile (lexicon sets) 1 0 o.load (text_lines AfterCr text) ≡ crunched_lines o text
     lines_fine w s t e =
         ap (λ (x : Sets). crunch_lines o.profile (lexicon x) 1 0 o.load (text_lines AfterCr text)) (w ∙ ap (with_forms o.forms) s) ∙ lines_by t e
 
     pub measured_fine : {sets guessed : Sets} {p : Pass} → PassedAs o.profile (lexicon sets) o.load place text p → sets ≡ with_forms o.forms guessed → guessed ≡ word_sets o.dialect text
-        → c ≡ (Ok tt) → text_check_answer c ≡ checked_text text → MeasuredAs o place text p
+        → c ≡ (Ok tt) → answered c ≡ checked_text text → MeasuredAs o place text p
     unfolding text_image text_placed
     measured_fine r w s t e = record { sized = r.sized ∙ ap room_for (image_by (lines_fine w s t e)); placed = r.placed ∙ placed_by (lines_fine w s t e) }
 
-    pub measured_outside : {x : Refusal} {p : Pass} → p ≡ refused_pass x → c ≡ Err x → text_check_answer c ≡ checked_text text → MeasuredAs o place text p
+    pub measured_outside : {x : Refusal} {p : Pass} → p ≡ refused_pass x → c ≡ Err x → answered c ≡ checked_text text → MeasuredAs o place text p
     measured_outside z t e = rw z (record { sized = ap room_for (image_by (lines_by t e)); placed = placed_by (lines_by t e) })
 
 -- ---- what is stored
 
 module _ (o : Options) (text buffer : List ℕ) {c : (Result (Unit {0}) Refusal)} where
   pub whole_fine : {sets guessed : Sets} (r : Result ℕ Refusal) {after : List ℕ} → left r after ≡ into_buffer (text_image o.profile (lexicon sets) o.load text) buffer
-      → sets ≡ with_forms o.forms guessed → guessed ≡ word_sets o.dialect text → c ≡ (Ok tt) → text_check_answer c ≡ checked_text text → left r after ≡ into_buffer (crunched o text) buffer
+      → sets ≡ with_forms o.forms guessed → guessed ≡ word_sets o.dialect text → c ≡ (Ok tt) → answered c ≡ checked_text text → left r after ≡ into_buffer (crunched o text) buffer
   unfolding text_image
   whole_fine r q w s t e = q ∙ ap (λ (a : Answer (List ℕ)). into_buffer a buffer) (image_by o 0 text (lines_fine o 0 text w s t e))
 
-  pub whole_outside : {x : Refusal} → c ≡ Err x → text_check_answer c ≡ checked_text text → left (Err x) buffer ≡ into_buffer (crunched o text) buffer
+  pub whole_outside : {x : Refusal} → c ≡ Err x → answered c ≡ checked_text text → left (Err x) buffer ≡ into_buffer (crunched o text) buffer
   whole_outside t e = into_refused buffer (crunched o text) (ap room_for (image_by o 0 text (lines_by o 0 text t e)))
 
 module _ (words : Lexicon) (load : ℕ) (text buffer : List ℕ) where

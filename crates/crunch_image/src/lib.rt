@@ -2,17 +2,18 @@
 #![tactic(auto)]
 
 ghost use Rattle.std.specs.Prelude.{◌≡◌};
-ghost use Rattle.base_lent.specs.Lent.{into_buffer, room_for, outcome_answer, left};
+ghost use Rattle.base_lent.specs.Lent.{into_buffer, room_for, left};
 ghost use Rattle.word_tables.specs.WordsHelpers.{SpellsWords};
 ghost use Rattle.body_rules.specs.Lexicon.{lexicon};
 ghost use Rattle.crunch_rules.specs.Crunched.{crunched};
-ghost use Rattle.crunch_rules.specs.Measured.{line_measured, line_answer};
+ghost use Rattle.crunch_rules.specs.Measured.{line_measured};
 ghost use Rattle.crunch_rules.specs.PassesHelpers.{text_image};
 ghost use Rattle.crunch_image.specs.CallHelpers.{MeasuredAs};
+ghost use Rattle.base_refusals.specs.Answer.{answered};
 
 use base_refusals::Refusal;
 use crunch_measure::Pass;
-use crunch_rules::{LineMeasured, Options};
+use crunch_rules::{MeasuredLine, Options};
 use guess::resolve;
 use word_match::sets;
 use word_match::sets::Sets;
@@ -35,7 +36,7 @@ pub fn crunch(text: &[u8], options: Options, out: &mut [u8]) -> Result<usize, Re
 
 // The room that the image of a text needs.
 pub fn room(text: &[u8], options: Options) -> Result<usize, Refusal>
-    ensures { outcome_answer result ≡ room_for (crunched options text.now) }
+    ensures { answered result ≡ room_for (crunched options text.now) }
 {
     room_with(
         text,
@@ -46,8 +47,8 @@ pub fn room(text: &[u8], options: Options) -> Result<usize, Refusal>
 }
 
 // The line at a place from 1. The text is measured whole: one that is refused has no line.
-pub fn measured_line(text: &[u8], options: Options, place: usize) -> LineMeasured
-    ensures { line_answer result ≡ line_measured options place text.now }
+pub fn measured_line(text: &[u8], options: Options, place: usize) -> Result<Option<MeasuredLine>, Refusal>
+    ensures { answered result ≡ line_measured options place text.now }
 {
     line_with(
         text,
@@ -61,7 +62,7 @@ pub fn measured_line(text: &[u8], options: Options, place: usize) -> LineMeasure
 // The room, and the line below, with the tables lent.
 fn room_with(text: &[u8], options: Options, bytes: &[u8], index: &[u16]) -> Result<usize, Refusal>
     requires { SpellsWords bytes.now index.now }
-    ensures { outcome_answer result ≡ room_for (crunched options text.now) }
+    ensures { answered result ≡ room_for (crunched options text.now) }
 {
     let m = measured(text, options, 0, bytes, index);
     let room = m.room;
@@ -74,9 +75,9 @@ fn line_with(
     place: usize,
     bytes: &[u8],
     index: &[u16],
-) -> LineMeasured
+) -> Result<Option<MeasuredLine>, Refusal>
     requires { SpellsWords bytes.now index.now }
-    ensures { line_answer result ≡ line_measured options place text.now }
+    ensures { answered result ≡ line_measured options place text.now }
 {
     let m = measured(text, options, place, bytes, index);
     let line = m.line;

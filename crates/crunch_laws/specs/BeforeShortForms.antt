@@ -5,7 +5,7 @@ use Rattle.std.specs.Prelude.{ℕ, suc, Bool, true, false, cond, List, [], ◌�
 use Rattle.base_steps.specs.Again.{again}
 use Rattle.base_refusals.specs.Answer.{Answer, done, refused, map_done, and_then}
 use Rattle.base_refusals.specs.Numbers.{missing_line_number, line_number_out_of_range}
-use Rattle.word_search.specs.declared.Match.TheVariants.{Word, Nothing}
+use Rattle.std.specs.Prelude.{Option, Some, None}
 use Rattle.word_match.specs.Sets.{live_word, plain_word}
 use Rattle.word_dialects.specs.declared.Dialect.{Dialect}
 use Rattle.text_lines.specs.declared.LineRule.TheVariants.{AfterCr}
@@ -31,8 +31,8 @@ plain_before l t =
     elim (eqb (first t) 0x22) [
       | true ↦ one 0x22 String
       | false ↦ elim (live_word l.sets l.tsb t) [
-        | Word i u k ↦ token true k Plain u
-        | Nothing ↦ elim (plain_word l.sets l.v2 l.basic35 t) [ Word i u k ↦ token false k (opened k) u | Nothing ↦ sign_step l t ]
+        | Some m ↦ token true m.token Plain m.used
+        | None ↦ elim (plain_word l.sets l.v2 l.basic35 t) [ Some m ↦ token false m.token (opened m.token) m.used | None ↦ sign_step l t ]
       ]
     ]
 

@@ -4,13 +4,13 @@ use Prim.Native.Nat.{ℕ, suc, ◌+◌, ◌-◌, ◌≤◌, ◌<◌}
 use mathlib.Core.Path.{◌≡◌, refl, sym, ap, ◌∙◌, subst}
 use mathlib.Core.Bool.{Bool}
 use mathlib.Core.List.{List, [], ◌∷◌, ◌++◌, append-nil, append_assoc}
-use mathlib.Core.Option.{some}
+use Rattle.std.specs.Prelude.{Some}
 use native.Mathlib.Numerals.{add-one}
 use native.Mathlib.Omega.{arith}
 use lib.ListN.{length, drop, length-append}
 use mir.Syntax.{w16}
 use mir.Val.{Fits}
-use Rattle.base_refusals.specs.Answer.{Answer, done, map_done}
+use Rattle.base_refusals.specs.Answer.{Answer, done, map_done, answered}
 use Rattle.base_refusals.specs.declared.Refusal.{Refusal}
 use Rattle.base_ascii.specs.Trim.{trim}
 use Rattle.base_lent.specs.Lent.{room_for}
@@ -27,7 +27,7 @@ use Rattle.image_layout.specs.Reads.{placed_line, lines_at}
 use Rattle.image_layout.proofs.Laying.{image_length, end_above}
 use Rattle.crunch_profile.specs.Profile.{least_behind}
 use Rattle.crunch_rules.specs.Crunched.{line_under}
-use Rattle.crunch_rules.specs.Measured.{unless_blank, nonblank_from, nonblank_lines, with_text_lines, entry_from, line_answer}
+use Rattle.crunch_rules.specs.Measured.{unless_blank, nonblank_from, nonblank_lines, with_text_lines, entry_from}
 use Rattle.crunch_rules.specs.PassesHelpers.{text_image, address_behind}
 use Rattle.crunch_measure.specs.MeasureHelpers.{text_placed, PassedAs, refused_pass, Span, line_between}
 use Rattle.crunch_sizes.specs.SizeHelpers.{LineSized, SizedAs}
@@ -51,7 +51,7 @@ pub record MeasuredTo (profile : Bool) (words : Lexicon) (load place : ℕ) (tex
   pub paired : count ≡ length texts
   pub few : count ≤ k
   pub rest : texts ++ nonblank_from (suc k) (text_lines AfterCr (drop at text)) ≡ nonblank_lines text
-  pub placed : line_answer found ≡ done (entry_from place 1 (with_text_lines (lines_at load 2 reached.before) texts))
+  pub placed : answered found ≡ done (entry_from place 1 (with_text_lines (lines_at load 2 reached.before) texts))
 
 pub measured_start : (profile : Bool) (words : Lexicon) (load place : ℕ) (text : List ℕ) → Fits w16 load → MeasuredTo profile words load place text 0 0 0 load 0 NoSuchLine
 unfolding reached_start lines_at with_text_lines entry_from
@@ -110,7 +110,7 @@ module _ {profile : Bool} {words : Lexicon} {load place : ℕ} {text : List ℕ}
 
     -- a turn, by what the line gives
     turn : {next more : ℕ} {after : LineMeasured} (t : Taken profile words (suc k) least address (line_at text at r) next) → more ≡ length (m.reached.before ++ t.new) → more ≡ length (m.texts ++ new_text) → more ≤ k + 1
-        → line_answer after ≡ done (entry_from place 1 (with_text_lines (lines_at load 2 (m.reached.before ++ t.new)) (m.texts ++ new_text))) → MeasuredTo profile words load place text r.next (k + 1) (least_behind least t.new) next more after
+        → answered after ≡ done (entry_from place 1 (with_text_lines (lines_at load 2 (m.reached.before ++ t.new)) (m.texts ++ new_text))) → MeasuredTo profile words load place text r.next (k + 1) (least_behind least t.new) next more after
     unfolding reached_turn
     turn t c p f e =
         record {
@@ -151,7 +151,7 @@ module _ {profile : Bool} {words : Lexicon} {load place : ℕ} {text : List ℕ}
         size = told_line told e
 
         pub measured_span : Span load address behind
-        measured_span = record { low = measured_low; some = omega (arith, size.behind_is); high = size.high }
+        measured_span = record { low = measured_low; Some = omega (arith, size.behind_is); high = size.high }
 
         place_is : new_text ≡ suc k ∷ []
         place_is = line_place words (suc k) (line_at text at r) (under_plain profile words (suc k) least (line_at text at r) size.gives)
@@ -193,7 +193,7 @@ module _ {profile : Bool} {words : Lexicon} {load place : ℕ} {text : List ℕ}
             with_length (lines_at load 2 m.reached.before) m.texts (omega (arith, lines_at_length m.reached.before load 2, m.counted, m.paired))
             ∙ omega (arith, lines_at_length m.reached.before load 2, m.counted)
 
-        turn_line : {after : LineMeasured} → line_answer after ≡ done (entry_from place 1 (before ++ here ∷ [])) → MeasuredTo profile words load place text r.next (k + 1) (number + 1) behind (count + 1) after
+        turn_line : {after : LineMeasured} → answered after ≡ done (entry_from place 1 (before ++ here ∷ [])) → MeasuredTo profile words load place text r.next (k + 1) (number + 1) behind (count + 1) after
         unfolding taken_line new_line
         turn_line {after} q =
             let o : suc number ≡ number + 1 = omega arith in
@@ -208,7 +208,7 @@ module _ {profile : Bool} {words : Lexicon} {load place : ℕ} {text : List ℕ}
             → MeasuredTo profile words load place text r.next (k + 1) (number + 1) behind (count + 1) (There (record { line = l; origin = k + 1 }))
         measured_here c i =
             turn_line
-            (ap (λ (x : Line). done (some (record { line = x; origin = k + 1 }))) i
+            (ap (λ (x : Line). done (Some (record { line = x; origin = k + 1 }))) i
             ∙ ap done (sym (entry_here place 1 before here (omega (arith, before_length)))))
 
         pub measured_past : (count + 1 ≡ place → ⊥) → MeasuredTo profile words load place text r.next (k + 1) (number + 1) behind (count + 1) found

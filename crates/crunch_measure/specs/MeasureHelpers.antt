@@ -1,17 +1,17 @@
 -- For helpers of the measuring pass alone: what it answers, for any words.
 -- Assumes nothing.
 use Rattle.std.specs.Prelude.{ℕ, ◌+◌, ◌-◌, ◌≤◌, ◌≡◌, Bool, List}
-use Rattle.std.proofs.Math.Option.{Option}
+use Rattle.std.specs.Prelude.{Option}
 use Rattle.base_refusals.specs.declared.Refusal.{Refusal}
-use Rattle.base_refusals.specs.Answer.{Answer, map_done}
-use Rattle.base_lent.specs.Lent.{room_for, outcome_answer}
+use Rattle.base_refusals.specs.Answer.{Answer, map_done, answered}
+use Rattle.base_lent.specs.Lent.{room_for}
 use Rattle.text_lines.specs.declared.LineRule.TheVariants.{AfterCr}
 use Rattle.text_lines.specs.TextLines.{text_lines}
 use Rattle.body_rules.specs.Lexicon.{Lexicon}
 use Rattle.image_readers.specs.declared.Line.{Line}
 use Rattle.image_layout.specs.Reads.{lines_at}
 use Rattle.crunch_rules.specs.Crunched.{crunch_lines}
-use Rattle.crunch_rules.specs.Measured.{nonblank_lines, with_text_lines, entry_from, line_answer}
+use Rattle.crunch_rules.specs.Measured.{nonblank_lines, with_text_lines, entry_from}
 use Rattle.crunch_rules.specs.declared.LineMeasured.TheVariants.{Refused as LineAsRefused}
 use Rattle.crunch_rules.specs.declared.MeasuredLine.{MeasuredLine}
 use Rattle.crunch_measure.specs.declared.Pass.{Pass}
@@ -25,8 +25,8 @@ text_placed profile words load place text =
 
 -- what the measuring pass answers of such a text
 pub record PassedAs (profile : Bool) (words : Lexicon) (load place : ℕ) (text : List ℕ) (p : Pass) : Type 0 where
-  pub sized : outcome_answer p.room ≡ room_for (text_image profile words load text)
-  pub placed : line_answer p.line ≡ text_placed profile words load place text
+  pub sized : answered p.room ≡ room_for (text_image profile words load text)
+  pub placed : answered p.line ≡ text_placed profile words load place text
 
 -- of a text that is refused
 abbrev pub refused_pass : Refusal → Pass

@@ -7,7 +7,7 @@ ghost use Rattle.body_rules.specs.Lexicon.{lexicon};
 ghost use Rattle.crunch_measure.specs.MeasureHelpers.{PassedAs, refused_pass, Span, line_between};
 
 use base_refusals::Refusal;
-use crunch_rules::{LineMeasured, MeasuredLine, Options};
+use crunch_rules::{MeasuredLine, Options};
 use crunch_sizes::{Sized, Spot};
 use image_readers::Line;
 use text_lines::LineRule;
@@ -17,7 +17,7 @@ use word_match::sets::Sets;
 #[derive(Clone, Copy)]
 pub struct Pass {
     pub room: Result<usize, Refusal>,
-    pub line: LineMeasured,
+    pub line: Result<Option<MeasuredLine>, Refusal>,
 }
 
 // Measures a text that is in the domain, its words known.
@@ -40,7 +40,7 @@ pub fn measure(
     let mut k: usize = 0;
     let mut least: usize = 0;
     let mut count: usize = 0;
-    let mut found = LineMeasured::NoSuchLine;
+    let mut found = Ok(None);
     while at < text.len() {
         let next = text_lines::next_line(text, at, LineRule::AfterCr);
         let begin = next.begin;
@@ -59,7 +59,7 @@ pub fn measure(
                 least = number as usize + 1;
                 if count == place {
                     let line = line_between(first, address, number, behind);
-                    found = LineMeasured::There(MeasuredLine { line, origin: k });
+                    found = Ok(Some(MeasuredLine { line, origin: k }));
                 }
                 address = behind;
             }
@@ -78,7 +78,7 @@ pub fn refused(refusal: Refusal) -> Pass
     ensures { result ≡ refused_pass refusal }
 {
     let room = Err(refusal);
-    let line = LineMeasured::Refused(refusal);
+    let line = Err(refusal);
     Pass { room, line }
 }
 

@@ -33,8 +33,3 @@ allowed k least (l ∷ ls) = and_then (line_allowed k least l) (λ _. allowed k 
 abbrev pub least_behind : ℕ → List NumberedBody → ℕ
 least_behind least [] = least
 least_behind least (l ∷ ls) = least_behind (suc l.number) ls
-
--- the enum's cases
-abbrev pub allowed_answer : Result (Unit {0}) Refusal → Answer (Unit {0})
-allowed_answer (Ok tt) = done tt
-allowed_answer (Err r) = refused (numbered r)

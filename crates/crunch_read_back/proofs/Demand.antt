@@ -20,7 +20,8 @@ use Rattle.text_numbers.proofs.Numbers.{number_fits}
 use Rattle.body.specs.Body.{crunched_body}
 use Rattle.body_rules.specs.Lexicon.{Lexicon}
 use Rattle.image_readers.specs.NumberedBody.{NumberedBody}
-use Rattle.image_readers.specs.Lines.{Reader, Overview, overview}
+use Rattle.image_readers.specs.Lines.{Reader, overview}
+use Rattle.image_readers.specs.declared.Overview.{Overview}
 use Rattle.image_readers.specs.Bodies.{bodies_of}
 use Rattle.image_readers.specs.Links.{link_step}
 use Rattle.image_readers.specs.Terminators.{terminator_step}

@@ -10,12 +10,12 @@ use lib.ListN.{length, take}
 use lib.Seq.{sets, length-sets, length-take-le}
 use borrow.Author.Tests.{leb-true}
 use Rattle.base_refusals.specs.Numbers.{no_room}
-use Rattle.base_refusals.specs.Answer.{Answer, done, refused}
+use Rattle.base_refusals.specs.Answer.{Answer, done, refused, answered}
 use Rattle.base_lent.specs.Lent.{Lent, into_buffer, left}
 use Rattle.base_refusals.specs.declared.Refusal.{Refusal}
 use Rattle.image_readers.specs.declared.Checked.{Checked}
-use Rattle.image_readers.specs.Answers.{checked_answer}
-use Rattle.image_readers.specs.Lines.{Overview, overview}
+use Rattle.image_readers.specs.Lines.{overview}
+use Rattle.image_readers.specs.declared.Overview.{Overview}
 use Rattle.image_readers.specs.Links.{link_step}
 use Rattle.crunch_read_back.specs.ReadingBack.{reading_back, left_read}
 use Rattle.crunch_read_back.specs.declared.ReadBack.TheVariants.{Made, Refused as ReadBackAsRefused}
@@ -50,7 +50,7 @@ module _ (a : Answer (List ℕ)) (buffer : List ℕ) {r : (Result ℕ Refusal)} 
     pub image_long : r ≡ Ok n → left r after ≡ into_buffer a buffer → n ≡ length (take n after)
     image_long told is = sym (length-take-le n after (image_fits told is))
 
-    pub image_made : (c : Checked) → checked_answer c ≡ overview link_step (take n after) → r ≡ Ok n → left r after ≡ into_buffer a buffer
+    pub image_made : (c : Checked) → answered c ≡ overview link_step (take n after) → r ≡ Ok n → left r after ≡ into_buffer a buffer
         → left_read (Made n c) after ≡ reading_back (into_buffer a buffer)
     unfolding reading_back
     image_made c read told is =

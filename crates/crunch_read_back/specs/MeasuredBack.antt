@@ -1,7 +1,7 @@
 -- What is known of the lines that are measured of a text (document 02, No. 8).
 -- Assumes nothing.
 use Rattle.std.specs.Prelude.{ℕ, suc, ◌-◌, ◌≤◌, ◌≡◌, false, List, [], ◌∷◌, ◌++◌, map, length}
-use Rattle.std.proofs.Math.Option.{none}
+use Rattle.std.specs.Prelude.{None}
 use Rattle.base_refusals.specs.Answer.{done}
 use Rattle.word_search.specs.Spelling.{bytes_of}
 use Rattle.word_dialects.specs.declared.Dialect.TheVariants.{Auto}
@@ -53,5 +53,5 @@ MeasuredTable =
     (record { line = record { address = 0x0801; link = 0x0807; number = 10; from = 6; to = 7; next = 8 }; origin = 2 }
     ∷ record { line = record { address = 0x0807; link = 0x080C; number = 20; from = 12; to = 12; next = 13 }; origin = 4 }
     ∷ []))
-    × (line_measured at0801 0 two_of_four ≡ done none)
-    × (line_measured at0801 3 two_of_four ≡ done none)
+    × (line_measured at0801 0 two_of_four ≡ done None)
+    × (line_measured at0801 3 two_of_four ≡ done None)

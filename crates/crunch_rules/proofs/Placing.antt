@@ -4,7 +4,7 @@ use Prim.Native.Nat.{ℕ, suc, ◌+◌, ◌-◌}
 use mathlib.Core.Path.{◌≡◌, refl, ap, ◌∙◌}
 use mathlib.Core.Bool.{Bool, true, false, cond}
 use mathlib.Core.List.{List, [], ◌∷◌, ◌++◌}
-use mathlib.Core.Option.{some}
+use Rattle.std.specs.Prelude.{Some}
 use native.Mathlib.Omega.{arith}
 use lib.Dec.{eqb, leb}
 use lib.ListN.{length}
@@ -60,7 +60,7 @@ with_more (x ∷ ls) (t ∷ ts) l k e = ap (λ (xs : List MeasuredLine). record 
 -- ---- the entry at a place
 
 module _ {A : Type 0} (place : ℕ) where
-  pub entry_here : (n : ℕ) (xs : List A) (x : A) → place ≡ n + length xs → entry_from place n (xs ++ x ∷ []) ≡ some x
+  pub entry_here : (n : ℕ) (xs : List A) (x : A) → place ≡ n + length xs → entry_from place n (xs ++ x ∷ []) ≡ Some x
   unfolding entry_from
   entry_here n [] x h = simp (eq-eqb place n (omega arith))
   entry_here n (y ∷ xs) x h = let e : eqb place n ≡ false = ne_eqb place n (λ q. omega arith) in simp e (entry_here (n + 1) xs x (omega arith))
@@ -68,7 +68,7 @@ module _ {A : Type 0} (place : ℕ) where
   pub entry_past : (n : ℕ) (xs : List A) (x : A) → (place ≡ n + length xs → ⊥) → entry_from place n (xs ++ x ∷ []) ≡ entry_from place n xs
   unfolding entry_from
   entry_past n [] x h = let e : eqb place n ≡ false = ne_eqb place n (λ q. h (omega arith)) in simp e
-  entry_past n (y ∷ xs) x h = ap (cond (eqb place n) (some y)) (entry_past (n + 1) xs x (λ q. h (omega arith)))
+  entry_past n (y ∷ xs) x h = ap (cond (eqb place n) (Some y)) (entry_past (n + 1) xs x (λ q. h (omega arith)))
 
 -- ---- text lines that are blank
 

@@ -2,7 +2,7 @@
 -- readers and the measuring pass share with its own address .., and the measuring pass with the text line counted from 1").
 -- Assumes nothing.
 use Rattle.std.specs.Prelude.{ℕ, suc, ◌+◌, cond, List, [], ◌∷◌, ◌++◌, eqb}
-use Rattle.std.proofs.Math.Option.{Option, none, some}
+use Rattle.std.specs.Prelude.{Option, None, Some}
 use Rattle.base_refusals.specs.Answer.{Answer, done, refused, numbered, map_done}
 use Rattle.base_ascii.specs.Trim.{trim}
 use Rattle.text_lines.specs.declared.LineRule.TheVariants.{AfterCr}
@@ -12,8 +12,6 @@ use Rattle.image_layout.specs.Reads.{lines_at}
 use Rattle.crunch_rules.specs.Crunched.{crunched_lines}
 use Rattle.crunch_rules.specs.declared.Options.{Options}
 use Rattle.crunch_rules.specs.declared.MeasuredLine.{MeasuredLine}
-use Rattle.crunch_rules.specs.declared.LineMeasured.{LineMeasured}
-use Rattle.crunch_rules.specs.declared.LineMeasured.TheVariants.{There, NoSuchLine, Refused}
 
 -- "A line blank after trimming is skipped" (document 01, "Text lines"): a place, if the trimmed line there is not blank
 abbrev pub unless_blank : ℕ → List ℕ → List ℕ
@@ -43,16 +41,10 @@ measured_lines o text = map_done (λ ls. with_text_lines (lines_at o.load 2 ls) 
 
 -- the entry at a place of a list, the first of which has the place n
 unfoldable pub entry_from : {A : Type 0} → ℕ → ℕ → List A → Option A
-entry_from place n [] = none
-entry_from place n (x ∷ xs) = cond (eqb place n) (some x) (entry_from place (n + 1) xs)
+entry_from place n [] = None
+entry_from place n (x ∷ xs) = cond (eqb place n) (Some x) (entry_from place (n + 1) xs)
 
 -- the line at a place from 1, if there is one
 unfoldable pub line_measured : Options → ℕ → List ℕ → Answer (Option MeasuredLine)
 unfolding entry_from measured_lines
 line_measured o place text = map_done (entry_from place 1) (measured_lines o text)
-
--- the enum's cases as document 01 numbers them
-abbrev pub line_answer : LineMeasured → Answer (Option MeasuredLine)
-line_answer (There l) = done (some l)
-line_answer NoSuchLine = done none
-line_answer (Refused r) = refused (numbered r)

@@ -22,11 +22,3 @@ pub struct MeasuredLine {
     pub line: Line,
     pub origin: usize,
 }
-
-// What stands at a place of the image that a text would have.
-#[derive(Clone, Copy)]
-pub enum LineMeasured {
-    There(MeasuredLine),
-    NoSuchLine,
-    Refused(Refusal),
-}

@@ -9,7 +9,7 @@ use lib.Dec.{ltb}
 use lib.ListN.{length, take, drop}
 use borrow.Author.Tests.{ltb-true, ltb-false}
 use Rattle.base_refusals.specs.Numbers.{Numbered as RefusalAsNumbered, address_overflow}
-use Rattle.base_refusals.specs.Answer.{Answer, done, refused, map_done, and_then}
+use Rattle.base_refusals.specs.Answer.{Answer, done, refused, map_done, and_then, answered}
 use Rattle.base_refusals.specs.declared.Refusal.{Refusal}
 use Rattle.base_refusals.specs.declared.Refusal.TheVariants.{MissingLineNumber, LineNumberOutOfRange, AddressOverflow}
 use Rattle.text_numbers.specs.declared.Numbering.{Numbering}
@@ -20,7 +20,7 @@ use Rattle.body.specs.Body.{crunched_body}
 use Rattle.body.specs.Zero.{holds_zero}
 use Rattle.image_readers.specs.NumberedBody.{NumberedBody}
 use Rattle.image_layout.specs.Layout.{end_address}
-use Rattle.crunch_profile.specs.Profile.{profile_says, line_allowed, allowed, allowed_answer}
+use Rattle.crunch_profile.specs.Profile.{profile_says, line_allowed, allowed}
 use Rattle.crunch_profile.proofs.Asking.{says_cut}
 use Rattle.crunch_rules.specs.Crunched.{lines_read, line_under, last_link}
 use Rattle.crunch_sizes.specs.SizeHelpers.{LineSized, SizedAs, sized_at}
@@ -98,27 +98,27 @@ module _ (profile : Bool) (words : Lexicon) (k least : ℕ) (line : List ℕ) (a
 
     -- it is asked
     module _ (p : profile ≡ true) {zero : Bool} (zero_is : zero ≡ holds_zero (crunched_body words (take (to - from) (drop from line)))) (x : Result (Unit {0}) Refusal)
-        (told_is : allowed_answer x ≡ profile_says k least number zero n) where
-      line_says : allowed_answer x ≡ line_allowed k least here
+        (told_is : answered x ≡ profile_says k least number zero n) where
+      line_says : answered x ≡ line_allowed k least here
       unfolding line_allowed
       line_says =
           told_is ∙ ap (λ (b : Bool). profile_says k least number b n) zero_is ∙ ap (profile_says k least number (holds_zero here.body)) is
           ∙ says_cut k least number (holds_zero here.body) (length here.body)
 
-      says_is : says ≡ and_then (allowed_answer x) (λ _. done tt)
+      says_is : says ≡ and_then (answered x) (λ _. done tt)
       unfolding says
       says_is =
           ap (λ (b : Bool). cond b (allowed k least (here ∷ [])) (done tt)) p
           ∙ ap (λ (b : Answer (Unit {0})). and_then b (λ _. done tt)) (sym line_says)
 
       pub sized_allowed : {r : Sized} → r ≡ sized_at address number n → x ≡ (Ok tt) → SizedAs address (line_under profile words k least line) r
-      sized_allowed z y = sized_says (says_is ∙ ap (λ (v : Result (Unit {0}) Refusal). and_then (allowed_answer v) (λ _. done tt)) y) z
+      sized_allowed z y = sized_says (says_is ∙ ap (λ (v : Result (Unit {0}) Refusal). and_then (answered v) (λ _. done tt)) y) z
 
       pub sized_not : {v : Refusal} → x ≡ Err v → SizedAs address (line_under profile words k least line) (SizedAsRefused v)
       unfolding SizedAs
       sized_not y =
           ap (λ (a : Answer (List NumberedBody)). and_then a (last_link address))
-          (under_says (says_is ∙ ap (λ (v : Result (Unit {0}) Refusal). and_then (allowed_answer v) (λ _. done tt)) y))
+          (under_says (says_is ∙ ap (λ (v : Result (Unit {0}) Refusal). and_then (answered v) (λ _. done tt)) y))
 
 -- a line that was measured is taken
 unfoldable pub taken_line : {profile : Bool} {words : Lexicon} {k least address : ℕ} {line : List ℕ} {number behind : ℕ} (s : LineSized address (line_under profile words k least line) number behind)

@@ -10,7 +10,7 @@ use desk_calls::words;
 use desk_inputs::Input;
 use desk_status::Status;
 use image_fitness::Found;
-use image_readers::{Checked, links};
+use image_readers::{Overview, links};
 
 // How many bytes a disk image has.
 const DISK: usize = 174_848;
@@ -51,11 +51,11 @@ fn walk(rt: &HostRuntime, name: &[u8], image: &[u8], is_quiet: bool) -> Status {
 // Checks a program.
 pub fn check_program(rt: &HostRuntime, name: &[u8], image: &[u8], is_quiet: bool) -> Status {
     match links::check(image) {
-        Checked::Image { load, lines } => {
+        Ok(Overview { load, lines }) => {
             let run = walk(rt, name, image, is_quiet);
             telling::tell_program(rt, name, load, lines, run, is_quiet)
         }
-        Checked::Refused(refusal) => telling::tell_refusal(rt, name, refusal, is_quiet),
+        Err(refusal) => telling::tell_refusal(rt, name, refusal, is_quiet),
     }
 }
 

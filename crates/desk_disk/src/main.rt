@@ -9,7 +9,7 @@ ghost use Rattle.std.specs.Prelude.{◌≤◌, length};
 use base_refusals::Refusal;
 use desk::{input, names, output};
 use desk_inputs::Input;
-use disk_rules::DiskCheck;
+use disk_rules::Holding;
 use say_put::{put_decimal, put_text};
 
 const COMMAND: usize = names::WORDS;
@@ -35,8 +35,8 @@ fn format(rt: &HostRuntime) {
 
 fn save(rt: &HostRuntime, disk: &mut [u8]) {
     match disk::check(disk) {
-        DiskCheck::Holds { files: _, free: _ } => saving::save_files(rt, disk, false),
-        DiskCheck::Refused(refusal) => output::refuse(rt, refusal, b""),
+        Ok(Holding { files: _, free: _ }) => saving::save_files(rt, disk, false),
+        Err(refusal) => output::refuse(rt, refusal, b""),
     }
 }
 
@@ -108,8 +108,8 @@ fn answer_check(rt: &HostRuntime, files: usize, free: usize) {
 
 fn check(rt: &HostRuntime, disk: &[u8]) {
     match disk::check(disk) {
-        DiskCheck::Holds { files, free } => answer_check(rt, files, free),
-        DiskCheck::Refused(refusal) => output::refuse(rt, refusal, b""),
+        Ok(Holding { files, free }) => answer_check(rt, files, free),
+        Err(refusal) => output::refuse(rt, refusal, b""),
     }
 }
 

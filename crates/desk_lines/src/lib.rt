@@ -6,7 +6,7 @@ ghost use Rattle.std.specs.Prelude.{◌≤◌, length};
 
 use desk::result::Target;
 use desk::{names, options, result};
-use image_readers::{By, Step};
+use image_readers::By;
 use list_options::ListOptions;
 use list_stretches::Place;
 use word_dialects::Dialect;
@@ -80,7 +80,7 @@ pub fn write_lines(
     let mut offset: usize = 2;
     loop {
         match image_readers::step_by(image, offset, by) {
-            Step::Found(line) => {
+            Ok(Some(line)) => {
                 let from = line.from;
                 let to = line.to;
                 if !write_line(
@@ -96,11 +96,11 @@ pub fn write_lines(
                 }
                 offset = line.next;
             }
-            Step::End => {
+            Ok(None) => {
                 return true;
             }
             // The whole image was checked before.
-            Step::Refused(_) => {
+            Err(_) => {
                 return false;
             }
         }

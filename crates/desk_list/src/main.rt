@@ -11,7 +11,6 @@ use desk::{input, names, options, output, result};
 use desk_calls::words;
 use desk_inputs::Input;
 use desk_status::Status;
-use image_readers::Checked;
 use list_options::ListOptions;
 
 // The first of the files.
@@ -51,8 +50,8 @@ fn list_image(
 ) -> Status {
     let by = options.by;
     match image_readers::check_by(image, by) {
-        Checked::Image { load: _, lines: _ } => write_listing(rt, argument, file, image, options),
-        Checked::Refused(refusal) => refuse(rt, file, refusal),
+        Ok(_) => write_listing(rt, argument, file, image, options),
+        Err(refusal) => refuse(rt, file, refusal),
     }
 }
 

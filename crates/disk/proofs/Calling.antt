@@ -9,7 +9,7 @@ use lib.Seq.{sets}
 use native.Mathlib.Omega.{arith}
 use borrow.Author.Tests.{eq-eqb}
 use Rattle.base_refusals.specs.Numbers.{bad_disk, bad_name, no_room}
-use Rattle.base_refusals.specs.Answer.{Answer, done, refused, numbered, and_then}
+use Rattle.base_refusals.specs.Answer.{Answer, done, refused, numbered, and_then, answered}
 use Rattle.base_refusals.specs.declared.Refusal.{Refusal}
 use Rattle.base_lent.specs.Lent.{Lent, into_buffer}
 use Rattle.base_lent.proofs.Outcomes.{into_none, into_done}
@@ -28,7 +28,7 @@ use Rattle.disk_chains.proofs.Marking.{marked_all_long}
 use Rattle.disk_check.specs.SoundHelpers.{Looks}
 use Rattle.disk_check.specs.declared.Seen.{Seen}
 use Rattle.disk_check.proofs.Looking.{entry_sectors, logged_start}
-use Rattle.disk.specs.LocateHelpers.{located, located_answer, Locates}
+use Rattle.disk.specs.LocateHelpers.{located, Locates}
 use Rattle.disk.specs.declared.Located.{Located}
 use Rattle.disk.specs.declared.Located.TheVariants.{At, Refused}
 use Rattle.disk.proofs.Locating.{not_long, look_sound, look_unsound, by_entry}
@@ -88,10 +88,10 @@ scratch_long d l p free e = ap length e ∙ marked_all_long (set d p 0) l free �
 
 module _ {d name : List ℕ} {l : Located} (k : Locates d name l) where
   found : {p : ℕ} → l ≡ At p → located d name ≡ done p
-  found e = sym k.answers ∙ ap located_answer e
+  found e = sym k.answers ∙ ap answered e
 
   not_found : {r : Refusal} → l ≡ Refused r → located d name ≡ refused (numbered r)
-  not_found e = sym k.answers ∙ ap located_answer e
+  not_found e = sym k.answers ∙ ap answered e
 
   -- the log has the chain of the entry that was found
   found_counted : {p : ℕ} → l ≡ At p → chain_of_within 683 d p ≡ chain_of d p

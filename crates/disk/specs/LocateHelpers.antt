@@ -1,7 +1,7 @@
 -- What the contracts of `seek`, which serves the calls with a name, and of `locate`, which serves reading and scratching, say.
 -- Assumes nothing.
 use Rattle.std.specs.Prelude.{ℕ, ◌+◌, ◌≤◌, ◌≡◌, List, length, take}
-use Rattle.base_refusals.specs.Answer.{Answer, done, refused, numbered}
+use Rattle.base_refusals.specs.Answer.{Answer, done, refused, numbered, answered}
 use Rattle.disk_rules.specs.Entries.{directory, listed, is_named}
 use Rattle.disk_rules.specs.Calls.{on_sound, of_file, entries_named}
 use Rattle.disk_entries.specs.EntryHelpers.{first_entry}
@@ -45,15 +45,11 @@ pub record Seeks (disk name : List ℕ) (r : Sought) (sectorList fileList : List
 unfoldable pub located : List ℕ → List ℕ → Answer ℕ
 located disk name = on_sound disk name (of_file (entries_named disk name) done)
 
-abbrev pub located_answer : Located → Answer ℕ
-located_answer (At p) = done p
-located_answer (Refused r) = refused (numbered r)
-
 -- an entry that was found stands on a disk of the right length
 abbrev pub Stands : List ℕ → Located → Type 0
 Stands disk (At p) = (length disk ≡ 174848) × (p + 30 ≤ 174848)
 Stands disk (Refused r) = Unit
 
 pub record Locates (disk name : List ℕ) (r : Located) : Type 0 where
-  pub answers : located_answer r ≡ located disk name
+  pub answers : answered r ≡ located disk name
   pub stands : Stands disk r

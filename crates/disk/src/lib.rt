@@ -2,12 +2,12 @@
 #![tactic(auto)]
 
 ghost use Rattle.std.specs.Prelude.{◌≡◌, true, ◌+◌, ◌≤◌, length, set, replicate};
-ghost use Rattle.base_refusals.specs.Answer.{done};
+ghost use Rattle.base_refusals.specs.Answer.{done, answered};
 ghost use Rattle.base_lent.specs.Lent.{into_buffer, left};
 ghost use Rattle.disk_rules.specs.Lists.{is_in};
 ghost use Rattle.disk_rules.specs.CountedHelpers.{chain_of_within};
 ghost use Rattle.disk_rules.specs.Free.{marked_all};
-ghost use Rattle.disk_rules.specs.Calls.{is_file_name, disk_answer, disk_holding, chain_bytes, file_bytes, formatted, scratched, saved, onto_disk, leaving};
+ghost use Rattle.disk_rules.specs.Calls.{is_file_name, disk_holding, chain_bytes, file_bytes, formatted, scratched, saved, onto_disk, leaving};
 ghost use Rattle.disk.specs.LocateHelpers.{Locates, Seeks};
 
 use base_refusals::Refusal;
@@ -15,7 +15,7 @@ use disk_bytes::{measure, store, take_out};
 use disk_chains::{free_sectors, mark_all};
 use disk_check::look;
 use disk_entries::{find, trace_entry};
-use disk_rules::DiskCheck;
+use disk_rules::Holding;
 use disk_saves::save_new;
 
 // What 18/0 begins with: the first directory sector, the format, the map, and a name and an id of A0.
@@ -72,24 +72,24 @@ pub fn format(disk: &mut [u8]) -> Result<(), Refusal>
 }
 
 // Checks a disk, and answers how many files it lists and how many sectors off track 18 are free.
-pub fn check(disk: &[u8]) -> DiskCheck
-    ensures { disk_answer result ≡ disk_holding disk.now }
+pub fn check(disk: &[u8]) -> Result<Holding, Refusal>
+    ensures { answered result ≡ disk_holding disk.now }
 {
     if disk.len() != 174848 {
-        return DiskCheck::Refused(Refusal::BadDisk);
+        return Err(Refusal::BadDisk);
     }
     let mut sectors = [0usize; 18];
     let mut files = [0usize; 144];
     let seen = look(disk, &mut sectors, &mut files);
     if !seen.sound {
-        return DiskCheck::Refused(Refusal::BadDisk);
+        return Err(Refusal::BadDisk);
     }
     let mut list = [0usize; 683];
     let free = free_sectors(disk, &mut list);
-    DiskCheck::Holds {
+    Ok(Holding {
         files: seen.files,
         free,
-    }
+    })
 }
 
 fn has_a0(name: &[u8]) -> bool

@@ -3,15 +3,14 @@
 use Rattle.std.specs.Prelude.{ℕ, zero, suc, ◌+◌, ◌-◌, ◌*◌, ◌/◌, ◌%◌, max, Bool, true, false, cond, not, ◌&&◌, List, [], ◌∷◌, ◌++◌, leb, ltb, eqb, length, get_or, take, drop, replicate, set}
 use Rattle.std.proofs.lemmas.List.Edits.{sets}
 use Rattle.base_refusals.specs.Numbers.{bad_disk, bad_name, name_taken, no_such_file, directory_full, disk_full}
-use Rattle.base_refusals.specs.Answer.{Answer, done, refused, numbered}
+use Rattle.base_refusals.specs.Answer.{Answer, done, refused, numbered, answered}
 use Rattle.disk_rules.specs.Places.{track_of, sector_of}
 use Rattle.disk_rules.specs.Map.{marked}
 use Rattle.disk_rules.specs.Lists.{numbers_from, those, some, is_in}
 use Rattle.disk_rules.specs.Free.{free_sectors, marked_all}
 use Rattle.disk_rules.specs.Entries.{directory, listed, entries_that, is_named, chain_of}
 use Rattle.disk_rules.specs.Check.{sound}
-use Rattle.disk_rules.specs.declared.DiskCheck.{DiskCheck}
-use Rattle.disk_rules.specs.declared.DiskCheck.TheVariants.{Holds, Refused as RefusedDisk}
+use Rattle.disk_rules.specs.declared.Holding.{Holding}
 use Rattle.std.specs.Prelude.{Result, Ok, Err}
 use Rattle.base_refusals.specs.declared.Refusal.{Refusal}
 
@@ -37,10 +36,6 @@ of_file (p ∷ ps) f = f p
 -- ---- check
 
 -- how many files are listed, and how many sectors off track 18 are free
-pub record Holding : Type 0 where
-  pub files : ℕ
-  pub free : ℕ
-
 unfoldable pub disk_holding : List ℕ → Answer Holding
 unfolding sound free_sectors
 disk_holding disk =
@@ -168,14 +163,6 @@ abbrev pub onto_disk : Answer (List ℕ) → List ℕ → After
 onto_disk (done made) disk = record { answer = done tt; disk = made }
 onto_disk (refused n) disk = record { answer = refused n; disk = disk }
 
-abbrev pub changed_answer : Result (Unit {0}) Refusal → Answer Unit
-changed_answer (Ok tt) = done tt
-changed_answer (Err r) = refused (numbered r)
-
 -- an answer, and the disk as it was left
 abbrev pub leaving : Result (Unit {0}) Refusal → List ℕ → After
-leaving r disk = record { answer = changed_answer r; disk = disk }
-
-abbrev pub disk_answer : DiskCheck → Answer Holding
-disk_answer (Holds files free) = done (record { files = files; free = free })
-disk_answer (RefusedDisk r) = refused (numbered r)
+leaving r disk = record { answer = answered r; disk = disk }

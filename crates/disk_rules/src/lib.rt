@@ -1,8 +1,6 @@
 // Definitions only: a disk of the 1541 as a D64, and what the five calls over one do. The code stands in the other crates of this layer.
 #![tactic(auto)]
 
-use base_refusals::Refusal;
-
 // What two bytes link to: nothing further, with a second byte; a sector; or a sector that does not exist.
 #[derive(Clone, Copy)]
 pub enum Link {
@@ -13,7 +11,7 @@ pub enum Link {
 
 // What a sound disk holds: how many listed files, and how many free sectors off track 18.
 #[derive(Clone, Copy)]
-pub enum DiskCheck {
-    Holds { files: usize, free: usize },
-    Refused(Refusal),
+pub struct Holding {
+    pub files: usize,
+    pub free: usize,
 }

@@ -76,7 +76,7 @@ decided_by_evidence rule t = any_decided 0 (text_lines rule t)
 
 -- ---- the length of a TSB word
 
-module _ (t : List ℕ) {m : Match} where
+module _ (t : List ℕ) {m : Option Match} where
   pub length_found : {index used token : ℕ} → m ≡ Word index used token → m ≡ word_in tsb_words t → used ≡ tsb_length t
   unfolding tsb_length
   length_found e q = rw (sym q ∙ e)

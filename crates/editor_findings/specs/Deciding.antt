@@ -2,7 +2,7 @@
 -- Assumes nothing.
 use Rattle.std.specs.Prelude.{ℕ, ◌+◌, true, false, List, [], ◌∷◌}
 use Rattle.word_search.specs.Find.{word_in}
-use Rattle.word_search.specs.declared.Match.TheVariants.{Word, Nothing}
+use Rattle.std.specs.Prelude.{Option, Some, None}
 use Rattle.word_tables.specs.Tsb.{tsb_words}
 use Rattle.text_lines.specs.TextLines.{text_lines}
 use Rattle.text_lines.specs.declared.LineRule.{LineRule}
@@ -23,4 +23,4 @@ deciding_line rule t = decided_behind 0 (text_lines rule t)
 -- how many bytes the TSB word takes that a text begins with; 0 where there is none
 unfoldable pub tsb_length : List ℕ → ℕ
 unfolding word_in tsb_words
-tsb_length t = elim (word_in tsb_words t) [ Word index used token ↦ used | Nothing ↦ 0 ]
+tsb_length t = elim (word_in tsb_words t) [ Some m ↦ m.used | None ↦ 0 ]

@@ -59,12 +59,12 @@ fn length_with(text: &[u8], bytes: &[u8], index: &[u16]) -> usize
     ensures { result ≡ tsb_length text.now }
 {
     match word_match::match_tsb(text, bytes, index) {
-        Match::Word {
+        Some(Match {
             index: _,
             used,
             token: _,
-        } => used,
-        Match::Nothing => 0,
+        }) => used,
+        None => 0,
     }
 }
 

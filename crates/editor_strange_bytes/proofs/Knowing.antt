@@ -10,7 +10,7 @@ use lib.ListN.{length, get_or, take, drop, get_or-eq_default, drop_of_length-le,
 use borrow.Author.Tests.{le-leb, lt-leb, lt-ltb, le-ltb, ltb-true}
 use mir.Syntax.{w64}
 use mir.Val.{Fits}
-use Rattle.base_refusals.specs.Answer.{Answer, done, refused, numbered}
+use Rattle.base_refusals.specs.Answer.{Answer, done, refused, numbered, answered}
 use Rattle.base_refusals.specs.Code.{code_of}
 use Rattle.base_refusals.specs.Numbers.{Numbered, bad_byte}
 use Rattle.base_refusals.specs.declared.Code.{Code}
@@ -18,7 +18,7 @@ use Rattle.base_refusals.specs.declared.Refusal.{Refusal}
 use Rattle.base_ascii.specs.Bytes.{between}
 use Rattle.base_ascii.proofs.Searching.{tail}
 use Rattle.word_search.specs.Compare.{begins}
-use Rattle.text_domain.specs.Domain.{domain_length, checked_text, text_check_answer}
+use Rattle.text_domain.specs.Domain.{domain_length, checked_text}
 use Rattle.base_ascii.proofs.Choice.{taken, left}
 use Rattle.editor_strange_bytes.specs.Foreign.{is_inner, inner_behind, inner_asked, width_of, is_utf16, is_mark_of_order, is_curly_quote, is_no_break_space, is_long_dash, kind_of, stranger_in, first_stranger}
 use Rattle.editor_strange_bytes.specs.declared.Foreign.{Foreign}
@@ -177,9 +177,9 @@ pub record BadAt (s : List ℕ) (n : ℕ) : Type 0 where
   pub is : n ≡ domain_length s
   pub within : n < length s
 
-bad_at : (s : List ℕ) {c : (Result (Unit {0}) Refusal)} {x : Refusal} {k : Code} → k ≡ code_of (numbered x) → c ≡ Err x → text_check_answer c ≡ checked_text s → length s ≤ 1048576 → BadAt s k.first
+bad_at : (s : List ℕ) {c : (Result (Unit {0}) Refusal)} {x : Refusal} {k : Code} → k ≡ code_of (numbered x) → c ≡ Err x → answered c ≡ checked_text s → length s ≤ 1048576 → BadAt s k.first
 unfolding checked_text
-bad_at s {c} {x} {k} q e p h = go (ltb (domain_length s) (length s)) refl (sym (ap text_check_answer e) ∙ p ∙ taken _ _ (le-leb _ _ h))
+bad_at s {c} {x} {k} q e p h = go (ltb (domain_length s) (length s)) refl (sym (ap answered e) ∙ p ∙ taken _ _ (le-leb _ _ h))
   where
     same : {n : Numbered} → ◌≡◌ {A = Answer (Unit {0})} (refused (numbered x)) (refused n) → k.first ≡ (code_of n).first
     same {n} a = let b : numbered x ≡ n = cc in ap (λ (y : Code). y.first) q ∙ ap (λ (y : Numbered). (code_of y).first) b
@@ -193,9 +193,9 @@ abbrev rest : List ℕ → ℕ → List ℕ
 rest t i = take (length t - i) (drop i t)
 
 module _ (from : ℕ) (s : List ℕ) (h : length s ≤ 1048576) where
-  fine_in : {c : (Result (Unit {0}) Refusal)} → c ≡ (Ok tt) → text_check_answer c ≡ checked_text s → Nowhere ≡ stranger_in from s
+  fine_in : {c : (Result (Unit {0}) Refusal)} → c ≡ (Ok tt) → answered c ≡ checked_text s → Nowhere ≡ stranger_in from s
   unfolding stranger_in checked_text
-  fine_in e p = go (ltb (domain_length s) (length s)) refl (sym (ap text_check_answer e) ∙ p ∙ taken _ _ (le-leb _ _ h))
+  fine_in e p = go (ltb (domain_length s) (length s)) refl (sym (ap answered e) ∙ p ∙ taken _ _ (le-leb _ _ h))
     where
       go : (r : Bool) → ltb (domain_length s) (length s) ≡ r → ◌≡◌ {A = Answer (Unit {0})} (done tt) (elim r [ true ↦ refused (bad_byte (domain_length s)) | false ↦ done tt ])
           → Nowhere ≡ stranger_in from s
@@ -216,11 +216,11 @@ module _ (t : List ℕ) (from : ℕ) where
   stranger_long h = sym (left _ _ (lt-leb _ _ (rw (tail t from) at h)))
 
   module _ {c : (Result (Unit {0}) Refusal)} where
-    pub stranger_fine : c ≡ (Ok tt) → text_check_answer c ≡ checked_text (rest t from) → length (rest t from) ≤ 1048576 → Nowhere ≡ first_stranger t from
+    pub stranger_fine : c ≡ (Ok tt) → answered c ≡ checked_text (rest t from) → length (rest t from) ≤ 1048576 → Nowhere ≡ first_stranger t from
     unfolding first_stranger
     stranger_fine e p h = fine_in from (rest t from) h e p ∙ ap (stranger_in from) (tail t from)
 
-    module _ {x : Refusal} {k : Code} (q : k ≡ code_of (numbered x)) (e : c ≡ Err x) (p : text_check_answer c ≡ checked_text (rest t from)) (h : length (rest t from) ≤ 1048576) where
+    module _ {x : Refusal} {k : Code} (q : k ≡ code_of (numbered x)) (e : c ≡ Err x) (p : answered c ≡ checked_text (rest t from)) (h : length (rest t from) ≤ 1048576) where
       pub bad_within : k.first ≤ length (rest t from)
       bad_within = omega (arith, (bad_at (rest t from) q e p h).within)
 

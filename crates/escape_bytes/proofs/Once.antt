@@ -4,7 +4,7 @@ use Prim.Native.Nat.{ℕ, suc, min}
 use mathlib.Core.Path.{◌≡◌, refl, sym, ap, ◌∙◌}
 use mathlib.Core.Bool.{Bool, true, false, not, cond}
 use mathlib.Core.List.{List, [], ◌∷◌}
-use mathlib.Core.Option.{Option, none, some}
+use Rattle.std.specs.Prelude.{Option, None, Some}
 use native.Mathlib.Omega.{arith}
 use lib.ListN.{length, length-take, length-drop}
 use Rattle.base_ascii.specs.Bytes.{is_letter, is_space}
@@ -26,7 +26,7 @@ use Rattle.std.specs.Prelude.{Some, None}
 
 -- ---- how often a byte is given
 
-abbrev pub Often : ℕ → Escape → Type 0
+abbrev pub Often : ℕ → Option Escape → Type 0
 Often n (Byte b count) = count ≡ n
 Often n Unknown = Unit {0}
 
@@ -35,11 +35,11 @@ module _ (n : ℕ) where
   by_test true b = refl
   by_test false b = tt
 
-  by_number_lem : (x : Option ℕ) (r : Escape) → Often n r → Often n (elim x [ Some v ↦ Byte v n | None ↦ r ])
+  by_number_lem : (x : Option ℕ) (r : Option Escape) → Often n r → Often n (elim x [ Some v ↦ Byte v n | None ↦ r ])
   by_number_lem (Some v) r f = refl
   by_number_lem None r f = f
 
-  by_match : (m : Match) (r : Escape) → Often n r → Often n (elim m [ Word i u code ↦ Byte code n | Nothing ↦ r ])
+  by_match : (m : Option Match) (r : Option Escape) → Often n r → Often n (elim m [ Word i u code ↦ Byte code n | Nothing ↦ r ])
   by_match (Word i u code) r f = refl
   by_match Nothing r f = f
 
@@ -55,9 +55,9 @@ module _ (n : ℕ) where
   keyed_often prefix (b ∷ c ∷ s) = tt
   keyed_often prefix (b ∷ []) = go (meaning key_names prefix)
     where
-      go : (k : Option Key) → Often n (elim k [ some key ↦ key_with key b n | none ↦ Unknown ])
-      go (some key) = key_often key b
-      go none = tt
+      go : (k : Option Key) → Often n (elim k [ Some key ↦ key_with key b n | None ↦ Unknown ])
+      go (Some key) = key_often key b
+      go None = tt
 
   name_often : (name : List ℕ) → Often n (name_escape name n)
   unfolding name_escape key_escape
@@ -82,9 +82,9 @@ module _ (p : ℕ → Bool) where
   none_trimmed s e =
       let rest = past is_space s in
       let m = length (past_end is_space rest) in
-      let none : before p rest ≡ length rest =
+      let None : before p rest ≡ length rest =
       omega (arith, e, front_drop (other p) (front is_space s) s (omega (arith, e, front_le is_space s)), length-drop (front is_space s) s) in
-      rw (← end_take is_space rest) (before_take p m rest ∙ ap (min m) none ∙ sym (length-take m rest))
+      rw (← end_take is_space rest) (before_take p m rest ∙ ap (min m) None ∙ sym (length-take m rest))
 
 pub given_once : (s : List ℕ) → before (equals 42) s ≡ length s → Often 1 (escape_of s)
 unfolding escape_of counted_name

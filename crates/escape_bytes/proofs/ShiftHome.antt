@@ -160,11 +160,11 @@ kept : (name : List ℕ) (count : ℕ) → alike shift_home name ≡ false → n
 unfolding name_escape_in
 kept [] count n = refl
 kept (b ∷ s) count n =
-    ap (λ (m : Match). elim (number_of 10 255 (b ∷ s)) as (λ _. Escape) [
+    ap (λ (m : Option Match). elim (number_of 10 255 (b ∷ s)) as (λ _. Option Escape) [
       | Some v ↦ Byte v count
-      | None ↦ elim (hex_of (b ∷ s)) as (λ _. Escape) [
+      | None ↦ elim (hex_of (b ∷ s)) as (λ _. Option Escape) [
         | Some v ↦ Byte v count
-        | None ↦ elim m as (λ _. Escape) [ Word i u code ↦ Byte code count | Nothing ↦ key_escape (b ∷ s) count ]
+        | None ↦ elim m as (λ _. Option Escape) [ Word i u code ↦ Byte code count | Nothing ↦ key_escape (b ∷ s) count ]
       ]
     ]) (names_kept (b ∷ s) n)
 

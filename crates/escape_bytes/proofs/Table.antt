@@ -17,7 +17,7 @@ use Rattle.escape_bytes.specs.declared.Escape.{Escape}
 use Rattle.escape_bytes.specs.declared.Escape.TheVariants.{Byte, Unknown}
 
 infix 60 ◌gives◌
-abbrev pub ◌gives◌ : String → Escape → Type 0
+abbrev pub ◌gives◌ : String → Option Escape → Type 0
 inside gives e = escape_of (bytes_of inside) ≡ e
 
 pub escape-table :

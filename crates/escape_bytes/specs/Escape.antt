@@ -4,29 +4,29 @@ use Rattle.std.specs.Prelude.{ℕ, zero, suc, List, [], ◌∷◌, take, drop}
 use Rattle.base_ascii.specs.Trim.{trim}
 use Rattle.base_ascii.specs.Search.{equals, last}
 use Rattle.word_search.specs.Find.{Entry, name_in}
-use Rattle.word_search.specs.declared.Match.TheVariants.{Word, Nothing}
+use Rattle.std.specs.Prelude.{Option, Some, None}
 use Rattle.word_tables.specs.Escapes.{escape_names}
 use Rattle.escape_numbers.specs.Numbers.{number_of, hex_of, count_of}
 use Rattle.escape_bytes.specs.Keys.{key_escape}
 use Rattle.escape_bytes.specs.declared.Escape.{Escape}
-use Rattle.escape_bytes.specs.declared.Escape.TheVariants.{Byte, Unknown}
+use Rattle.std.specs.Prelude.{Option, Some, None}
 use Rattle.std.specs.Prelude.{Some, None}
 use Rattle.std.specs.Prelude.{Option}
 
 -- a name and its count, by a list of names: digits, $ and hex digits, one of the names, a key with one byte, in this order; an empty
 -- name is unknown
-unfoldable pub name_escape_in : List Entry → List ℕ → ℕ → Escape
-name_escape_in es [] count = Unknown
+unfoldable pub name_escape_in : List Entry → List ℕ → ℕ → Option Escape
+name_escape_in es [] count = None
 name_escape_in es (b ∷ s) count =
     elim (number_of 10 255 (b ∷ s)) [
-      | Some v ↦ Byte v count
+      | Some v ↦ Some (record { byte = v; count = count })
       | None ↦ elim (hex_of (b ∷ s)) [
-        | Some v ↦ Byte v count
-        | None ↦ elim (name_in es (b ∷ s)) [ Word i u code ↦ Byte code count | Nothing ↦ key_escape (b ∷ s) count ]
+        | Some v ↦ Some (record { byte = v; count = count })
+        | None ↦ elim (name_in es (b ∷ s)) [ Some m ↦ Some (record { byte = m.token; count = count }) | None ↦ key_escape (b ∷ s) count ]
       ]
     ]
 
-unfoldable pub name_escape : List ℕ → ℕ → Escape
+unfoldable pub name_escape : List ℕ → ℕ → Option Escape
 unfolding name_escape_in
 name_escape name count = name_escape_in escape_names name count
 
@@ -49,13 +49,13 @@ starred t n = repeated t n (count_of (trim (drop (suc n) t)))
 unfoldable pub counted_name : List ℕ → Counted
 counted_name t = elim (last (equals 42) t) [ Some n ↦ starred t n | None ↦ record { name = t; count = 1 } ]
 
-abbrev pub counted_escape : Counted → Escape
+abbrev pub counted_escape : Counted → Option Escape
 counted_escape c = name_escape c.name c.count
 
 -- the inside of the braces
-unfoldable pub escape_of : List ℕ → Escape
+unfoldable pub escape_of : List ℕ → Option Escape
 escape_of inside = counted_escape (counted_name (trim inside))
 
 -- the same by another list of names
-unfoldable pub escape_in : List Entry → List ℕ → Escape
+unfoldable pub escape_in : List Entry → List ℕ → Option Escape
 escape_in es inside = name_escape_in es (counted_name (trim inside)).name (counted_name (trim inside)).count

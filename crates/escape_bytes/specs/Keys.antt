@@ -2,7 +2,7 @@
 -- follows that mark is one byte after trimming").
 -- Assumes nothing.
 use Rattle.std.specs.Prelude.{ℕ, suc, ◌+◌, ◌-◌, ◌%◌, true, false, cond, List, [], ◌∷◌, take, drop, get_or}
-use Rattle.std.proofs.Math.Option.{none, some}
+use Rattle.std.specs.Prelude.{None, Some}
 use Rattle.base_ascii.specs.Bytes.{is_digit, is_letter, upper}
 use Rattle.base_ascii.specs.Search.{is_mark, before}
 use Rattle.base_ascii.specs.Trim.{trim}
@@ -12,7 +12,7 @@ use Rattle.escape_bytes.specs.KeyCodes.{cbm_letters, ctrl_digits}
 use Rattle.escape_bytes.specs.declared.Key.{Key}
 use Rattle.escape_bytes.specs.declared.Key.TheVariants.{Control, Commodore, Shift}
 use Rattle.escape_bytes.specs.declared.Escape.{Escape}
-use Rattle.escape_bytes.specs.declared.Escape.TheVariants.{Byte, Unknown}
+use Rattle.std.specs.Prelude.{Option, Some, None}
 
 -- the prefixes, and the key that each names
 unfoldable pub key_names : List (Name Key)
@@ -31,17 +31,17 @@ unfoldable pub control_byte : ℕ → ℕ
 control_byte b = cond (is_digit b) (get_or ctrl_digits (b - 48) 0) (cond (is_letter b) (upper b - 64) (b % 32))
 
 -- the byte that a key gives with another, so often
-unfoldable pub key_with : Key → ℕ → ℕ → Escape
-key_with Control b count = Byte (control_byte b) count
-key_with Commodore b count = elim (is_letter b) [ true ↦ Byte (get_or cbm_letters (upper b - 65) 0) count | false ↦ Unknown ]
-key_with Shift b count = elim (is_letter b) [ true ↦ Byte (0xC0 + (upper b - 64)) count | false ↦ Unknown ]
+unfoldable pub key_with : Key → ℕ → ℕ → Option Escape
+key_with Control b count = Some (record { byte = control_byte b; count = count })
+key_with Commodore b count = elim (is_letter b) [ true ↦ Some (record { byte = get_or cbm_letters (upper b - 65) 0; count = count }) | false ↦ None ]
+key_with Shift b count = elim (is_letter b) [ true ↦ Some (record { byte = 0xC0 + (upper b - 64); count = count }) | false ↦ None ]
 
 -- a prefix and what follows its mark: one byte, or nothing is known
-unfoldable pub keyed : List ℕ → List ℕ → ℕ → Escape
-keyed prefix [] count = Unknown
-keyed prefix (b ∷ []) count = elim (meaning key_names prefix) [ some key ↦ key_with key b count | none ↦ Unknown ]
-keyed prefix (b ∷ c ∷ s) count = Unknown
+unfoldable pub keyed : List ℕ → List ℕ → ℕ → Option Escape
+keyed prefix [] count = None
+keyed prefix (b ∷ []) count = elim (meaning key_names prefix) [ Some key ↦ key_with key b count | None ↦ None ]
+keyed prefix (b ∷ c ∷ s) count = None
 
 -- a name split at its first mark; a name without one has nothing behind it
-unfoldable pub key_escape : List ℕ → ℕ → Escape
+unfoldable pub key_escape : List ℕ → ℕ → Option Escape
 key_escape name count = keyed (take (before is_mark name) name) (trim (drop (suc (before is_mark name)) name)) count

@@ -6,10 +6,11 @@ ghost use Rattle.escape_bytes.specs.KeyCodes.{cbm_letters, ctrl_digits};
 ghost use Rattle.escape_bytes.specs.Keys.{control_byte, key_with};
 ghost use Rattle.escape_bytes.specs.declared.Key.TheVariants.{Commodore, Shift};
 
+// What an escape stands for: a byte, so many times.
 #[derive(Clone, Copy)]
-pub enum Escape {
-    Byte { byte: u8, count: u64 },
-    Unknown,
+pub struct Escape {
+    pub byte: u8,
+    pub count: u64,
 }
 
 // A key that is held while another is pressed.
@@ -57,40 +58,40 @@ fn control_byte(b: u8) -> u8
 }
 
 // What the Commodore key gives with a byte.
-fn commodore_with(b: u8, count: u64) -> Escape
+fn commodore_with(b: u8, count: u64) -> Option<Escape>
     ensures { result ≡ key_with Commodore b count }
 {
     if !base_ascii::is_letter(b) {
-        return Escape::Unknown;
+        return None;
     }
-    Escape::Byte {
+    Some(Escape {
         byte: cbm_letter_byte(base_ascii::wide(base_ascii::upper(b) - 65)),
         count,
-    }
+    })
 }
 
 // What the shift key gives with a byte.
-fn shift_with(b: u8, count: u64) -> Escape
+fn shift_with(b: u8, count: u64) -> Option<Escape>
     ensures { result ≡ key_with Shift b count }
 {
     if !base_ascii::is_letter(b) {
-        return Escape::Unknown;
+        return None;
     }
-    Escape::Byte {
+    Some(Escape {
         byte: 0xC0 + (base_ascii::upper(b) - 64),
         count,
-    }
+    })
 }
 
 // What a key gives with a byte.
-pub fn key_with(key: Key, b: u8, count: u64) -> Escape
+pub fn key_with(key: Key, b: u8, count: u64) -> Option<Escape>
     ensures { result ≡ key_with key b count }
 {
     match key {
-        Key::Control => Escape::Byte {
+        Key::Control => Some(Escape {
             byte: control_byte(b),
             count,
-        },
+        }),
         Key::Commodore => commodore_with(b, count),
         Key::Shift => shift_with(b, count),
     }

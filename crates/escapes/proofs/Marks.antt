@@ -4,7 +4,7 @@ use Prim.Native.Nat.{ℕ, zero, suc, ◌+◌, ◌-◌, ◌≤◌, ◌<◌, min}
 use mathlib.Core.Path.{◌≡◌, refl, sym, ap, ◌∙◌}
 use mathlib.Core.Bool.{Bool, true, false, not, ◌&&◌, false≢true, and-false}
 use mathlib.Core.List.{List, [], ◌∷◌, map}
-use mathlib.Core.Option.{Option, none, some}
+use Rattle.std.specs.Prelude.{Option, None, Some}
 use native.Mathlib.Decide.{dec_le}
 use native.Mathlib.Numerals.{add-one}
 use native.Mathlib.Omega.{arith}
@@ -86,7 +86,7 @@ shorter : {A : Type 0} → ℕ → List (Name A) → Bool
 shorter n [] = true
 shorter n (x ∷ ns) = ltb (length x.name) n && shorter n ns
 
-long_unnamed : {A : Type 0} (t : List ℕ) (n : ℕ) → n ≤ length t → (ns : List (Name A)) → T (shorter n ns) → meaning ns t ≡ none
+long_unnamed : {A : Type 0} (t : List ℕ) (n : ℕ) → n ≤ length t → (ns : List (Name A)) → T (shorter n ns) → meaning ns t ≡ None
 unfolding meaning alike shorter
 long_unnamed t n h [] s = refl
 long_unnamed t n h (x ∷ ns) s =
@@ -95,7 +95,7 @@ long_unnamed t n h (x ∷ ns) s =
     rw (meaning, other) (long_unnamed t n h ns (and_right (ltb (length x.name) n) _ s))
 
 -- no prefix has more than seven bytes
-long_prefix : (prefix : List ℕ) → 8 ≤ length prefix → meaning key_names prefix ≡ none
+long_prefix : (prefix : List ℕ) → 8 ≤ length prefix → meaning key_names prefix ≡ None
 unfolding shorter key_names
 long_prefix prefix h = long_unnamed prefix 8 h key_names tt
 
@@ -111,19 +111,19 @@ apart (c ∷ w) [] o n = refl
 apart (c ∷ w) (b ∷ t) o n =
     left _ _ (ne_eqb (upper c) (upper b) (λ e. false≢true (sym n ∙ ap is_key_letter (sym e) ∙ T_true (is_key_letter (upper c)) o)))
 
-other_unnamed : {A : Type 0} (t : List ℕ) → begins_key t ≡ false → (ns : List (Name A)) → T (all_begin ns) → meaning ns t ≡ none
+other_unnamed : {A : Type 0} (t : List ℕ) → begins_key t ≡ false → (ns : List (Name A)) → T (all_begin ns) → meaning ns t ≡ None
 unfolding meaning alike all_begin
 other_unnamed t n [] s = refl
 other_unnamed t n (x ∷ ns) s =
     let none_here : alike x.name t ≡ false = rw (alike, apart x.name t (and_left (begins_key x.name) _ s) n) (and-false (eqb (length x.name) (length t))) in
     rw (meaning, none_here) (other_unnamed t n ns (and_right (begins_key x.name) _ s))
 
-other_prefix : (prefix : List ℕ) → begins_key prefix ≡ false → meaning key_names prefix ≡ none
+other_prefix : (prefix : List ℕ) → begins_key prefix ≡ false → meaning key_names prefix ≡ None
 unfolding all_begin begins_key upper key_names
 other_prefix prefix n = other_unnamed prefix n key_names tt
 
 -- what is no prefix gives nothing
-unprefixed : (prefix arg : List ℕ) (count : ℕ) → meaning key_names prefix ≡ none → Unknown ≡ keyed prefix arg count
+unprefixed : (prefix arg : List ℕ) (count : ℕ) → meaning key_names prefix ≡ None → Unknown ≡ keyed prefix arg count
 unfolding keyed
 unprefixed prefix [] count h = refl
 unprefixed prefix (b ∷ []) count h = rw (keyed, h)
@@ -147,7 +147,7 @@ module _ (name : List ℕ) (count : ℕ) {mark reach : ℕ} where
   marked : mark < reach → mark ≡ before is_mark (take reach name) → mark ≡ before is_mark name
   marked h m = omega (arith, before_take is_mark reach name)
 
-  -- where there is none among them, the prefix is too long, or there is no mark
+  -- where there is None among them, the prefix is too long, or there is no mark
   pub key_unreached : reach ≤ mark → mark ≡ before is_mark (take reach name) → reach ≡ min (length name) 8 → Unknown ≡ key_escape name count
   unfolding key_escape
   key_unreached h m r = go (dec_le (length name) 7)
@@ -175,7 +175,7 @@ module _ (name : List ℕ) (count : ℕ) {mark reach : ℕ} where
     key_long n a h m = keyed_other (take mark name) arg count n ∙ split a h m
 
     -- the prefix has its own function
-    pub key_split : {e : Escape} → e ≡ keyed (take mark name) (get_or arg 0 0 ∷ []) count → length arg ≡ 1
+    pub key_split : {e : Option Escape} → e ≡ keyed (take mark name) (get_or arg 0 0 ∷ []) count → length arg ≡ 1
         → arg ≡ trim (take (length name - (mark + 1)) (drop (mark + 1) name)) → mark < reach → mark ≡ before is_mark (take reach name)
         → e ≡ key_escape name count
     key_split e one a l m = e ∙ sym (keyed_one (take mark name) arg count one) ∙ split a l m
@@ -183,14 +183,14 @@ module _ (name : List ℕ) (count : ℕ) {mark reach : ℕ} where
 -- ---- a prefix, looked for among those stored
 
 module _ (prefix : List ℕ) (c count : ℕ) (b s : List ℕ) {r : ℕ} where
-  pub prefix_known : {e : Escape} → e ≡ key_with (get_or (map (λ k. k.means) key_names) r Control) c count → r < 7
+  pub prefix_known : {e : Option Escape} → e ≡ key_with (get_or (map (λ k. k.means) key_names) r Control) c count → r < 7
       → r ≡ first_from (passes_at Alike prefix b s) 0 (7 - 0) → T (spells_names b s 0 key_names) → e ≡ keyed prefix (c ∷ []) count
   unfolding keyed key_names
   prefix_known e h f spelt =
-      e ∙ sym (ap (λ (k : Option Key). elim k as (λ _. Escape) [ some key ↦ key_with key c count | none ↦ Unknown ])
+      e ∙ sym (ap (λ (k : Option Key). elim k as (λ _. Option Escape) [ Some key ↦ key_with key c count | None ↦ Unknown ])
       (sym (name_means b s prefix key_names spelt f Control h)))
 
   pub prefix_unknown : 7 ≤ r → r ≡ first_from (passes_at Alike prefix b s) 0 (7 - 0) → T (spells_names b s 0 key_names) → Unknown ≡ keyed prefix (c ∷ []) count
   unfolding keyed key_names
   prefix_unknown h f spelt =
-      ap (λ (k : Option Key). elim k as (λ _. Escape) [ some key ↦ key_with key c count | none ↦ Unknown ]) (name_unknown b s prefix key_names spelt f h)
+      ap (λ (k : Option Key). elim k as (λ _. Option Escape) [ Some key ↦ key_with key c count | None ↦ Unknown ]) (name_unknown b s prefix key_names spelt f h)

@@ -46,12 +46,12 @@ module _ (name : List ℕ) (count : ℕ) {d : (Option ℕ)} where
   pub name_hex : {x : (Option ℕ)} {v : ℕ} → x ≡ Some v → x ≡ hex_of name → d ≡ None → d ≡ number_of 10 255 name → (length name ≡ 0 → ⊥) → Byte v count ≡ name_escape name count
   name_hex e q m p some = rw (name_some name count some, sym p ∙ m, sym q ∙ e)
 
-  module _ {x : (Option ℕ)} {w : Match} where
+  module _ {x : (Option ℕ)} {w : Option Match} where
     pub name_listed : {i u code : ℕ} → w ≡ Word i u code → w ≡ name_in escape_names name → x ≡ None → x ≡ hex_of name → d ≡ None → d ≡ number_of 10 255 name
         → (length name ≡ 0 → ⊥) → Byte code count ≡ name_escape name count
     name_listed e f n q m p some = rw (name_some name count some, sym p ∙ m, sym q ∙ n, sym f ∙ e)
 
-    pub name_keyed : {k : Escape} → k ≡ key_escape name count → w ≡ Nothing → w ≡ name_in escape_names name → x ≡ None → x ≡ hex_of name → d ≡ None
+    pub name_keyed : {k : Option Escape} → k ≡ key_escape name count → w ≡ Nothing → w ≡ name_in escape_names name → x ≡ None → x ≡ hex_of name → d ≡ None
         → d ≡ number_of 10 255 name → (length name ≡ 0 → ⊥) → k ≡ name_escape name count
     name_keyed g e f n q m p some = g ∙ rw (name_some name count some, sym p ∙ m, sym q ∙ n, sym f ∙ e)
 

@@ -311,7 +311,7 @@ module _ (t : List ℕ) (n : ℕ) {c : (Option ℕ)} {a : List ℕ} where
     starred_missing g e k b = g ∙ ap (number_tail t n) (sym e ∙ number_behind k b)
 
 -- an end by its tail
-module _ (t : List ℕ) {w : Tail} (k : ℕ) {name : List ℕ} {r : Escape} where
+module _ (t : List ℕ) {w : Tail} (k : ℕ) {name : List ℕ} {r : Option Escape} where
   pub end_counted : r ≡ name_escape name w.count → name ≡ past is_space (drop k (take w.name t)) → k < w.star → TailOf t w → r ≡ escape_of (drop k t)
   unfolding tail_escape
   end_counted g q h f = g ∙ sym (f.gives k ∙ rw (tail_escape, lt-ltb k w.star h, sym q))

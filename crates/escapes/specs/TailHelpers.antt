@@ -13,7 +13,7 @@ use Rattle.std.specs.Prelude.{Option, Some, None}
 
 -- what a tail makes of a text from place k on: the name before the *, so often as its count says, where the * is in what is left; else
 -- the whole is the name
-unfoldable pub tail_escape : List ℕ → Tail → ℕ → Escape
+unfoldable pub tail_escape : List ℕ → Tail → ℕ → Option Escape
 tail_escape t w k =
     elim (ltb k w.star) [
       | true ↦ name_escape (past is_space (drop k (take w.name t))) w.count

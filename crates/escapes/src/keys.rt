@@ -32,7 +32,7 @@ fn at_most_eight(n: usize) -> usize
 }
 
 // What a prefix and the one byte behind its mark give.
-fn prefixed(prefix: &[u8], b: u8, count: u64) -> Escape
+fn prefixed(prefix: &[u8], b: u8, count: u64) -> Option<Escape>
     ensures { result ≡ keyed prefix.now (b ∷ []) count }
 {
     let k = word_search::first_passing(
@@ -46,7 +46,7 @@ fn prefixed(prefix: &[u8], b: u8, count: u64) -> Escape
     if k < 7 {
         return escape_bytes::key_with(KEYS[k], b, count);
     }
-    Escape::Unknown
+    None
 }
 
 // Whether a name begins as a prefix does, with C or S.
@@ -65,21 +65,21 @@ fn begins_key(name: &[u8]) -> bool
 
 // The escape of a name that is a prefix, a mark and one byte. Most texts that are no escape begin with another letter than a prefix. No prefix has more than
 // seven bytes, so its mark is one of the first eight, and no more of a long text is read.
-pub fn key_escape(name: &[u8], count: u64) -> Escape
+pub fn key_escape(name: &[u8], count: u64) -> Option<Escape>
     ensures { result ≡ key_escape name.now count }
 {
     if !begins_key(name) {
-        return Escape::Unknown;
+        return None;
     }
     let reach = at_most_eight(name.len());
     let mark = search::before(&name[..reach], Kind::Mark);
     if reach <= mark {
-        return Escape::Unknown;
+        return None;
     }
     let from = mark + 1;
     let argument = base_ascii::trim(&name[from..]);
     if argument.len() != 1 {
-        return Escape::Unknown;
+        return None;
     }
     prefixed(&name[..mark], argument[0], count)
 }

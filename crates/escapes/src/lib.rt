@@ -29,14 +29,14 @@ pub struct Tail {
 }
 
 // The escape between two braces.
-pub fn petscii_escape(inside: &[u8]) -> Escape
+pub fn petscii_escape(inside: &[u8]) -> Option<Escape>
     ensures { result ≡ escape_of inside.now }
 {
     resolve_petscii_escape(inside, &spellings::WORD_BYTES, &spellings::WORD_INDEX)
 }
 
 // The same, with the tables lent.
-pub fn resolve_petscii_escape(inside: &[u8], bytes: &[u8], index: &[u16]) -> Escape
+pub fn resolve_petscii_escape(inside: &[u8], bytes: &[u8], index: &[u16]) -> Option<Escape>
     requires { SpellsWords bytes.now index.now }
     ensures { result ≡ escape_of inside.now }
 {
@@ -94,7 +94,7 @@ fn starred_tail(text: &[u8], star: usize) -> Tail
 }
 
 // The escape that a text is from a place on, by the text's tail.
-pub fn escape_from(inside: &[u8], at: usize, tail: Tail, bytes: &[u8], index: &[u16]) -> Escape
+pub fn escape_from(inside: &[u8], at: usize, tail: Tail, bytes: &[u8], index: &[u16]) -> Option<Escape>
     requires { TailOf inside.now tail × SpellsWords bytes.now index.now }
     ensures { result ≡ escape_of (drop at inside.now) }
 {
@@ -118,30 +118,30 @@ fn part(text: &[u8], from: usize, to: usize) -> &[u8]
 }
 
 // The escape of a name without its count.
-fn resolve_name(name: &[u8], count: u64, bytes: &[u8], index: &[u16]) -> Escape
+fn resolve_name(name: &[u8], count: u64, bytes: &[u8], index: &[u16]) -> Option<Escape>
     requires { SpellsWords bytes.now index.now }
     ensures { result ≡ name_escape name.now count }
 {
     if name.len() == 0 {
-        return Escape::Unknown;
+        return None;
     }
     match escape_numbers::number_in(name, 10, 255) {
-        Some(v) => Escape::Byte {
+        Some(v) => Some(Escape {
             byte: v as u8,
             count,
-        },
+        }),
         None => match escape_numbers::hex_number(name) {
-            Some(v) => Escape::Byte {
+            Some(v) => Some(Escape {
                 byte: v as u8,
                 count,
-            },
+            }),
             None => match word_match::match_escape(name, bytes, index) {
-                Match::Word {
+                Some(Match {
                     index: _,
                     used: _,
                     token,
-                } => Escape::Byte { byte: token, count },
-                Match::Nothing => keys::key_escape(name, count),
+                }) => Some(Escape { byte: token, count }),
+                None => keys::key_escape(name, count),
             },
         },
     }

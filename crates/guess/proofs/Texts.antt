@@ -6,12 +6,12 @@ use mathlib.Core.Bool.{Bool, true, false}
 use mathlib.Core.List.{List}
 use native.Mathlib.Omega.{arith}
 use lib.ListN.{length, take, drop}
-use Rattle.base_refusals.specs.Answer.{done, refused, numbered}
+use Rattle.base_refusals.specs.Answer.{done, refused, numbered, answered}
 use Rattle.base_refusals.specs.declared.Refusal.{Refusal}
 use Rattle.word_dialects.specs.Dialects.{is_basic35}
 use Rattle.word_dialects.specs.declared.Dialect.{Dialect}
 use Rattle.word_dialects.specs.declared.Dialect.TheVariants.{Auto, BasicV2, Tsb, Basic35}
-use Rattle.text_domain.specs.Domain.{checked_text, text_check_answer}
+use Rattle.text_domain.specs.Domain.{checked_text}
 use Rattle.text_lines.specs.SplitHelpers.{line_from}
 use Rattle.text_lines.specs.TextLines.{text_lines}
 use Rattle.text_lines.specs.declared.LineRule.{LineRule}
@@ -109,11 +109,11 @@ module _ {d : Dialect} (t : List ℕ) where
   as_basic35 e = rw e
 
 module _ (d : Dialect) (t : List ℕ) {c : (Result (Unit {0}) Refusal)} where
-  pub resolved_fine : {r : Dialect} → r ≡ guessed_dialect d t → c ≡ (Ok tt) → text_check_answer c ≡ checked_text t → done r ≡ resolved d t
+  pub resolved_fine : {r : Dialect} → r ≡ guessed_dialect d t → c ≡ (Ok tt) → answered c ≡ checked_text t → done r ≡ resolved d t
   unfolding resolved
   resolved_fine q e p = rw (← p, e) (ap done q)
 
-  pub resolved_refused : {x : Refusal} → c ≡ Err x → text_check_answer c ≡ checked_text t → refused (numbered x) ≡ resolved d t
+  pub resolved_refused : {x : Refusal} → c ≡ Err x → answered c ≡ checked_text t → refused (numbered x) ≡ resolved d t
   unfolding resolved
   resolved_refused e p = rw (← p, e)
 

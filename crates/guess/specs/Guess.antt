@@ -54,10 +54,6 @@ unfoldable pub resolved : Dialect → List ℕ → Answer Dialect
 unfolding checked_text guessed_dialect
 resolved d t = and_then (checked_text t) (λ _. done (guessed_dialect d t))
 
-abbrev pub resolved_answer : Result Dialect Refusal → Answer Dialect
-resolved_answer (Ok d) = done d
-resolved_answer (Err r) = refused (numbered r)
-
 -- ---- the words that are live, and those that are demoted: the text after CR handling (document 01: "Tsb makes every TSB word live,
 -- BasicV2 none. Auto makes none live unless tsb_statement_evidence holds; then words found by tsb_words_used_as_variables are demoted
 -- and the others live."; document 02, No. 7: "The dialect guess never uses short forms")

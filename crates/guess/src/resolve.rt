@@ -2,7 +2,8 @@
 ghost use Rattle.std.specs.Prelude.{◌≡◌, ◌≤◌, length};
 ghost use Rattle.word_tables.specs.WordsHelpers.{SpellsWords};
 ghost use Rattle.text_lines.specs.TextLines.{text_lines};
-ghost use Rattle.guess.specs.Guess.{evidence as evidence_of, all_names, guessed_dialect, resolved, resolved_answer, word_sets};
+ghost use Rattle.guess.specs.Guess.{evidence as evidence_of, all_names, guessed_dialect, resolved, word_sets};
+ghost use Rattle.base_refusals.specs.Answer.{answered};
 
 use base_refusals::Refusal;
 use text_lines::LineRule;
@@ -68,7 +69,7 @@ fn guessed(text: &[u8], dialect: Dialect) -> Dialect
 
 // The dialect by which a text is taken.
 pub fn resolved_dialect(text: &[u8], dialect: Dialect) -> Result<Dialect, Refusal>
-    ensures { resolved_answer result ≡ resolved dialect text.now }
+    ensures { answered result ≡ resolved dialect text.now }
 {
     match text_domain::check_text(text) {
         Ok(()) => Ok(guessed(text, dialect)),

@@ -41,7 +41,7 @@ use Rattle.std.specs.Prelude.{Option, Some, None}
 
 -- ---- what a word proves
 
-module _ (place : Place) (t : List ℕ) {m : Match} where
+module _ (place : Place) (t : List ℕ) {m : Option Match} where
   pub word_proves_lem : {index used token : ℕ} {s y : Bool} → y ≡ proves s t used → s ≡ is_start place → m ≡ Word index used token → m ≡ word_in tsb_words t → y ≡ word_proves place t
   unfolding word_proves
   word_proves_lem {index} {used} {token} r q e p = r ∙ ap (λ (b : Bool). proves b t used) q ∙ rw (sym p ∙ e)
@@ -50,7 +50,7 @@ module _ (place : Place) (t : List ℕ) {m : Match} where
   unfolding word_proves
   no_word_proves e p = rw (sym p ∙ e)
 
-pub word_within : (t : List ℕ) {m : Match} {index used token : ℕ} → m ≡ Word index used token → m ≡ word_in tsb_words t → used ≤ length t
+pub word_within : (t : List ℕ) {m : Option Match} {index used token : ℕ} → m ≡ Word index used token → m ≡ word_in tsb_words t → used ≤ length t
 word_within t e p = (word_bounds t (sym p ∙ e)).within
 
 -- ---- a step on through a statement
@@ -381,7 +381,7 @@ module _ (l : List ℕ) {f : (Option ℕ)} where
   unfolding deciding_word
   no_word_told e q = rw (deciding_word, sym q ∙ e)
 
-module _ (t : List ℕ) {m : Match} where
+module _ (t : List ℕ) {m : Option Match} where
   pub place_listed : {index used token : ℕ} → m ≡ Word index used token → m ≡ word_in tsb_words t → index ≡ list_place t
   unfolding list_place
   place_listed e q = rw (sym q ∙ e)

@@ -7,7 +7,7 @@ use Rattle.base_ascii.specs.Bytes.{is_digit}
 use Rattle.base_ascii.specs.Search.{is_white, front, past}
 use Rattle.word_search.specs.Compare.{begins}
 use Rattle.word_search.specs.Find.{word_in}
-use Rattle.word_search.specs.declared.Match.TheVariants.{Word, Nothing}
+use Rattle.std.specs.Prelude.{Option, Some, None}
 use Rattle.word_search.specs.Spelling.{bytes_of}
 use Rattle.word_tables.specs.Tsb.{tsb_words}
 use Rattle.guess_uses.specs.Proving.{proves}
@@ -23,7 +23,7 @@ use Rattle.std.specs.Prelude.{Option, Some, None}
 -- a TSB word in front of a text proves it
 unfoldable pub word_proves : Place → List ℕ → Bool
 unfolding is_start word_in tsb_words proves
-word_proves place t = elim (word_in tsb_words t) [ Word index used token ↦ proves (is_start place) t used | Nothing ↦ false ]
+word_proves place t = elim (word_in tsb_words t) [ Some m ↦ proves (is_start place) t m.used | None ↦ false ]
 
 -- a step on through a statement: a colon ends it, white space leaves the place as it is, a TSB word may prove it
 unfoldable pub word_step : Place → List ℕ → EvidenceStep
@@ -99,7 +99,7 @@ deciding_place l = deciding_from (number_length l) Start (drop (number_length l)
 -- the place in the list of the TSB word that a text begins with; 0 where there is none
 unfoldable pub list_place : List ℕ → ℕ
 unfolding word_in tsb_words
-list_place t = elim (word_in tsb_words t) [ Word index used token ↦ index | Nothing ↦ 0 ]
+list_place t = elim (word_in tsb_words t) [ Some m ↦ m.index | None ↦ 0 ]
 
 unfoldable pub deciding_word : List ℕ → DecidingWord
 unfolding deciding_place list_place

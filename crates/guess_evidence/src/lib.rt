@@ -40,12 +40,12 @@ fn word_proves(place: Place, text: &[u8], marks: &[u8], bytes: &[u8], index: &[u
     ensures { result ≡ word_proves place text.now }
 {
     match beginnings::tsb_word(text, bytes, index) {
-        Match::Word {
+        Some(Match {
             index: _,
             used,
             token: _,
-        } => proving::proves(place::is_start(place), text, used, marks),
-        Match::Nothing => false,
+        }) => proving::proves(place::is_start(place), text, used, marks),
+        None => false,
     }
 }
 
@@ -137,12 +137,12 @@ fn list_place(text: &[u8], bytes: &[u8], index: &[u16]) -> usize
     ensures { result ≡ list_place text.now }
 {
     match beginnings::tsb_word(text, bytes, index) {
-        Match::Word {
+        Some(Match {
             index: word,
             used: _,
             token: _,
-        } => word,
-        Match::Nothing => 0,
+        }) => word,
+        None => 0,
     }
 }
 

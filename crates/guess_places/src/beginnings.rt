@@ -28,18 +28,18 @@ fn may_be_second(b: u8) -> bool
 }
 
 // The TSB word that a text begins with. Each begins with a letter and has a second byte, so that most places are not looked up.
-pub fn tsb_word(text: &[u8], bytes: &[u8], index: &[u16]) -> Match
+pub fn tsb_word(text: &[u8], bytes: &[u8], index: &[u16]) -> Option<Match>
     requires { SpellsWords bytes.now index.now }
     ensures { result ≡ word_in tsb_words text.now }
 {
     if text.len() < 2 {
-        return Match::Nothing;
+        return None;
     }
     if !base_ascii::is_letter(text[0]) {
-        return Match::Nothing;
+        return None;
     }
     if !may_be_second(text[1]) {
-        return Match::Nothing;
+        return None;
     }
     word_match::match_in(WordList::Tsb, Test::Begins, text, bytes, index)
 }

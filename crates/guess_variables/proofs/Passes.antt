@@ -130,7 +130,7 @@ module _ (line : List ℕ) (i used : ℕ) where
     unfolding is_name
     name_dim q e p = q ∙ ap (λ (r : Bool). r || after_dim (passed_at line i)) (sym e ∙ told_assigned p)
 
-module _ (line : List ℕ) (i : ℕ) {m : Match} where
+module _ (line : List ℕ) (i : ℕ) {m : Option Match} where
   told_word : m ≡ word_in tsb_words (rest line i) → word_in tsb_words (drop i line) ≡ m
   told_word p = sym (p ∙ ap (word_in tsb_words) (tail line i))
 
@@ -232,7 +232,7 @@ module _ (passed : List ℕ) (t : List ℕ) (h : 0 < length t) where
   unfolding word_pass
   far_word = go (word_in tsb_words t) refl
     where
-      go : (m : Match) → word_in tsb_words t ≡ m
+      go : (m : Option Match) → word_in tsb_words t ≡ m
           → Far (length t) (elim m [
             | Word index used token ↦ elim (is_name passed t used) [ true ↦ Name index used | false ↦ On used Within ]
             | Nothing ↦ On 1 Within

@@ -10,7 +10,7 @@ use Rattle.base_ascii.specs.Search.{is_white, front, past}
 use Rattle.base_ascii.specs.declared.search.Kind.TheVariants.{Space}
 use Rattle.word_search.specs.Compare.{begins}
 use Rattle.word_search.specs.Find.{word_in}
-use Rattle.word_search.specs.declared.Match.TheVariants.{Word, Nothing}
+use Rattle.std.specs.Prelude.{Option, Some, None}
 use Rattle.word_search.specs.Spelling.{bytes_of}
 use Rattle.word_tables.specs.Tsb.{tsb_words}
 use Rattle.guess_uses.specs.Ahead.{assigns}
@@ -34,8 +34,8 @@ unfoldable pub word_pass : List ℕ → List ℕ → Pass
 unfolding word_in tsb_words is_name
 word_pass passed t =
     elim (word_in tsb_words t) [
-      | Word index used token ↦ elim (is_name passed t used) [ true ↦ Name index used | false ↦ On used Within ]
-      | Nothing ↦ On 1 Within
+      | Some m ↦ elim (is_name passed t m.used) [ true ↦ Name m.index m.used | false ↦ On m.used Within ]
+      | None ↦ On 1 Within
     ]
 
 -- a step outside strings and DATA

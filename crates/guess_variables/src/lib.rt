@@ -64,17 +64,17 @@ fn word_pass(line: &[u8], i: usize, marks: &[u8], bytes: &[u8], index: &[u16]) -
     ensures { result ≡ word_pass (reverse (take i line.now)) (drop i line.now) }
 {
     match beginnings::tsb_word(&line[i..], bytes, index) {
-        Match::Word {
+        Some(Match {
             index: word,
             used,
             token: _,
-        } => {
+        }) => {
             if is_name(line, i, used, marks) {
                 return Pass::Name { index: word, used };
             }
             on(used, Place::Within)
         }
-        Match::Nothing => on(1, Place::Within),
+        None => on(1, Place::Within),
     }
 }
 

@@ -5,7 +5,7 @@ ghost use Rattle.std.specs.Prelude.{◌≡◌};
 ghost use Rattle.image_find.specs.Sought.{sought_answer, line_sought, body_in};
 
 use base_refusals::Refusal;
-use image_readers::{Line, Step, links};
+use image_readers::{Line, links};
 
 // An image has at most this many bytes.
 const LONGEST: usize = 1048576;
@@ -37,7 +37,7 @@ pub fn find_line(image: &[u8], number: u16, limit: usize) -> Sought
     let mut visited: usize = 0;
     loop {
         match links::step(image, offset) {
-            Step::Found(line) => {
+            Ok(Some(line)) => {
                 if visited >= limit {
                     return Sought::LimitReached;
                 }
@@ -47,10 +47,10 @@ pub fn find_line(image: &[u8], number: u16, limit: usize) -> Sought
                 }
                 offset = line.next;
             }
-            Step::End => {
+            Ok(None) => {
                 return Sought::Nowhere { visited };
             }
-            Step::Refused(refusal) => {
+            Err(refusal) => {
                 if limit <= visited {
                     return Sought::LimitReached;
                 }

@@ -8,7 +8,7 @@ ghost use Rattle.image_fitness.specs.FaultHelpers.{moved_by, MovedIs, FaultIs};
 
 use image_faults::{Fault, Told};
 use image_jumps::{Cursor, Next};
-use image_readers::{Line, Step, links};
+use image_readers::{Line, links};
 
 // What is looked at in a line, in this order.
 #[derive(Clone, Copy)]
@@ -114,9 +114,9 @@ fn line_step(image: &[u8], marked: &[u8], check: Check, offset: usize, least: us
     ensures { MovedIs (has_mark marked.now) image.now (record { stage = Stage.Line check; offset = offset; least = least }) result }
 {
     match links::step(image, offset) {
-        Step::Found(line) => in_line(image, marked, check, offset, least, line),
-        Step::End => Moved::On(at(Stage::Relinking, offset, least)),
-        Step::Refused(_) => Moved::On(at(Stage::Relinking, offset, least)),
+        Ok(Some(line)) => in_line(image, marked, check, offset, least, line),
+        Ok(None) => Moved::On(at(Stage::Relinking, offset, least)),
+        Err(_) => Moved::On(at(Stage::Relinking, offset, least)),
     }
 }
 

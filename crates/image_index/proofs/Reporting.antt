@@ -8,14 +8,13 @@ use native.Mathlib.Omega.{arith}
 use lib.ListN.{length, replicate}
 use borrow.Author.Tests.{lt-ltb}
 use Rattle.base_refusals.specs.Numbers.{Numbered, too_many_lines, target_too_high, no_room}
-use Rattle.base_refusals.specs.Answer.{done, refused, map_done, numbered}
+use Rattle.base_refusals.specs.Answer.{done, refused, map_done, numbered, answered}
 use Rattle.base_refusals.specs.declared.Refusal.{Refusal}
 use Rattle.base_lent.specs.Lent.{Lent, into_buffer}
 use Rattle.base_lent.specs.Stores.{Room, Put, HasRoom}
 use Rattle.base_lent.proofs.Outcomes.{into_refused, into_none, into_done}
 use Rattle.image_readers.specs.declared.Checked.{Checked}
 use Rattle.image_readers.specs.declared.Checked.TheVariants.{Image, Refused as RefusedImage}
-use Rattle.image_readers.specs.Answers.{checked_answer}
 use Rattle.image_readers.specs.IndexLines.{index_line, has_line}
 use Rattle.image_readers.specs.Lined.{Lined, lined_from}
 use Rattle.image_readers.specs.Lines.{overview}
@@ -105,7 +104,7 @@ module _ (out : List ℕ) {s : List ℕ} {n : ℕ} (k : Faultless s n) where
 
 -- ---- from the check of an image
 
-module _ (s : List ℕ) {r : Checked} (e : checked_answer r ≡ overview link_step s) where
+module _ (s : List ℕ) {r : Checked} (e : answered r ≡ overview link_step s) where
   pub check_marked : {load n : ℕ} {marked : List ℕ} → r ≡ Image load n → marked ≡ line_marks (replicate 65536 0) (lined_from link_step s 2).lines
       → NumbersMarked (map index_line (found_from s 2)) marked
   check_marked is m =

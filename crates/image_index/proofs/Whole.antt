@@ -11,7 +11,7 @@ use lib.Dec.{ltb}
 use lib.ListN.{length, length-append, length-map}
 use borrow.Author.Tests.{lt-ltb, le-ltb, ltb-true, ltb-false}
 use Rattle.base_refusals.specs.Numbers.{Numbered, too_many_lines, target_too_high, no_room}
-use Rattle.base_refusals.specs.Answer.{Answer, done, refused, map_done, and_then, numbered}
+use Rattle.base_refusals.specs.Answer.{Answer, done, refused, map_done, and_then, numbered, answered}
 use Rattle.base_refusals.specs.declared.Refusal.{Refusal}
 use Rattle.base_lent.specs.Lent.{Lent, into_buffer}
 use Rattle.base_lent.specs.Stores.{Room, Put, HasRoom}
@@ -19,10 +19,10 @@ use Rattle.base_lent.proofs.Outcomes.{into_refused, into_none, into_done}
 use Rattle.image_readers.specs.declared.Line.{Line}
 use Rattle.image_readers.specs.declared.Checked.{Checked}
 use Rattle.image_readers.specs.declared.Checked.TheVariants.{Image, Refused as RefusedImage}
-use Rattle.image_readers.specs.Answers.{checked_answer}
 use Rattle.image_readers.specs.Bodies.{body_of}
 use Rattle.image_readers.specs.Chain.{Leads}
-use Rattle.image_readers.specs.Lines.{Overview, lines_of, overview_of, overview}
+use Rattle.image_readers.specs.Lines.{lines_of, overview_of, overview}
+use Rattle.image_readers.specs.declared.Overview.{Overview}
 use Rattle.image_readers.specs.Links.{link_step}
 use Rattle.image_readers.proofs.ByLinks.{link_sound}
 use Rattle.image_readers.proofs.Finding.{told_checked}
@@ -294,7 +294,7 @@ module _ (out : List ℕ) {s : List ℕ} {n : ℕ} (k : Faultless s n) where
 
 -- ---- from the check of an image
 
-module _ (s : List ℕ) {r : Checked} (e : checked_answer r ≡ overview link_step s) where
+module _ (s : List ℕ) {r : Checked} (e : answered r ≡ overview link_step s) where
   pub check_faultless : {load n : ℕ} → r ≡ Image load n → Faultless s n
   check_faultless {load} {n} is = go (lines_of link_step s) refl
     where

@@ -13,7 +13,7 @@ ghost use Rattle.image_index.specs.IndexHelpers.{Sound, found_from, low_jumps, l
 use base_bits::Pen;
 use base_refusals::Refusal;
 use image_jumps::Next;
-use image_readers::{Checked, Step, links};
+use image_readers::{Overview, links};
 
 // How many jumps there are, unless a target is above 65535.
 #[derive(Clone, Copy)]
@@ -27,8 +27,8 @@ pub fn write_index(image: &[u8], out: &mut [u8]) -> Result<usize, Refusal>
     ensures { left result out.new ≡ into_buffer (line_index image.now) out.old }
 {
     match links::check(image) {
-        Checked::Image { load: _, lines } => index_lines(image, out, lines),
-        Checked::Refused(refusal) => Err(refusal),
+        Ok(Overview { load: _, lines }) => index_lines(image, out, lines),
+        Err(refusal) => Err(refusal),
     }
 }
 
@@ -68,12 +68,12 @@ pub fn write_report(image: &[u8], out: &mut [u8]) -> Result<usize, Refusal>
     ensures { left result out.new ≡ into_buffer (jump_report image.now) out.old }
 {
     match links::check(image) {
-        Checked::Image { load: _, lines } => {
+        Ok(Overview { load: _, lines }) => {
             let mut marked = [0u8; 65536];
             image_marks::mark_numbers(image, &mut marked);
             report_lines(image, out, lines, &marked)
         }
-        Checked::Refused(refusal) => Err(refusal),
+        Err(refusal) => Err(refusal),
     }
 }
 
@@ -143,7 +143,7 @@ fn count_jumps(image: &[u8], marked: &[u8]) -> Counted
     let mut n: usize = 0;
     loop {
         match links::step(image, offset) {
-            Step::Found(line) => {
+            Ok(Some(line)) => {
                 let from = line.from;
                 let to = line.to;
                 match count_body(&image[from..to], marked, n) {
@@ -156,11 +156,11 @@ fn count_jumps(image: &[u8], marked: &[u8]) -> Counted
                 }
                 offset = line.next;
             }
-            Step::End => {
+            Ok(None) => {
                 return Counted::Jumps(n);
             }
             // An image without a fault is refused nowhere.
-            Step::Refused(_) => {
+            Err(_) => {
                 return Counted::Jumps(n);
             }
         }
@@ -185,17 +185,17 @@ fn put_lines(out: &mut [u8], pen: Pen, image: &[u8]) -> Pen
     let mut offset: usize = 2;
     loop {
         match links::step(image, offset) {
-            Step::Found(line) => {
+            Ok(Some(line)) => {
                 let number = line.number as usize;
                 let from = line.from;
                 offset = line.next;
                 pen = put_pair(out, pen, 16, number, from - 4);
             }
-            Step::End => {
+            Ok(None) => {
                 return pen;
             }
             // An image without a fault is refused nowhere.
-            Step::Refused(_) => {
+            Err(_) => {
                 return pen;
             }
         }
@@ -246,18 +246,18 @@ fn put_jumps(out: &mut [u8], pen: Pen, image: &[u8], marked: &[u8]) -> Pen
     let mut place: usize = 0;
     loop {
         match links::step(image, offset) {
-            Step::Found(line) => {
+            Ok(Some(line)) => {
                 let from = line.from;
                 let to = line.to;
                 place += 1;
                 offset = line.next;
                 pen = put_body(out, pen, place, &image[from..to], marked);
             }
-            Step::End => {
+            Ok(None) => {
                 return pen;
             }
             // An image without a fault is refused nowhere.
-            Step::Refused(_) => {
+            Err(_) => {
                 return pen;
             }
         }

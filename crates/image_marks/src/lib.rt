@@ -6,7 +6,7 @@ ghost use Rattle.image_readers.specs.Lined.{lined_from};
 ghost use Rattle.image_readers.specs.Links.{link_step};
 ghost use Rattle.image_marks.specs.Marks.{line_marks, has_mark};
 
-use image_readers::{Step, links};
+use image_readers::links;
 
 // Marks the numbers that lines have, as far as the links lead.
 pub fn mark_numbers(image: &[u8], marked: &mut [u8])
@@ -15,17 +15,17 @@ pub fn mark_numbers(image: &[u8], marked: &mut [u8])
     let mut offset: usize = 2;
     loop {
         match links::step(image, offset) {
-            Step::Found(line) => {
+            Ok(Some(line)) => {
                 let number = line.number as usize;
                 if number < marked.len() {
                     marked[number] = 1;
                 }
                 offset = line.next;
             }
-            Step::End => {
+            Ok(None) => {
                 return;
             }
-            Step::Refused(_) => {
+            Err(_) => {
                 return;
             }
         }

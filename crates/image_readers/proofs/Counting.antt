@@ -15,7 +15,8 @@ use Rattle.image_readers.specs.declared.Step.{Step}
 use Rattle.image_readers.specs.declared.Step.TheVariants.{Found as FoundLine, End, Refused}
 use Rattle.image_readers.specs.Answers.{step_answer}
 use Rattle.image_bytes.specs.ImageBytes.{low_first_at}
-use Rattle.image_readers.specs.Lines.{lines_from, Overview, overview_of, overview}
+use Rattle.image_readers.specs.Lines.{lines_from, overview_of, overview}
+use Rattle.image_readers.specs.declared.Overview.{Overview}
 use Rattle.image_readers.specs.Readers.{step_by}
 use Rattle.image_readers.proofs.Equations.{LiesAt, lines_line, lines_end, lines_refused}
 use Rattle.image_readers.proofs.Finding.{told}

@@ -8,22 +8,22 @@ use native.Mathlib.Omega.{arith}
 use lib.ListN.{length}
 use lib.Dec.{ltb}
 use borrow.Author.Tests.{le-ltb, lt-ltb, ltb-false}
-use Rattle.base_refusals.specs.Answer.{Answer, done, refused}
+use Rattle.base_refusals.specs.Answer.{Answer, done, refused, answered}
 use Rattle.base_refusals.specs.Numbers.{image_too_long, too_short}
 use Rattle.image_readers.specs.declared.Checked.{Checked}
 use Rattle.image_readers.specs.declared.Line.{Line}
 use Rattle.image_readers.specs.declared.Step.{Step}
 use Rattle.image_readers.specs.Image.{Found, line, end, sized}
-use Rattle.image_readers.specs.Lines.{Overview}
-use Rattle.image_readers.specs.Answers.{step_answer, checked_answer}
+use Rattle.image_readers.specs.declared.Overview.{Overview}
+use Rattle.image_readers.specs.Answers.{step_answer}
 
 -- a step whose result r is known to be x answers as x does
 pub told : {r x : Step} {a : Answer Found} → r ≡ x → step_answer r ≡ a → a ≡ step_answer x
 told d e = sym e ∙ ap step_answer d
 
 -- the same of a check
-pub told_checked : {r x : Checked} {a : Answer Overview} → r ≡ x → checked_answer r ≡ a → a ≡ checked_answer x
-told_checked d e = sym e ∙ ap checked_answer d
+pub told_checked : {r x : Checked} {a : Answer Overview} → r ≡ x → answered r ≡ a → a ≡ answered x
+told_checked d e = sym e ∙ ap answered d
 
 -- ---- the length is checked first
 

@@ -4,16 +4,17 @@
 use Prim.Native.Nat.{ℕ}
 use mathlib.Core.Path.{◌≡◌, refl, sym, ap, ◌∙◌}
 use mathlib.Core.List.{List}
-use Rattle.base_refusals.specs.Answer.{Answer, done, refused}
+use Rattle.base_refusals.specs.Answer.{Answer, done, refused, answered}
 use Rattle.base_refusals.proofs.Tight.{named, named_numbered, tells_apart}
 use Rattle.image_readers.specs.declared.Step.{Step}
 use Rattle.image_readers.specs.declared.Step.TheVariants.{Found as FoundLine, End, Refused}
 use Rattle.image_readers.specs.declared.Checked.{Checked}
 use Rattle.image_readers.specs.declared.Checked.TheVariants.{Image, Refused as RefusedImage}
 use Rattle.image_readers.specs.Image.{Found, line, end}
-use Rattle.image_readers.specs.Lines.{Reader, Overview, overview}
+use Rattle.image_readers.specs.Lines.{Reader, overview}
+use Rattle.image_readers.specs.declared.Overview.{Overview}
 use Rattle.image_readers.specs.Bodies.{body_at}
-use Rattle.image_readers.specs.Answers.{step_answer, checked_answer}
+use Rattle.image_readers.specs.Answers.{step_answer}
 
 abbrev step_of : Answer Found → Step
 step_of (done (line l)) = FoundLine l
@@ -29,7 +30,7 @@ abbrev checked_of : Answer Overview → Checked
 checked_of (done o) = Image o.load o.lines
 checked_of (refused n) = RefusedImage (named n)
 
-checked_back : (a : Checked) → checked_of (checked_answer a) ≡ a
+checked_back : (a : Checked) → checked_of (answered a) ≡ a
 checked_back (Image load lines) = refl
 checked_back (RefusedImage r) = ap RefusedImage (named_numbered r)
 
@@ -39,8 +40,8 @@ module _ (step : Reader) (s : List ℕ) where
   step_tight p a b d e = tells_apart step_answer step_of step_back a b (d ∙ sym e)
 
   -- `terminators::check` and `links::check`
-  pub check_tight : (a b : Checked) → checked_answer a ≡ overview step s → checked_answer b ≡ overview step s → a ≡ b
-  check_tight a b d e = tells_apart checked_answer checked_of checked_back a b (d ∙ sym e)
+  pub check_tight : (a b : Checked) → answered a ≡ overview step s → answered b ≡ overview step s → a ≡ b
+  check_tight a b d e = tells_apart answered checked_of checked_back a b (d ∙ sym e)
 
   -- `terminators::body` and `links::body`
   pub body_tight : (p : ℕ) (a b : List ℕ) → a ≡ body_at step s p → b ≡ body_at step s p → a ≡ b

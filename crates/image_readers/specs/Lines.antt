@@ -9,6 +9,7 @@ use Rattle.std.specs.Prelude.{ℕ, suc, List, [], ◌∷◌, length}
 use Rattle.base_steps.specs.Again.{again}
 use Rattle.base_refusals.specs.Answer.{Answer, done, refused, map_done}
 use Rattle.image_readers.specs.declared.Line.{Line}
+use Rattle.image_readers.specs.declared.Overview.{Overview}
 use Rattle.image_bytes.specs.ImageBytes.{low_first_at}
 use Rattle.image_readers.specs.Image.{Found, line, end}
 
@@ -34,11 +35,6 @@ lines_from step s p = again (done []) (read_on step s) (suc (length s)) p
 -- the lines of an image: the first stands behind the load address
 abbrev pub lines_of : Reader → List ℕ → Answer (List Line)
 lines_of step s = lines_from step s 2
-
--- the load address with the line count
-pub record Overview : Type 0 where
-  pub load : ℕ
-  pub lines : ℕ
 
 abbrev pub overview_of : {A : Type 0} → List ℕ → List A → Overview
 overview_of s ls = record { load = low_first_at s 0; lines = length ls }

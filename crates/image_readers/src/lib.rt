@@ -4,11 +4,12 @@
 #![tactic(auto)]
 
 ghost use Rattle.std.specs.Prelude.{◌≡◌, ◌+◌, ◌≤◌, length};
-ghost use Rattle.image_readers.specs.Answers.{step_answer, checked_answer};
+ghost use Rattle.image_readers.specs.Answers.{step_answer};
 ghost use Rattle.image_readers.specs.Bodies.{body_at};
 ghost use Rattle.image_readers.specs.Image.{line_at};
 ghost use Rattle.image_readers.specs.Lines.{overview};
 ghost use Rattle.image_readers.specs.Readers.{step_by};
+ghost use Rattle.base_refusals.specs.Answer.{answered};
 
 use base_refusals::Refusal;
 use image_bytes::{address_at, low_first_at};
@@ -38,46 +39,38 @@ pub struct Line {
     pub next: usize,
 }
 
-// What stands at an offset.
-#[derive(Clone, Copy)]
-pub enum Step {
-    Found(Line),
-    End,
-    Refused(Refusal),
-}
-
 // What a whole image is.
 #[derive(Clone, Copy)]
-pub enum Checked {
-    Image { load: u16, lines: usize },
-    Refused(Refusal),
+pub struct Overview {
+    pub load: u16,
+    pub lines: usize,
 }
 
 // Reads the lines from the first to the end.
-pub fn check_by(image: &[u8], by: By) -> Checked
-    ensures { checked_answer result ≡ overview (step_by by) image.now }
+pub fn check_by(image: &[u8], by: By) -> Result<Overview, Refusal>
+    ensures { answered result ≡ overview (step_by by) image.now }
 {
     let mut offset: usize = 2;
     let mut lines: usize = 0;
     loop {
         match step_by(image, offset, by) {
-            Step::Found(line) => {
+            Ok(Some(line)) => {
                 offset = line.next;
                 lines += 1;
             }
-            Step::End => {
+            Ok(None) => {
                 let load = low_first_at(image, 0);
-                return Checked::Image { load, lines };
+                return Ok(Overview { load, lines });
             }
-            Step::Refused(refusal) => {
-                return Checked::Refused(refusal);
+            Err(refusal) => {
+                return Err(refusal);
             }
         }
     }
 }
 
-// The line at an offset, any offset.
-pub fn step_by(image: &[u8], offset: usize, by: By) -> Step
+// The line at an offset, any offset; none where the image ends.
+pub fn step_by(image: &[u8], offset: usize, by: By) -> Result<Option<Line>, Refusal>
     ensures { step_answer result ≡ step_by by image.now offset }
 {
     match by {
@@ -91,13 +84,13 @@ pub fn body_by(image: &[u8], offset: usize, by: By) -> &[u8]
     ensures { result.now ≡ body_at (step_by by) image.now offset }
 {
     match step_by(image, offset, by) {
-        Step::Found(line) => {
+        Ok(Some(line)) => {
             let from = line.from;
             let to = line.to;
             &image[from..to]
         }
-        Step::End => &image[..0],
-        Step::Refused(_) => &image[..0],
+        Ok(None) => &image[..0],
+        Err(_) => &image[..0],
     }
 }
 

@@ -1,51 +1,52 @@
 // By links: a line ends where its link leads, and the byte before that place is its 00.
 ghost use Rattle.std.specs.Prelude.{◌≡◌};
-ghost use Rattle.image_readers.specs.Answers.{step_answer, checked_answer};
+ghost use Rattle.image_readers.specs.Answers.{step_answer};
 ghost use Rattle.image_readers.specs.Bodies.{body_at};
 ghost use Rattle.image_readers.specs.Lines.{overview};
 ghost use Rattle.image_readers.specs.Links.{link_step};
+ghost use Rattle.base_refusals.specs.Answer.{answered};
 
-use crate::{By, Checked, LONGEST, Step, line_at};
+use crate::{By, LONGEST, Line, Overview, line_at};
 use base_refusals::Refusal;
 use image_bytes::target_at;
 
 // Follows the links from the first line to the end.
-pub fn check(image: &[u8]) -> Checked
-    ensures { checked_answer result ≡ overview link_step image.now }
+pub fn check(image: &[u8]) -> Result<Overview, Refusal>
+    ensures { answered result ≡ overview link_step image.now }
 {
     crate::check_by(image, By::Links)
 }
 
-// The line at an offset, any offset.
+// The line at an offset, any offset; none where the image ends.
 #[tactic(auto, using(crate::proofs::ByLinks::link_end))]
-pub fn step(image: &[u8], offset: usize) -> Step
+pub fn step(image: &[u8], offset: usize) -> Result<Option<Line>, Refusal>
     ensures { step_answer result ≡ link_step image.now offset }
 {
     let length = image.len();
     if length > LONGEST {
-        return Step::Refused(Refusal::ImageTooLong { length });
+        return Err(Refusal::ImageTooLong { length });
     }
     if length < 2 {
-        return Step::Refused(Refusal::TooShort);
+        return Err(Refusal::TooShort);
     }
     if offset > length - 2 {
-        return Step::Refused(Refusal::MissingEnd { offset });
+        return Err(Refusal::MissingEnd { offset });
     }
     if image[offset + 1] == 0 {
-        return Step::End;
+        return Ok(None);
     }
     let target = target_at(image, offset);
     if target < offset + 5 {
-        return Step::Refused(Refusal::LinkBackward { offset });
+        return Err(Refusal::LinkBackward { offset });
     }
     if target > length {
-        return Step::Refused(Refusal::LinkOutside { offset });
+        return Err(Refusal::LinkOutside { offset });
     }
     if image[target - 1] != 0 {
-        return Step::Refused(Refusal::LinkNoEnd { offset });
+        return Err(Refusal::LinkNoEnd { offset });
     }
     let to = target - 1;
-    Step::Found(line_at(image, offset, to, target))
+    Ok(Some(line_at(image, offset, to, target)))
 }
 
 // The body of the line at an offset, as that part of the image; an empty part where no line is.

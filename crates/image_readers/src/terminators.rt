@@ -1,46 +1,47 @@
 // By terminators: a line's body ends at its first 00, whatever its link says.
 ghost use Rattle.std.specs.Prelude.{◌≡◌, ◌+◌, ◌≤◌, length};
-ghost use Rattle.image_readers.specs.Answers.{step_answer, checked_answer};
+ghost use Rattle.image_readers.specs.Answers.{step_answer};
 ghost use Rattle.image_readers.specs.Bodies.{body_at};
 ghost use Rattle.image_readers.specs.Lines.{overview};
 ghost use Rattle.image_readers.specs.Terminators.{terminated_line, terminator_step};
+ghost use Rattle.base_refusals.specs.Answer.{answered};
 
-use crate::{By, Checked, LONGEST, Line, Step, line_at};
+use crate::{By, LONGEST, Line, Overview, line_at};
 use base_refusals::Refusal;
 use image_bytes::body_end;
 
 // Reads the lines from the first to the end, each byte once.
-pub fn check(image: &[u8]) -> Checked
-    ensures { checked_answer result ≡ overview terminator_step image.now }
+pub fn check(image: &[u8]) -> Result<Overview, Refusal>
+    ensures { answered result ≡ overview terminator_step image.now }
 {
     crate::check_by(image, By::Terminators)
 }
 
-// The line at an offset, any offset.
+// The line at an offset, any offset; none where the image ends.
 #[tactic(auto, using(crate::proofs::ByTerminators::terminator_end))]
-pub fn step(image: &[u8], offset: usize) -> Step
+pub fn step(image: &[u8], offset: usize) -> Result<Option<Line>, Refusal>
     ensures { step_answer result ≡ terminator_step image.now offset }
 {
     let length = image.len();
     if length > LONGEST {
-        return Step::Refused(Refusal::ImageTooLong { length });
+        return Err(Refusal::ImageTooLong { length });
     }
     if length < 2 {
-        return Step::Refused(Refusal::TooShort);
+        return Err(Refusal::TooShort);
     }
     if offset >= length {
-        return Step::End;
+        return Ok(None);
     }
     if length - offset < 2 {
-        return Step::Refused(Refusal::UnexpectedEof);
+        return Err(Refusal::UnexpectedEof);
     }
     if image[offset + 1] == 0 {
-        return Step::End;
+        return Ok(None);
     }
     if length - offset < 4 {
-        return Step::Refused(Refusal::UnexpectedEof);
+        return Err(Refusal::UnexpectedEof);
     }
-    Step::Found(terminated_line(image, offset))
+    Ok(Some(terminated_line(image, offset)))
 }
 
 // The body of the line at an offset, as that part of the image; an empty part where no line is.

@@ -8,7 +8,7 @@ use lib.ListN.{length, get_or, drop, drop_of_length-le}
 use lib.Seq.{drop-cons, drop-drop}
 use mir.Syntax.{w64}
 use mir.Val.{Fits}
-use Rattle.base_refusals.specs.Answer.{Answer, done, refused, map_done, numbered}
+use Rattle.base_refusals.specs.Answer.{Answer, done, refused, map_done, numbered, answered}
 use Rattle.base_refusals.specs.declared.Refusal.{Refusal}
 use Rattle.base_lent.specs.Lent.{Lent, into_buffer}
 use Rattle.base_lent.specs.Stores.{Put}
@@ -20,7 +20,7 @@ use Rattle.image_readers.specs.declared.Step.{Step}
 use Rattle.image_readers.specs.declared.Step.TheVariants.{Found as FoundLine, End, Refused}
 use Rattle.image_readers.specs.declared.Checked.{Checked}
 use Rattle.image_readers.specs.declared.Checked.TheVariants.{Image, Refused as RefusedImage}
-use Rattle.image_readers.specs.Answers.{step_answer, checked_answer}
+use Rattle.image_readers.specs.Answers.{step_answer}
 use Rattle.image_readers.specs.Lines.{lines_from, lines_of, overview_of, overview}
 use Rattle.image_readers.specs.Readers.{step_by}
 use Rattle.image_readers.proofs.Equations.{LiesAt, lines_line, lines_end, lines_refused}
@@ -126,15 +126,15 @@ module _ (by : By) (s origins : List ℕ) {buffer out : List ℕ} {p k to : ℕ}
 -- ---- the whole
 
 module _ (by : By) (s origins : List ℕ) {r : Checked} where
-  pub checked_text_lem : {load lines : ℕ} → r ≡ Image load lines → checked_answer r ≡ overview (step_by by) s → IsText (places_shown by s origins)
+  pub checked_text_lem : {load lines : ℕ} → r ≡ Image load lines → answered r ≡ overview (step_by by) s → IsText (places_shown by s origins)
   unfolding places_shown overview
   checked_text_lem {load} {lines} is e = go (lines_of (step_by by) s) (told_checked is e)
     where
-      go : (a : Answer (List Line)) → map_done (overview_of s) a ≡ checked_answer (Image load lines) → IsText (map_done (λ ls. place_rows ls origins) a)
+      go : (a : Answer (List Line)) → map_done (overview_of s) a ≡ answered (Image load lines) → IsText (map_done (λ ls. place_rows ls origins) a)
       go (done ls) f = tt
       go (refused n) f = let z : ◌≡◌ {A = ℕ} 0 1 = cc in absurd (omega arith)
 
-  pub checked_none : {m : Refusal} (out : List ℕ) → r ≡ RefusedImage m → checked_answer r ≡ overview (step_by by) s
+  pub checked_none : {m : Refusal} (out : List ℕ) → r ≡ RefusedImage m → answered r ≡ overview (step_by by) s
       → ◌≡◌ {A = Lent} (record { answer = refused (numbered m); buffer = out }) (into_buffer (places_shown by s origins) out)
   unfolding places_shown overview into_buffer
   checked_none {m} out is e = go (lines_of (step_by by) s) (told_checked is e)

@@ -7,7 +7,7 @@ ghost use Rattle.image_rows.specs.PartHelpers.{Adds, AddsTwo, Stores, IsText};
 
 use crate::parts::{add_row, add_text};
 use base_refusals::Refusal;
-use image_readers::{By, Checked, Line, Step};
+use image_readers::{By, Line};
 
 fn add_numbers(out: &mut [u8], at: usize, line: Line, origins: &[usize], before: usize) -> usize
     requires { at ≤ 1099511627776 }
@@ -37,15 +37,15 @@ fn add_places(out: &mut [u8], image: &[u8], by: By, origins: &[usize]) -> usize
     let mut to: usize = 0;
     loop {
         match image_readers::step_by(image, offset, by) {
-            Step::Found(line) => {
+            Ok(Some(line)) => {
                 to = add_place(out, to, line, origins, before);
                 before += 1;
                 offset = line.next;
             }
-            Step::End => {
+            Ok(None) => {
                 return to;
             }
-            Step::Refused(_) => {
+            Err(_) => {
                 return to;
             }
         }
@@ -69,7 +69,7 @@ pub fn lend_places(image: &[u8], by: By, origins: &[usize], out: &mut [u8]) -> R
     ensures { left result out.new ≡ into_buffer (places_shown by image.now origins.now) out.old }
 {
     match image_readers::check_by(image, by) {
-        Checked::Image { load: _, lines: _ } => lend_checked(image, by, origins, out),
-        Checked::Refused(refusal) => Err(refusal),
+        Ok(_) => lend_checked(image, by, origins, out),
+        Err(refusal) => Err(refusal),
     }
 }

@@ -8,7 +8,6 @@ ghost use Rattle.image_readers.specs.Bodies.{body_at};
 ghost use Rattle.image_readers.specs.Terminators.{terminator_step};
 ghost use Rattle.image_walk.specs.Places.{walk_at, behind};
 
-use image_readers::Step;
 
 // An image, and the offset at which the walk stands.
 #[derive(Clone, Copy)]
@@ -25,7 +24,7 @@ pub fn start<'a>(image: &'a [u8]) -> Walk<'a>
 }
 
 // What stands at a walk's place: a line, the end, or the refusal.
-pub fn step<'a>(walk: Walk<'a>) -> Step
+pub fn step<'a>(walk: Walk<'a>) -> Result<Option<Line>, Refusal>
     ensures { step_answer result ≡ terminator_step walk.entry.image.now walk.entry.offset }
 {
     image_readers::terminators::step(walk.image, walk.offset)
@@ -56,7 +55,7 @@ pub fn place<'a>(walk: Walk<'a>) -> usize
 }
 
 // What stands at an image's first line, for a caller that keeps no walk.
-pub fn first_step(image: &[u8]) -> Step
+pub fn first_step(image: &[u8]) -> Result<Option<Line>, Refusal>
     ensures { step_answer result ≡ terminator_step image.now 2 }
 {
     step(start(image))
@@ -67,8 +66,8 @@ fn next_offset(image: &[u8], offset: usize) -> usize
     ensures { result ≡ behind terminator_step image.now offset }
 {
     match image_readers::terminators::step(image, offset) {
-        Step::Found(line) => line.next,
-        Step::End => offset,
-        Step::Refused(_) => offset,
+        Ok(Some(line)) => line.next,
+        Ok(None) => offset,
+        Err(_) => offset,
     }
 }

@@ -1,13 +1,13 @@
 // Ops 06 to 09, 18 and 19: the readers.
 ghost use Rattle.std.specs.Prelude.{◌≤◌};
 
-use image_readers::{By, Checked, Line, Step};
+use image_readers::{By, Line, Overview};
 use judge_frames::Answer;
 
 pub fn check(image: &[u8], by: By) -> bool {
     match image_readers::check_by(image, by) {
-        Checked::Image { load, lines } => Answer::done().number(load as usize).number(lines).send(),
-        Checked::Refused(refusal) => judge_frames::refuse(refusal),
+        Ok(Overview { load, lines }) => Answer::done().number(load as usize).number(lines).send(),
+        Err(refusal) => judge_frames::refuse(refusal),
     }
 }
 
@@ -22,13 +22,13 @@ pub fn step(payload: &[u8], by: By, is_addressed: bool) -> bool {
 
 fn send_step(image: &[u8], offset: usize, by: By, is_addressed: bool) -> bool {
     match image_readers::step_by(image, offset, by) {
-        Step::Found(line) => send_line(
+        Ok(Some(line)) => send_line(
             found(line, is_addressed),
             line,
             image_readers::body_by(image, offset, by),
         ),
-        Step::End => judge_frames::tell(0),
-        Step::Refused(refusal) => judge_frames::refuse(refusal),
+        Ok(None) => judge_frames::tell(0),
+        Err(refusal) => judge_frames::refuse(refusal),
     }
 }
 

@@ -1,6 +1,6 @@
 // Op 1A: the line at a place of the image that a text would have.
 use crate::texts;
-use crunch_rules::{LineMeasured, MeasuredLine, Options};
+use crunch_rules::{MeasuredLine, Options};
 use image_readers::Line;
 use judge_frames::Answer;
 use texts::Asked;
@@ -18,9 +18,9 @@ pub fn measured_line(payload: &[u8]) -> bool {
 
 fn send_line(text: &[u8], options: Options, place: usize) -> bool {
     match crunch_image::measured_line(text, options, place) {
-        LineMeasured::There(found) => send_measured(found),
-        LineMeasured::NoSuchLine => judge_frames::tell(0),
-        LineMeasured::Refused(refusal) => judge_frames::refuse(refusal),
+        Ok(Some(found)) => send_measured(found),
+        Ok(None) => judge_frames::tell(0),
+        Err(refusal) => judge_frames::refuse(refusal),
     }
 }
 

@@ -37,18 +37,18 @@ fn token_of(text: &[u8], bytes: &[u8], index: &[u16]) -> u8
         forms: false,
     };
     match word_match::match_plain(text, bytes, index, sets) {
-        Match::Word {
+        Some(Match {
             index: _,
             used: _,
             token,
-        } => token,
-        Match::Nothing => match word_match::match_operator(text, bytes, index) {
-            Match::Word {
+        }) => token,
+        None => match word_match::match_operator(text, bytes, index) {
+            Some(Match {
                 index: _,
                 used: _,
                 token,
-            } => token,
-            Match::Nothing => 0,
+            }) => token,
+            None => 0,
         },
     }
 }
@@ -74,8 +74,8 @@ fn print_escape(name: &[u8]) {
     io::write_all(STDOUT_FILENO, name);
     io::write_all(STDOUT_FILENO, b"\t");
     match escapes::petscii_escape(name) {
-        Escape::Byte { byte, count: _ } => print_code(byte),
-        Escape::Unknown => {
+        Some(Escape { byte, count: _ }) => print_code(byte),
+        None => {
             io::write_all(STDOUT_FILENO, b"none");
         }
     }

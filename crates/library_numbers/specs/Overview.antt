@@ -4,7 +4,7 @@ use Rattle.std.specs.Prelude.{[], ◌∷◌}
 use Rattle.base_refusals.specs.Answer.{Answer, done, refused}
 use Rattle.base_refusals.specs.Code.{answer_code}
 use Rattle.base_refusals.specs.declared.Code.{Code}
-use Rattle.image_readers.specs.Lines.{Overview}
+use Rattle.image_readers.specs.declared.Overview.{Overview}
 
 -- the load address and the line count
 abbrev pub overview_code : Answer Overview → Code

@@ -5,13 +5,13 @@
 pub mod faults;
 
 ghost use Rattle.std.specs.Prelude.{◌≡◌};
-ghost use Rattle.image_readers.specs.Answers.{checked_answer};
 ghost use Rattle.library_numbers.specs.Choices.{crunch_options, reader_by, list_options};
 ghost use Rattle.library_numbers.specs.Overview.{overview_code};
+ghost use Rattle.base_refusals.specs.Answer.{answered};
 
 use base_refusals::Code;
 use crunch_rules::Options;
-use image_readers::{By, Checked};
+use image_readers::{By, Overview};
 use list_options::ListOptions;
 use word_dialects::Dialect;
 
@@ -62,16 +62,16 @@ fn reader(links: bool) -> By
     if links { By::Links } else { By::Terminators }
 }
 
-pub fn checked_code(checked: Checked) -> Code
-    ensures { result ≡ overview_code (checked_answer checked) }
+pub fn checked_code(checked: Result<Overview, Refusal>) -> Code
+    ensures { result ≡ overview_code (answered checked) }
 {
     match checked {
-        Checked::Image { load, lines } => Code {
+        Ok(Overview { load, lines }) => Code {
             number: 0,
             count: 2,
             first: base_ascii::wide16(load),
             second: lines,
         },
-        Checked::Refused(refusal) => base_refusals::refusal_code(refusal),
+        Err(refusal) => base_refusals::refusal_code(refusal),
     }
 }

@@ -6,7 +6,6 @@ use base_refusals::Refusal;
 use desk::options::AskedDialect;
 use desk::{input, options, output, result};
 use desk_inputs::Input;
-use image_readers::Checked;
 use list_options::ListOptions;
 
 fn write_listing(rt: &HostRuntime, image: &[u8], options: ListOptions) -> bool {
@@ -24,8 +23,8 @@ fn write_listing(rt: &HostRuntime, image: &[u8], options: ListOptions) -> bool {
 fn list_image(rt: &HostRuntime, image: &[u8], options: ListOptions) {
     let by = options.by;
     match image_readers::check_by(image, by) {
-        Checked::Image { load: _, lines: _ } => output::done(rt, write_listing(rt, image, options)),
-        Checked::Refused(refusal) => output::refuse(rt, refusal, b""),
+        Ok(_) => output::done(rt, write_listing(rt, image, options)),
+        Err(refusal) => output::refuse(rt, refusal, b""),
     }
 }
 

@@ -7,12 +7,11 @@ use native.Mathlib.Omega.{arith}
 use lib.ListN.{length, get_or, length-append}
 use mir.Syntax.{w8}
 use mir.Val.{Fits}
-use Rattle.base_refusals.specs.Answer.{Answer, done, refused, map_done, numbered}
+use Rattle.base_refusals.specs.Answer.{Answer, done, refused, map_done, numbered, answered}
 use Rattle.base_refusals.specs.declared.Refusal.{Refusal}
 use Rattle.base_lent.specs.Lent.{Lent, into_buffer, room_for}
 use Rattle.base_lent.specs.Stores.{HasRoom}
 use Rattle.base_lent.proofs.Outcomes.{into_refused}
-use Rattle.image_readers.specs.Answers.{checked_answer}
 use Rattle.image_readers.specs.declared.By.{By}
 use Rattle.image_readers.specs.declared.Checked.{Checked}
 use Rattle.image_readers.specs.declared.Checked.TheVariants.{Image, Refused}
@@ -73,7 +72,7 @@ module _ (by : By) (rules : Rules) (image : List ℕ) (bytes : (i : ℕ) → get
 overview_by : (by : By) (image : List ℕ) {a : Answer (List NumberedBody)} → bodies_from (step_by by) image 2 ≡ a → overview (step_by by) image ≡ map_done (overview_of image) a
 overview_by by image f = overview_bodies (step_by by) image ∙ ap (map_done (overview_of image)) f
 
-module _ (by : By) (rules : Rules) (image buffer : List ℕ) {r : Checked} (e : checked_answer r ≡ overview (step_by by) image) where
+module _ (by : By) (rules : Rules) (image buffer : List ℕ) {r : Checked} (e : answered r ≡ overview (step_by by) image) where
   -- an image that was read to its end has a listing, and the buffer has room for it
   pub ninefold_room : {load lines : ℕ} → r ≡ Image load lines → length image ≤ length buffer / 9 → ((i : ℕ) → Fits w8 (get_or image i 0)) → HasRoom buffer (listing_by by rules image)
   unfolding listing_by

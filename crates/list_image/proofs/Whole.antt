@@ -7,10 +7,10 @@ use native.Mathlib.Omega.{arith}
 use lib.ListN.{length, length-append}
 use mir.Syntax.{w64}
 use mir.Val.{Fits}
-use Rattle.base_refusals.specs.Answer.{Answer, done, refused, map_done, numbered}
+use Rattle.base_refusals.specs.Answer.{Answer, done, refused, map_done, numbered, answered}
 use Rattle.base_refusals.specs.declared.Refusal.{Refusal}
 use Rattle.base_refusals.specs.Numbers.{no_room}
-use Rattle.base_lent.specs.Lent.{Lent, into_buffer, room_for, outcome_answer}
+use Rattle.base_lent.specs.Lent.{Lent, into_buffer, room_for}
 use Rattle.base_lent.specs.Stores.{Room, Put, HasRoom}
 use Rattle.base_lent.proofs.Storing.{room_first, room_second, put_both}
 use Rattle.base_lent.proofs.Outcomes.{told_outcome, has_room, into_refused, into_none, into_done}
@@ -178,7 +178,7 @@ written_long k = k.owed.long
 
 -- ---- what is measured decides
 
-module _ (by : By) (rules : Rules) (image buffer : List ℕ) {r : (Result ℕ Refusal)} (e : outcome_answer r ≡ room_for (listing_by by rules image)) where
+module _ (by : By) (rules : Rules) (image buffer : List ℕ) {r : (Result ℕ Refusal)} (e : answered r ≡ room_for (listing_by by rules image)) where
   pub room_there : {n : ℕ} → r ≡ Ok n → n ≤ length buffer → HasRoom buffer (listing_by by rules image)
   room_there is h = has_room buffer (listing_by by rules image) (told_outcome is e) h
 

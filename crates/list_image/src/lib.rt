@@ -2,13 +2,14 @@
 #![tactic(auto)]
 
 ghost use Rattle.std.specs.Prelude.{◌≡◌, ◌/◌, ◌≤◌, length};
-ghost use Rattle.base_lent.specs.Lent.{into_buffer, room_for, outcome_answer, left};
+ghost use Rattle.base_lent.specs.Lent.{into_buffer, room_for, left};
 ghost use Rattle.list_texts.specs.TextsHelpers.{SpellsTexts};
 ghost use Rattle.base_lent.specs.Stores.{HasRoom};
 ghost use Rattle.list_image.specs.Listing.{listing, listing_by, listing_under};
+ghost use Rattle.base_refusals.specs.Answer.{answered};
 
 use base_refusals::Refusal;
-use image_readers::{By, Checked, Step};
+use image_readers::By;
 use image_units::Rules;
 use list_options::ListOptions;
 
@@ -21,7 +22,7 @@ pub fn list(image: &[u8], out: &mut [u8]) -> Result<usize, Refusal>
 
 // The room that this listing of an image needs.
 pub fn room(image: &[u8]) -> Result<usize, Refusal>
-    ensures { outcome_answer result ≡ room_for (listing image.now) }
+    ensures { answered result ≡ room_for (listing image.now) }
 {
     room_under(image, list_options::original())
 }
@@ -43,7 +44,7 @@ pub fn list_under(image: &[u8], options: ListOptions, out: &mut [u8]) -> Result<
 
 // The room that this listing of an image needs.
 pub fn room_under(image: &[u8], options: ListOptions) -> Result<usize, Refusal>
-    ensures { outcome_answer result ≡ room_for (listing_under options image.now) }
+    ensures { answered result ≡ room_for (listing_under options image.now) }
 {
     let by = options.by;
     measure(
@@ -86,10 +87,10 @@ fn list_checked(
     ensures { left result out.new ≡ into_buffer (listing_by by rules image.now) out.old }
 {
     match image_readers::check_by(image, by) {
-        Checked::Image { load: _, lines: _ } => {
+        Ok(_) => {
             Ok(write(out, bytes, starts, by, rules, image))
         }
-        Checked::Refused(refusal) => Err(refusal),
+        Err(refusal) => Err(refusal),
     }
 }
 
@@ -118,22 +119,22 @@ fn list_measured(
 
 fn measure(bytes: &[u8], starts: &[u16], by: By, rules: Rules, image: &[u8]) -> Result<usize, Refusal>
     requires { SpellsTexts bytes.now starts.now }
-    ensures { outcome_answer result ≡ room_for (listing_by by rules image.now) }
+    ensures { answered result ≡ room_for (listing_by by rules image.now) }
 {
     let mut offset: usize = 2;
     let mut n: usize = 0;
     loop {
         match image_readers::step_by(image, offset, by) {
-            Step::Found(line) => {
+            Ok(Some(line)) => {
                 let from = line.from;
                 let to = line.to;
                 n += list_lines::measure_line(bytes, starts, rules, line.number, &image[from..to]);
                 offset = line.next;
             }
-            Step::End => {
+            Ok(None) => {
                 return Ok(n);
             }
-            Step::Refused(refusal) => {
+            Err(refusal) => {
                 return Err(refusal);
             }
         }
@@ -149,18 +150,18 @@ fn write(out: &mut [u8], bytes: &[u8], starts: &[u16], by: By, rules: Rules, ima
     let mut at: usize = 0;
     loop {
         match image_readers::step_by(image, offset, by) {
-            Step::Found(line) => {
+            Ok(Some(line)) => {
                 let from = line.from;
                 let to = line.to;
                 let behind = list_lines::put_head(out, at, line.number);
                 at = list_lines::put_rest(out, behind, bytes, starts, rules, &image[from..to]);
                 offset = line.next;
             }
-            Step::End => {
+            Ok(None) => {
                 return at;
             }
             // An image that has a listing is refused nowhere.
-            Step::Refused(_) => {
+            Err(_) => {
                 return at;
             }
         }

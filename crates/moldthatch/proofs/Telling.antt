@@ -6,12 +6,13 @@ use mathlib.Core.Path.{◌≡◌, sym, ap, ◌∙◌}
 use mathlib.Core.List.{List}
 use lib.ListN.{length}
 use Rattle.base_refusals.specs.Numbers.{bad_disk}
-use Rattle.base_refusals.specs.Answer.{Answer, done, refused, numbered}
+use Rattle.base_refusals.specs.Answer.{Answer, done, refused, numbered, answered}
 use Rattle.base_refusals.specs.Code.{code_of, length_code}
-use Rattle.base_lent.specs.Lent.{Lent, into_buffer, room_for, outcome_answer, left}
+use Rattle.base_lent.specs.Lent.{Lent, into_buffer, room_for, left}
 use Rattle.base_refusals.specs.declared.Code.{Code}
 use Rattle.base_refusals.specs.declared.Refusal.{Refusal}
-use Rattle.disk_rules.specs.Calls.{Holding, After, changed_answer, disk_answer, leaving}
+use Rattle.disk_rules.specs.Calls.{After, leaving}
+use Rattle.disk_rules.specs.declared.Holding.{Holding}
 use Rattle.disk_directory.specs.Listing.{directory_text, Shows}
 use Rattle.disk_rules.specs.declared.DiskCheck.{DiskCheck}
 use Rattle.image_index_entries.specs.declared.Held.{Held}
@@ -24,11 +25,11 @@ use Rattle.count_images.specs.declared.Carried.TheVariants.{Apart}
 use Rattle.moldthatch.specs.Told.{Told, told_code, bare_code, told_disk, holding_code, shown_directory, held_code, relinking_code, fate_code, told_totals}
 use Rattle.std.specs.Prelude.{Result, Ok, Err}
 
-module _ (o : Result ℕ Refusal) {c : Code} (code : c ≡ length_code (outcome_answer o)) where
+module _ (o : Result ℕ Refusal) {c : Code} (code : c ≡ length_code (answered o)) where
   pub tells : {b : List ℕ} {l : Lent} → left o b ≡ l → ◌≡◌ {A = Told} (record { code = c; buffer = b }) (told_code l)
   tells {b} q = ap (λ (x : Code). record { code = x; buffer = b }) code ∙ ap told_code q
 
-  pub tells_room : {a : Answer ℕ} → outcome_answer o ≡ a → c ≡ length_code a
+  pub tells_room : {a : Answer ℕ} → answered o ≡ a → c ≡ length_code a
   tells_room q = code ∙ ap length_code q
 
 -- a result that is refused before anything is stored
@@ -42,14 +43,14 @@ module _ (r : Refusal) {c : Code} (code : c ≡ code_of (numbered r)) where
 
 -- ---- disks
 
-pub tells_disk : (r : Result (Unit {0}) Refusal) {c : Code} → c ≡ bare_code (changed_answer r) → {d : List ℕ} {a : After} → leaving r d ≡ a → ◌≡◌ {A = Told} (record { code = c; buffer = d }) (told_disk a)
+pub tells_disk : (r : Result (Unit {0}) Refusal) {c : Code} → c ≡ bare_code (answered r) → {d : List ℕ} {a : After} → leaving r d ≡ a → ◌≡◌ {A = Told} (record { code = c; buffer = d }) (told_disk a)
 tells_disk r code {d} q = ap (λ (x : Code). record { code = x; buffer = d }) code ∙ ap told_disk q
 
-pub tells_changed : (r : Result (Unit {0}) Refusal) {m : (Result (Unit {0}) Refusal)} → r ≡ m → {c : Code} → c ≡ bare_code (changed_answer m) → c ≡ bare_code (changed_answer r)
-tells_changed r e code = code ∙ ap (λ (x : Result (Unit {0}) Refusal). bare_code (changed_answer x)) (sym e)
+pub tells_changed : (r : Result (Unit {0}) Refusal) {m : (Result (Unit {0}) Refusal)} → r ≡ m → {c : Code} → c ≡ bare_code (answered m) → c ≡ bare_code (answered r)
+tells_changed r e code = code ∙ ap (λ (x : Result (Unit {0}) Refusal). bare_code (answered x)) (sym e)
 
-pub tells_holding : (r : DiskCheck) {m : DiskCheck} → r ≡ m → {a : Answer Holding} → disk_answer r ≡ a → {c : Code} → c ≡ holding_code (disk_answer m) → c ≡ holding_code a
-tells_holding r e q code = code ∙ ap (λ (x : DiskCheck). holding_code (disk_answer x)) (sym e) ∙ ap holding_code q
+pub tells_holding : (r : DiskCheck) {m : DiskCheck} → r ≡ m → {a : Answer Holding} → answered r ≡ a → {c : Code} → c ≡ holding_code (answered m) → c ≡ holding_code a
+tells_holding r e q code = code ∙ ap (λ (x : DiskCheck). holding_code (answered x)) (sym e) ∙ ap holding_code q
 
 -- a text at a buffer's start
 clipped_length : {n : ℕ} (m k : ℕ) → n ≡ min (0 + m) k → n ≡ min m k
@@ -58,7 +59,7 @@ clipped_length m k e = e ∙ ap (λ (x : ℕ). min x k) zero_front
     zero_front : 0 + m ≡ m
     zero_front = omega arith
 
-pub tells_directory : (o : Result ℕ Refusal) {c : Code} → c ≡ length_code (outcome_answer o) → (disk buffer : List ℕ) {b : List ℕ} → Shows disk buffer o b → ◌≡◌ {A = Told} (record { code = c; buffer = b }) (shown_directory disk buffer)
+pub tells_directory : (o : Result ℕ Refusal) {c : Code} → c ≡ length_code (answered o) → (disk buffer : List ℕ) {b : List ℕ} → Shows disk buffer o b → ◌≡◌ {A = Told} (record { code = c; buffer = b }) (shown_directory disk buffer)
 tells_directory (Ok n) code disk buffer {b} shows =
     ap (λ (x : Code). record { code = x; buffer = b }) (code ∙ ap (λ (x : ℕ). length_code (done x)) (clipped_length _ _ shows.1.ends))
     ∙ ap (λ (x : List ℕ). record { code = length_code (done (min (length (directory_text disk)) (length buffer))); buffer = x }) shows.1.stored

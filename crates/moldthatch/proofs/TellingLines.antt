@@ -3,11 +3,11 @@
 use Prim.Native.Nat.{ℕ}
 use mathlib.Core.Path.{◌≡◌, sym, ap, ◌∙◌}
 use mathlib.Core.List.{List}
-use Rattle.base_refusals.specs.Answer.{Answer, numbered}
+use Rattle.base_refusals.specs.Answer.{Answer, numbered, answered}
 use Rattle.base_refusals.specs.Code.{code_of}
 use Rattle.base_refusals.specs.declared.Code.{Code}
 use Rattle.base_refusals.specs.declared.Refusal.{Refusal}
-use Rattle.word_dialects.specs.Dialects.{by_number, named_answer}
+use Rattle.word_dialects.specs.Dialects.{by_number}
 use Rattle.word_dialects.specs.declared.Dialect.{Dialect}
 use Rattle.image_readers.specs.Answers.{step_answer}
 use Rattle.image_readers.specs.Image.{Found}
@@ -16,7 +16,7 @@ use Rattle.image_find.specs.Sought.{Visit, sought_answer}
 use Rattle.image_find.specs.declared.Sought.{Sought}
 use Rattle.crunch_rules.specs.declared.Options.{Options}
 use Rattle.crunch_rules.specs.declared.LineMeasured.{LineMeasured}
-use Rattle.crunch_rules.specs.Measured.{line_measured, line_answer}
+use Rattle.crunch_rules.specs.Measured.{line_measured}
 use Rattle.library_numbers.specs.declared.CrunchNumbers.{CrunchNumbers}
 use Rattle.library_numbers.specs.Choices.{crunch_options}
 use Rattle.moldthatch.specs.declared.lines.LineCode.{LineCode}
@@ -42,13 +42,13 @@ module _ {c : LineCode} where
   pub tells_visit : (r : Sought) → c ≡ visit_code (sought_answer r) → {a : Answer Visit} → sought_answer r ≡ a → c ≡ visit_code a
   tells_visit r code q = code ∙ ap visit_code q
 
-  pub tells_measured : (r : LineMeasured) {m : LineMeasured} → r ≡ m → c ≡ measured_code (line_answer m) → c ≡ measured_code (line_answer r)
-  tells_measured r e code = code ∙ ap (λ (x : LineMeasured). measured_code (line_answer x)) (sym e)
+  pub tells_measured : (r : LineMeasured) {m : LineMeasured} → r ≡ m → c ≡ measured_code (answered m) → c ≡ measured_code (answered r)
+  tells_measured r e code = code ∙ ap (λ (x : LineMeasured). measured_code (answered x)) (sym e)
 
 -- the line at a place of the image that a text would have
-module _ (g : CrunchNumbers) (place : ℕ) (text : List ℕ) {n : (Result Dialect Refusal)} (answer : named_answer n ≡ by_number g.dialect) {c : LineCode} where
-  pub tells_there : {d : Dialect} → n ≡ Ok d → {p : Options} → p ≡ crunch_options g d → (r : LineMeasured) → c ≡ measured_code (line_answer r)
-      → line_answer r ≡ line_measured p place text → c ≡ measured_code (measured_with g place text)
+module _ (g : CrunchNumbers) (place : ℕ) (text : List ℕ) {n : (Result Dialect Refusal)} (answer : answered n ≡ by_number g.dialect) {c : LineCode} where
+  pub tells_there : {d : Dialect} → n ≡ Ok d → {p : Options} → p ≡ crunch_options g d → (r : LineMeasured) → c ≡ measured_code (answered r)
+      → answered r ≡ line_measured p place text → c ≡ measured_code (measured_with g place text)
   tells_there e is r code q =
       code
       ∙ ap measured_code (q ∙ ap (λ (x : Options). line_measured x place text) is ∙ of_known (λ d. line_measured (crunch_options g d) place text) g.dialect answer e)

@@ -5,11 +5,11 @@ use mathlib.Core.Path.{◌≡◌, refl, sym, ap, ◌∙◌}
 use mathlib.Core.List.{List}
 use lib.ListN.{length}
 use lib.Seq.{sets}
-use Rattle.base_refusals.specs.Answer.{done, numbered}
+use Rattle.base_refusals.specs.Answer.{done, numbered, answered}
 use Rattle.base_refusals.specs.Code.{code_of}
 use Rattle.base_refusals.specs.declared.Code.{Code}
 use Rattle.base_refusals.specs.declared.Refusal.{Refusal}
-use Rattle.word_dialects.specs.Dialects.{by_number, named_answer}
+use Rattle.word_dialects.specs.Dialects.{by_number}
 use Rattle.word_dialects.specs.declared.Dialect.{Dialect}
 use Rattle.image_units.specs.declared.Mode.{Mode}
 use Rattle.library_numbers.specs.FaultNumbers.{mode_number, mode_of}
@@ -71,7 +71,7 @@ tells_no_stretch r x code = ap (λ (y : Code). record { code = y; place = x }) c
 abbrev held_by : List ℕ → List ℕ → ListOptions → Place → Stretched
 held_by body buffer p q = stretch_of (rules_under p) body (length buffer) q
 
-module _ (g : ListNumbers) (body : List ℕ) (x : PlaceNumbers) (buffer : List ℕ) {n : (Result Dialect Refusal)} (answer : named_answer n ≡ by_number g.dialect) {c : StretchCode} where
+module _ (g : ListNumbers) (body : List ℕ) (x : PlaceNumbers) (buffer : List ℕ) {n : (Result Dialect Refusal)} (answer : answered n ≡ by_number g.dialect) {c : StretchCode} where
   pub tells_stretch : {d : Dialect} → n ≡ Ok d → {p : ListOptions} → p ≡ list_options g d → {q : Place} → q ≡ stretch_place x → (r : Stretch) → c ≡ stretch_code r → {b : List ℕ}
       → (r ≡ stretch_answer (stretch_of (rules_under p) body (length buffer) q)) × (b ≡ sets buffer 0 (stretch_of (rules_under p) body (length buffer) q).text)
       → ◌≡◌ {A = StretchTold} (record { told = c; buffer = b }) (stretched_with g body x buffer)

@@ -1,7 +1,7 @@
 -- What callers in other languages ask for: options as numbers, a dialect by its number.
 -- Assumes nothing.
 use Rattle.std.specs.Prelude.{ℕ, List}
-use Rattle.std.proofs.Math.Option.{Option}
+use Rattle.std.specs.Prelude.{Option}
 use Rattle.base_refusals.specs.Answer.{Answer, and_then}
 use Rattle.word_dialects.specs.Dialects.{by_number}
 use Rattle.word_dialects.specs.declared.Dialect.{Dialect}

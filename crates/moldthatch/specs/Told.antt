@@ -7,7 +7,8 @@ use Rattle.base_refusals.specs.Code.{code_of, answer_code, length_code}
 use Rattle.base_refusals.specs.Numbers.{bad_disk}
 use Rattle.base_lent.specs.Lent.{Lent}
 use Rattle.base_refusals.specs.declared.Code.{Code}
-use Rattle.disk_rules.specs.Calls.{Holding, After}
+use Rattle.disk_rules.specs.Calls.{After}
+use Rattle.disk_rules.specs.declared.Holding.{Holding}
 use Rattle.disk_rules.specs.Check.{sound}
 use Rattle.disk_directory.specs.Listing.{directory_text}
 use Rattle.image_index_entries.specs.declared.Held.{Held}

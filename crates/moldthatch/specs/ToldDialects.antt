@@ -8,7 +8,7 @@ use Rattle.word_dialects.specs.Dialects.{default_load}
 use Rattle.word_dialects.specs.declared.Dialect.{Dialect}
 use Rattle.word_dialects.specs.declared.Dialect.TheVariants.{Auto, BasicV2, Tsb, Basic35}
 use Rattle.escape_bytes.specs.declared.Escape.{Escape}
-use Rattle.escape_bytes.specs.declared.Escape.TheVariants.{Byte, Unknown}
+use Rattle.std.specs.Prelude.{Option, Some, None}
 
 -- the number that `by_number` takes for the dialect (`number_back`, proofs/TellingDialects.antt)
 abbrev pub dialect_number : Dialect → ℕ
@@ -27,6 +27,6 @@ load_code (done d) = answer_code (done (default_load d ∷ []))
 load_code (refused n) = answer_code (refused n)
 
 -- a byte and how often it is repeated, or nothing
-abbrev pub escape_code : Escape → Code
-escape_code (Byte byte count) = answer_code (done (byte ∷ count ∷ []))
-escape_code Unknown = answer_code (done [])
+abbrev pub escape_code : Option Escape → Code
+escape_code (Some e) = answer_code (done (e.byte ∷ e.count ∷ []))
+escape_code None = answer_code (done [])

@@ -1,7 +1,7 @@
 -- A line as callers in other languages are told it: what is said beside it, and the line, or that there is none.
 -- Assumes nothing.
 use Rattle.std.specs.Prelude.{[], ◌∷◌}
-use Rattle.std.proofs.Math.Option.{Option, none, some}
+use Rattle.std.specs.Prelude.{Option, None, Some}
 use Rattle.base_refusals.specs.Answer.{Answer, done, refused}
 use Rattle.base_refusals.specs.Code.{answer_code}
 use Rattle.base_refusals.specs.declared.Code.{Code}
@@ -41,6 +41,6 @@ visit_code (refused n) = no_line (answer_code (refused n))
 
 -- a line of the image that a text would have, with its text line
 abbrev pub measured_code : Answer (Option MeasuredLine) → LineCode
-measured_code (done (some m)) = line_code (answer_code (done (m.origin ∷ []))) m.line
-measured_code (done none) = no_line (answer_code (done []))
+measured_code (done (Some m)) = line_code (answer_code (done (m.origin ∷ []))) m.line
+measured_code (done None) = no_line (answer_code (done []))
 measured_code (refused n) = no_line (answer_code (refused n))

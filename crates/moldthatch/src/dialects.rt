@@ -1,8 +1,7 @@
 // Dialects by name and by number, and what else is asked of a text before it is crunched.
 ghost use Rattle.std.specs.Prelude.{◌≡◌};
-ghost use Rattle.base_refusals.specs.Answer.{done};
-ghost use Rattle.word_dialects.specs.Dialects.{by_number, named as dialect_named, named_answer};
-ghost use Rattle.guess.specs.Guess.{resolved_answer};
+ghost use Rattle.base_refusals.specs.Answer.{done, answered};
+ghost use Rattle.word_dialects.specs.Dialects.{by_number, named as dialect_named};
 ghost use Rattle.word_tables.specs.Tsb.{is_tsb_word};
 ghost use Rattle.escape_bytes.specs.Escape.{escape_of};
 ghost use Rattle.say_put.specs.Clipped.{Clipped};
@@ -69,7 +68,7 @@ pub extern "C" fn moldthatch_origins(text: &[u8], out: &mut [usize]) -> usize
 }
 
 fn named_code(named: Result<Dialect, Refusal>) -> Code
-    ensures { result ≡ dialect_code (named_answer named) }
+    ensures { result ≡ dialect_code (answered named) }
 {
     match named {
         Ok(dialect) => dialect_code(dialect),
@@ -78,7 +77,7 @@ fn named_code(named: Result<Dialect, Refusal>) -> Code
 }
 
 fn load_code(named: Result<Dialect, Refusal>) -> Code
-    ensures { result ≡ load_code (named_answer named) }
+    ensures { result ≡ load_code (answered named) }
 {
     match named {
         Ok(dialect) => {
@@ -89,7 +88,7 @@ fn load_code(named: Result<Dialect, Refusal>) -> Code
 }
 
 fn resolved_code(resolved: Result<Dialect, Refusal>) -> Code
-    ensures { result ≡ dialect_code (resolved_answer resolved) }
+    ensures { result ≡ dialect_code (answered resolved) }
 {
     match resolved {
         Ok(dialect) => dialect_code(dialect),
@@ -108,17 +107,17 @@ fn dialect_code(dialect: Dialect) -> Code
     }
 }
 
-fn escape_code(escape: Escape) -> Code
+fn escape_code(escape: Option<Escape>) -> Code
     ensures { result ≡ escape_code escape }
 {
     match escape {
-        Escape::Byte { byte, count } => Code {
+        Some(Escape { byte, count }) => Code {
             number: 0,
             count: 2,
             first: byte as usize,
             second: count as usize,
         },
-        Escape::Unknown => Code {
+        None => Code {
             number: 0,
             count: 0,
             first: 0,

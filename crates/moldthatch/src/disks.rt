@@ -1,14 +1,15 @@
 // Disk images: 174,848 bytes that the caller lends. A refusal changes no byte of them.
 ghost use Rattle.std.specs.Prelude.{◌≡◌};
 ghost use Rattle.base_lent.specs.Lent.{into_buffer};
-ghost use Rattle.disk_rules.specs.Calls.{formatted, saved, scratched, file_bytes, disk_holding, onto_disk, changed_answer, disk_answer};
+ghost use Rattle.disk_rules.specs.Calls.{formatted, saved, scratched, file_bytes, disk_holding, onto_disk};
 ghost use Rattle.say_put.specs.Clipped.{Clipped};
 ghost use Rattle.disk_names.specs.Names.{name_given};
 ghost use Rattle.moldthatch.specs.Told.{told_code, bare_code, told_disk, holding_code, shown_directory};
+ghost use Rattle.base_refusals.specs.Answer.{answered};
 
 use base_refusals::Refusal;
 use base_refusals::Code;
-use disk_rules::DiskCheck;
+use disk_rules::Holding;
 
 // Makes a disk without files.
 #[unsafe(no_mangle)]
@@ -48,13 +49,13 @@ pub extern "C" fn moldthatch_disk_check(disk: &[u8]) -> Code
     ensures { result ≡ holding_code (disk_holding disk.now) }
 {
     match disk::check(disk) {
-        DiskCheck::Holds { files, free } => Code {
+        Ok(Holding { files, free }) => Code {
             number: 0,
             count: 2,
             first: files,
             second: free,
         },
-        DiskCheck::Refused(refusal) => base_refusals::refusal_code(refusal),
+        Err(refusal) => base_refusals::refusal_code(refusal),
     }
 }
 
@@ -75,7 +76,7 @@ pub extern "C" fn moldthatch_disk_name(text: &[u8], out: &mut [u8]) -> usize
 }
 
 fn changed_code(changed: Result<(), Refusal>) -> Code
-    ensures { result ≡ bare_code (changed_answer changed) }
+    ensures { result ≡ bare_code (answered changed) }
 {
     match changed {
         Ok(()) => Code {

@@ -1,19 +1,17 @@
 // Lines of an image, one at a time: by its offset, by its number, by its place in the image that a text would have.
 ghost use Rattle.std.specs.Prelude.{◌≡◌};
-ghost use Rattle.base_refusals.specs.Answer.{numbered};
+ghost use Rattle.base_refusals.specs.Answer.{numbered, answered};
 ghost use Rattle.base_refusals.specs.Code.{code_of};
 ghost use Rattle.image_readers.specs.Answers.{step_answer};
 ghost use Rattle.image_readers.specs.Links.{link_step};
 ghost use Rattle.image_readers.specs.Terminators.{terminator_step};
 ghost use Rattle.image_find.specs.Sought.{line_sought, sought_answer};
-ghost use Rattle.crunch_rules.specs.Measured.{line_answer};
 ghost use Rattle.moldthatch.specs.Given.{measured_with};
 ghost use Rattle.moldthatch.specs.ToldLines.{line_code, no_line, step_code, visit_code, measured_code};
 
 use base_refusals::{Code, Refusal};
-use crunch_rules::LineMeasured;
 use image_find::Sought;
-use image_readers::{Line, Step, links, terminators};
+use image_readers::{Line, links, terminators};
 use library_numbers::{CrunchNumbers, crunch_options};
 
 // A line, where `found` is 1: its link and number, its address in memory, the offsets of its body and of what follows it. The code is 0, with
@@ -72,13 +70,13 @@ pub extern "C" fn moldthatch_measured_line(
     }
 }
 
-fn step_code(step: Step) -> LineCode
+fn step_code(step: Result<Option<Line>, Refusal>) -> LineCode
     ensures { result ≡ step_code (step_answer step) }
 {
     match step {
-        Step::Found(line) => line_code(0, 0, line),
-        Step::End => no_line(0, 0, 0),
-        Step::Refused(refusal) => refused_line(refusal),
+        Ok(Some(line)) => line_code(0, 0, line),
+        Ok(None) => no_line(0, 0, 0),
+        Err(refusal) => refused_line(refusal),
     }
 }
 
@@ -93,16 +91,16 @@ fn sought_code(sought: Sought) -> LineCode
     }
 }
 
-fn measured_code(measured: LineMeasured) -> LineCode
-    ensures { result ≡ measured_code (line_answer measured) }
+fn measured_code(measured: Result<Option<MeasuredLine>, Refusal>) -> LineCode
+    ensures { result ≡ measured_code (answered measured) }
 {
     match measured {
-        LineMeasured::There(there) => {
+        Ok(Some(there)) => {
             let line = there.line;
             line_code(1, there.origin, line)
         }
-        LineMeasured::NoSuchLine => no_line(0, 0, 0),
-        LineMeasured::Refused(refusal) => refused_line(refusal),
+        Ok(None) => no_line(0, 0, 0),
+        Err(refusal) => refused_line(refusal),
     }
 }
 

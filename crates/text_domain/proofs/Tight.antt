@@ -4,9 +4,9 @@
 use mathlib.Core.Path.{◌≡◌, refl, sym, ap, ◌∙◌}
 use mathlib.Core.List.{List}
 use Prim.Native.Nat.{ℕ}
-use Rattle.base_refusals.specs.Answer.{Answer, done, refused}
+use Rattle.base_refusals.specs.Answer.{Answer, done, refused, answered}
 use Rattle.base_refusals.proofs.Tight as known
-use Rattle.text_domain.specs.Domain.{checked_text, text_check_answer}
+use Rattle.text_domain.specs.Domain.{checked_text}
 use Rattle.std.specs.Prelude.{Result, Ok, Err}
 use Rattle.base_refusals.specs.declared.Refusal.{Refusal}
 
@@ -14,10 +14,10 @@ answered : Answer (Unit {0}) → Result (Unit {0}) Refusal
 answered (done u) = (Ok tt)
 answered (refused n) = Err (known.named n)
 
-answered_check : (r : Result (Unit {0}) Refusal) → answered (text_check_answer r) ≡ r
+answered_check : (r : Result (Unit {0}) Refusal) → answered (answered r) ≡ r
 unfolding answered
 answered_check (Ok tt) = refl
 answered_check (Err r) = ap Err (known.named_numbered r)
 
-pub check_text_tight : (t : List ℕ) (r s : Result (Unit {0}) Refusal) → text_check_answer r ≡ checked_text t → text_check_answer s ≡ checked_text t → r ≡ s
-check_text_tight t r s p q = known.tells_apart text_check_answer answered answered_check r s (p ∙ sym q)
+pub check_text_tight : (t : List ℕ) (r s : Result (Unit {0}) Refusal) → answered r ≡ checked_text t → answered s ≡ checked_text t → r ≡ s
+check_text_tight t r s p q = known.tells_apart answered answered answered_check r s (p ∙ sym q)

@@ -29,8 +29,3 @@ checked_text t =
       | true ↦ elim (ltb (domain_length t) (length t)) [ true ↦ refused (bad_byte (domain_length t)) | false ↦ done tt ]
       | false ↦ refused (text_too_long (length t))
     ]
-
--- the case of the enum, with document 01's number and values
-abbrev pub text_check_answer : Result (Unit {0}) Refusal → Answer (Unit {0})
-text_check_answer (Ok tt) = done tt
-text_check_answer (Err r) = refused (numbered r)

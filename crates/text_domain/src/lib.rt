@@ -3,8 +3,9 @@
 
 ghost use Rattle.std.specs.Prelude.{◌≡◌, ◌≤◌};
 ghost use Rattle.base_ascii.specs.Search.{front};
-ghost use Rattle.text_domain.specs.Domain.{is_pi, domain_length, checked_text, text_check_answer};
+ghost use Rattle.text_domain.specs.Domain.{is_pi, domain_length, checked_text};
 ghost use Rattle.text_domain.specs.DomainHelpers.{is_low};
+ghost use Rattle.base_refusals.specs.Answer.{answered};
 
 use crate::eights::{larger, top_of_eight};
 use base_ascii::search;
@@ -56,7 +57,7 @@ fn domain_length(text: &[u8]) -> usize
 
 // Whether a text is one that is taken: not too long, and each byte in the domain.
 pub fn check_text(text: &[u8]) -> Result<(), Refusal>
-    ensures { text_check_answer result ≡ checked_text text.now }
+    ensures { answered result ≡ checked_text text.now }
 {
     if text.len() > 1048576 {
         return Err(Refusal::TextTooLong { length: text.len() });

@@ -3,7 +3,7 @@
 -- covers the word `basic35`", "the default load address 0x1001".
 -- Assumes nothing.
 use Rattle.std.specs.Prelude.{ℕ, zero, suc, Bool, true, false, cond, ◌&&◌, List, [], ◌∷◌, leb, length}
-use Rattle.std.proofs.Math.Option.{Option, none, some}
+use Rattle.std.specs.Prelude.{Option, None, Some}
 use Rattle.base_ascii.specs.Bytes.{is_ascii}
 use Rattle.base_ascii.specs.Trim.{trim}
 use Rattle.word_search.specs.Find.{Name, meaning}
@@ -38,18 +38,13 @@ dialect_names =
 
 -- a name that is none of these is unknown
 abbrev pub dialect_found : Option Dialect → Answer Dialect
-dialect_found (some d) = done d
-dialect_found none = refused unknown_dialect
+dialect_found (Some d) = done d
+dialect_found None = refused unknown_dialect
 
 -- the dialect that a word names
 unfoldable pub named : List ℕ → Answer Dialect
 unfolding dialect_names meaning trim
 named w = cond (leb (length w) 64 && is_ascii w) (dialect_found (meaning dialect_names (trim w))) (refused unknown_dialect)
-
--- the enum's cases as document 01 numbers them
-abbrev pub named_answer : Result Dialect Refusal → Answer Dialect
-named_answer (Ok d) = done d
-named_answer (Err r) = refused (numbered r)
 
 abbrev pub is_basic35 : Dialect → Bool
 is_basic35 Auto = false

@@ -2,7 +2,8 @@
 #![tactic(auto)]
 
 ghost use Rattle.std.specs.Prelude.{◌≡◌};
-ghost use Rattle.word_dialects.specs.Dialects.{by_number, named, named_answer, is_basic35, default_load};
+ghost use Rattle.word_dialects.specs.Dialects.{by_number, named, is_basic35, default_load};
+ghost use Rattle.base_refusals.specs.Answer.{answered};
 
 use base_refusals::Refusal;
 use word_search::{Section, Test};
@@ -37,7 +38,7 @@ const NAME_DIALECTS: [Dialect; 9] = [
 
 // The dialect of a number, as callers in other languages give it.
 pub fn dialect_by_number(number: u8) -> Result<Dialect, Refusal>
-    ensures { named_answer result ≡ by_number number }
+    ensures { answered result ≡ by_number number }
 {
     match number {
         0 => Ok(Dialect::Auto),
@@ -50,7 +51,7 @@ pub fn dialect_by_number(number: u8) -> Result<Dialect, Refusal>
 
 // The dialect that a word names: trimmed, without regard to case.
 pub fn dialect_by_name(word: &[u8]) -> Result<Dialect, Refusal>
-    ensures { named_answer result ≡ named word.now }
+    ensures { answered result ≡ named word.now }
 {
     if word.len() > 64 {
         return Err(Refusal::UnknownDialect);

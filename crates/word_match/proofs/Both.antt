@@ -23,16 +23,16 @@ use Rattle.word_match.specs.declared.sets.Sets.{Sets}
 use Rattle.word_tables.proofs.Lists.{v2_ordered, both_ordered}
 
 -- an answer of the second list, n places on
-abbrev moved : ℕ → Match → Match
+abbrev moved : ℕ → Option Match → Option Match
 moved n (Word i u k) = Word (n + i) u k
 moved n Nothing = Nothing
 
-abbrev or_else : Match → Match → Match
+abbrev or_else : Option Match → Option Match → Option Match
 or_else (Word i u k) m = Word i u k
 or_else Nothing m = m
 
 module _ (p : List ℕ → Bool) where
-  abbrev first_in : List Entry → ℕ → Match
+  abbrev first_in : List Entry → ℕ → Option Match
   first_in es k = first_that (λ i w. p w) es k
 
   first_moved : (es : List Entry) (n j k : ℕ) → j ≡ n + k → first_in es j ≡ moved n (first_in es k)
@@ -74,7 +74,7 @@ unfolding basic35_words
 own_many = refl
 
 module _ (s : Sets) (t : List ℕ) where
-  pub plain_v2 : {v : Match} → not s.basic35 ≡ true → v ≡ word_in v2_words t → v ≡ plain_word s v2_words basic35_words t
+  pub plain_v2 : {v : Option Match} → not s.basic35 ≡ true → v ≡ word_in v2_words t → v ≡ plain_word s v2_words basic35_words t
   unfolding plain_word
   plain_v2 n e = e ∙ rw (not-true s.basic35 n)
 
@@ -82,19 +82,19 @@ module _ (s : Sets) (t : List ℕ) where
   unfolding plain_word
   plain_both y = rw (not-false s.basic35 y) (both t)
 
-  module _ {v : Match} where
+  module _ {v : Option Match} where
     pub plain_first : {i u k : ℕ} → v ≡ Word i u k → v ≡ word_in v2_words t → not s.basic35 ≡ false → v ≡ plain_word s v2_words basic35_words t
     plain_first is e y = sym (plain_both y ∙ rw (sym e ∙ is) (sym is))
 
-    pub plain_own : {m : Match} {i u k : ℕ} → m ≡ Word i u k → m ≡ word_in basic35_words t → v ≡ Nothing → v ≡ word_in v2_words t → not s.basic35 ≡ false
+    pub plain_own : {m : Option Match} {i u k : ℕ} → m ≡ Word i u k → m ≡ word_in basic35_words t → v ≡ Nothing → v ≡ word_in v2_words t → not s.basic35 ≡ false
         → Word (68 + i) u k ≡ plain_word s v2_words basic35_words t
     plain_own is f none e y = sym (plain_both y ∙ rw (sym e ∙ none, sym f ∙ is))
 
-    pub plain_none : {m : Match} → m ≡ Nothing → m ≡ word_in basic35_words t → v ≡ Nothing → v ≡ word_in v2_words t → not s.basic35 ≡ false
+    pub plain_none : {m : Option Match} → m ≡ Nothing → m ≡ word_in basic35_words t → v ≡ Nothing → v ≡ word_in v2_words t → not s.basic35 ≡ false
         → Nothing ≡ plain_word s v2_words basic35_words t
     plain_none is f none e y = sym (plain_both y ∙ rw (sym e ∙ none, sym f ∙ is))
 
-pub own_fits : (t : List ℕ) {m : Match} {i u k : ℕ} → m ≡ Word i u k → m ≡ word_in basic35_words t → Fits w64 (68 + i)
+pub own_fits : (t : List ℕ) {m : Option Match} {i u k : ℕ} → m ≡ Word i u k → m ≡ word_in basic35_words t → Fits w64 (68 + i)
 unfolding word_in passes
 own_fits t {i = i} {u = u} {k = k} is e =
     let f = found (λ w. begins w t) i u k basic35_words 0 (sym e ∙ is) in

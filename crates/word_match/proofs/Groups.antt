@@ -23,7 +23,7 @@ use Rattle.word_tables.specs.WordsHelpers.{Placed, capitals, initial, grouped, s
 use Rattle.word_tables.proofs.Ranged.{ranged}
 
 -- the first word that passes a test of its place and its bytes
-unfoldable pub first_placed : (ℕ → List ℕ → Bool) → List Placed → Match
+unfoldable pub first_placed : (ℕ → List ℕ → Bool) → List Placed → Option Match
 first_placed p [] = Nothing
 first_placed p (x ∷ xs) = elim (p x.place x.word) [ true ↦ Word x.place (length x.word) x.token | false ↦ first_placed p xs ]
 
@@ -147,7 +147,7 @@ module _ (bytes index : List ℕ) where
     passes_placed j = p (get_or index (362 + j) 0) (word_of bytes index j)
 
     -- what is found at place r of those up to an end
-    abbrev pub answer : ℕ → ℕ → Match
+    abbrev pub answer : ℕ → ℕ → Option Match
     answer end r = elim (ltb r end) [ true ↦ word_found bytes index r | false ↦ Nothing ]
 
     pub first_stored : (n i : ℕ) → first_placed p (stored_words bytes index i n) ≡ answer (i + n) (first_from passes_placed i n)

@@ -53,7 +53,7 @@ module _ (s : Sets) (t : List ℕ) where
   unfolding live_word among_in
   live_dead e es = go (among_in (is_demoted s) es t)
     where
-      go : (m : Match) → Nothing ≡ elim m [ Word i u k ↦ Nothing | Nothing ↦ among_in (is_live s) es t ]
+      go : (m : Option Match) → Nothing ≡ elim m [ Word i u k ↦ Nothing | Nothing ↦ among_in (is_live s) es t ]
       go (Word i u k) = refl
       go Nothing = sym (dead (not-true _ e) es 0)
 
@@ -74,7 +74,7 @@ module _ (s : Sets) (t : List ℕ) where
       go true u false true q f = refl
       go true u false false q f = f q
 
-  live_found : (es : List Entry) {m : Match} → not s.tsb ≡ false → Nothing ≡ among_in (is_demoted s) es t → m ≡ first_that (λ k w. passes Begins w t) es 0 → m ≡ live_word s es t
+  live_found : (es : List Entry) {m : Option Match} → not s.tsb ≡ false → Nothing ≡ among_in (is_demoted s) es t → m ≡ first_that (λ k w. passes Begins w t) es 0 → m ≡ live_word s es t
   unfolding live_word among_in
   live_found es e n q = q ∙ alive (not-false _ e) es 0 n ∙ rw (live_word, sym n)
 
@@ -166,7 +166,7 @@ module _ (s : Sets) (t bytes index : List ℕ) where
 
   -- behind the last such place
   module _ {x : Section} {i : ℕ} (h : x.to ≤ i) (q : x ≡ group_at index Tsb (initial t)) (v : Living i) (e : not s.tsb ≡ false) (sp : SpellsWords bytes index) where
-    end : {m : Match} → m ≡ first_that (λ k w. passes Begins w t) (capitals tsb_words) 0 → m ≡ live_word s tsb_words t
+    end : {m : Option Match} → m ≡ first_that (λ k w. passes Begins w t) (capitals tsb_words) 0 → m ≡ live_word s tsb_words t
     unfolding demoted_at
     end m =
         let l : g.to ≤ i = rw q at h in
@@ -175,7 +175,7 @@ module _ (s : Sets) (t bytes index : List ℕ) where
         (sym (first_none demoted_at _ g.to l) ∙ v.gives) l ∙ among_capitals (is_demoted s) t)
         (m ∙ begun_capitals t)
 
-    pub living_word : {m : Match} {first : ℕ} → m ≡ word_found bytes index first → first < x.to → first ≡ first_from (passes_at Begins t bytes index) x.from (x.to - x.from) → m ≡ live_word s tsb_words t
+    pub living_word : {m : Option Match} {first : ℕ} → m ≡ word_found bytes index first → first < x.to → first ≡ first_from (passes_at Begins t bytes index) x.from (x.to - x.from) → m ≡ live_word s tsb_words t
     living_word m l f = end (match_found Begins t bytes index Tsb m l f q sp)
 
     pub living_none : {first : ℕ} → x.to ≤ first → first ≡ first_from (passes_at Begins t bytes index) x.from (x.to - x.from) → Nothing ≡ live_word s tsb_words t

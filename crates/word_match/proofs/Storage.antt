@@ -148,7 +148,7 @@ module _ (test : Test) (text bytes index : List ℕ) (l : WordList) {s : Section
         let up : s.from ≤ i = rw f (first_from_lem (passes_at test text bytes index) s.from (s.to - s.from)) in
         held_stored sp l (initial text) i (rw e at up) (rw e at h)
 
-    pub match_found : {r : Match} → r ≡ word_found bytes index i → i < s.to → i ≡ first_from (passes_at test text bytes index) s.from (s.to - s.from)
+    pub match_found : {r : Option Match} → r ≡ word_found bytes index i → i < s.to → i ≡ first_from (passes_at test text bytes index) s.from (s.to - s.from)
         → s ≡ group_at index l (initial text) → SpellsWords bytes index → r ≡ match_in test (capitals (words_of l)) text
     unfolding passes_at
     match_found q h f e sp =
@@ -177,7 +177,7 @@ module _ (p : ℕ → List ℕ → Bool) (blind : (k : ℕ) (w : List ℕ) → p
       go false true u n v h = absurd (false≢true u)
       go false false u n v h = h
 
-module _ (l : WordList) (t : List ℕ) {r : Match} where
+module _ (l : WordList) (t : List ℕ) {r : Option Match} where
   pub word_found_lem : r ≡ match_in Begins (capitals (words_of l)) t → r ≡ word_in (words_of l) t
   unfolding word_in passes
   word_found_lem e = e ∙ first_capitals (λ k w. passes Begins w t) (λ k w. raise_begins w t) (words_of l) 0

@@ -6,7 +6,7 @@
 use Rattle.std.specs.Prelude.{ℕ, Bool, false, not, cond, ◌&&◌, List, ◌++◌, get_or}
 use Rattle.word_search.specs.Find.{Entry, word_in, among_in}
 use Rattle.word_search.specs.declared.Match.{Match}
-use Rattle.word_search.specs.declared.Match.TheVariants.{Word, Nothing}
+use Rattle.std.specs.Prelude.{Option, Some, None}
 use Rattle.word_match.specs.declared.sets.Sets.{Sets}
 
 -- the word at a place of the list is demoted
@@ -19,16 +19,16 @@ unfolding is_demoted
 is_live s k = s.tsb && not (is_demoted s k)
 
 -- the live word that the text begins with, unless a demoted one also matches there
-unfoldable pub live_word : Sets → List Entry → List ℕ → Match
+unfoldable pub live_word : Sets → List Entry → List ℕ → Option Match
 unfolding among_in is_demoted is_live
-live_word s es t = elim (among_in (is_demoted s) es t) [ Word i u k ↦ Nothing | Nothing ↦ among_in (is_live s) es t ]
+live_word s es t = elim (among_in (is_demoted s) es t) [ Some m ↦ None | None ↦ among_in (is_live s) es t ]
 
 -- the V2 words, and under BASIC 3.5 its own behind them
 abbrev pub plain_words : Sets → List Entry → List Entry → List Entry
 plain_words s v2 own = cond s.basic35 (v2 ++ own) v2
 
 -- the word of these that the text begins with: the first, which is the longest (`plain_longest`, proofs/Both.antt)
-unfoldable pub plain_word : Sets → List Entry → List Entry → List ℕ → Match
+unfoldable pub plain_word : Sets → List Entry → List Entry → List ℕ → Option Match
 unfolding word_in
 plain_word s v2 own t = word_in (plain_words s v2 own) t
 

@@ -66,21 +66,21 @@ fn place_of(index: &[u16], i: usize) -> usize
 }
 
 // Stored word i, as the search of its list answers it.
-fn word_found(bytes: &[u8], index: &[u16], i: usize) -> Match
+fn word_found(bytes: &[u8], index: &[u16], i: usize) -> Option<Match>
     requires { Held bytes.now index.now i }
     ensures { result ≡ word_found bytes.now index.now i }
 {
     let word = word_search::word_at(bytes, index, i);
     let at = spellings::TOKENS + i;
-    Match::Word {
+    Some(Match {
         index: place_of(index, i),
         used: word.len(),
         token: bytes[at],
-    }
+    })
 }
 
 // The first word of a list that passes the test; its words are stored in capitals.
-pub fn match_in(list: WordList, test: Test, text: &[u8], bytes: &[u8], index: &[u16]) -> Match
+pub fn match_in(list: WordList, test: Test, text: &[u8], bytes: &[u8], index: &[u16]) -> Option<Match>
     requires { SpellsWords bytes.now index.now }
     ensures { result ≡ match_in test (capitals (words_of list)) text.now }
 {
@@ -90,11 +90,11 @@ pub fn match_in(list: WordList, test: Test, text: &[u8], bytes: &[u8], index: &[
     if i < to {
         return word_found(bytes, index, i);
     }
-    Match::Nothing
+    None
 }
 
 // The V2 word that the text begins with.
-pub fn match_v2(text: &[u8], bytes: &[u8], index: &[u16]) -> Match
+pub fn match_v2(text: &[u8], bytes: &[u8], index: &[u16]) -> Option<Match>
     requires { SpellsWords bytes.now index.now }
     ensures { result ≡ word_in v2_words text.now }
 {
@@ -102,7 +102,7 @@ pub fn match_v2(text: &[u8], bytes: &[u8], index: &[u16]) -> Match
 }
 
 // The word of BASIC 3.5 that the text begins with.
-fn match_basic35(text: &[u8], bytes: &[u8], index: &[u16]) -> Match
+fn match_basic35(text: &[u8], bytes: &[u8], index: &[u16]) -> Option<Match>
     requires { SpellsWords bytes.now index.now }
     ensures { result ≡ word_in basic35_words text.now }
 {
@@ -111,7 +111,7 @@ fn match_basic35(text: &[u8], bytes: &[u8], index: &[u16]) -> Match
 
 // The word that the text begins with: a V2 word, or under BASIC 3.5 one of its own, which stand behind the V2 words in the list of both.
 // No V2 word begins one of these, so the first is the longest.
-pub fn match_plain(text: &[u8], bytes: &[u8], index: &[u16], sets: Sets) -> Match
+pub fn match_plain(text: &[u8], bytes: &[u8], index: &[u16], sets: Sets) -> Option<Match>
     requires { SpellsWords bytes.now index.now }
     ensures { result ≡ plain_word sets v2_words basic35_words text.now }
 {
@@ -120,28 +120,28 @@ pub fn match_plain(text: &[u8], bytes: &[u8], index: &[u16], sets: Sets) -> Matc
         return v2;
     }
     match v2 {
-        Match::Word {
+        Some(Match {
             index: _,
             used: _,
             token: _,
-        } => v2,
-        Match::Nothing => match match_basic35(text, bytes, index) {
-            Match::Word {
+        }) => v2,
+        None => match match_basic35(text, bytes, index) {
+            Some(Match {
                 index: place,
                 used,
                 token,
-            } => Match::Word {
+            }) => Some(Match {
                 index: spellings::V2_WORDS + place,
                 used,
                 token,
-            },
-            Match::Nothing => Match::Nothing,
+            }),
+            None => None,
         },
     }
 }
 
 // The operator that the text begins with.
-pub fn match_operator(text: &[u8], bytes: &[u8], index: &[u16]) -> Match
+pub fn match_operator(text: &[u8], bytes: &[u8], index: &[u16]) -> Option<Match>
     requires { SpellsWords bytes.now index.now }
     ensures { result ≡ word_in operators text.now }
 {
@@ -149,7 +149,7 @@ pub fn match_operator(text: &[u8], bytes: &[u8], index: &[u16]) -> Match
 }
 
 // The TSB word that the text begins with.
-pub fn match_tsb(text: &[u8], bytes: &[u8], index: &[u16]) -> Match
+pub fn match_tsb(text: &[u8], bytes: &[u8], index: &[u16]) -> Option<Match>
     requires { SpellsWords bytes.now index.now }
     ensures { result ≡ word_in tsb_words text.now }
 {
@@ -157,12 +157,12 @@ pub fn match_tsb(text: &[u8], bytes: &[u8], index: &[u16]) -> Match
 }
 
 // The live TSB word that the text begins with, unless it also begins with a demoted one.
-pub fn match_live(text: &[u8], bytes: &[u8], index: &[u16], sets: Sets) -> Match
+pub fn match_live(text: &[u8], bytes: &[u8], index: &[u16], sets: Sets) -> Option<Match>
     requires { SpellsWords bytes.now index.now }
     ensures { result ≡ live_word sets tsb_words text.now }
 {
     if !sets.tsb {
-        return Match::Nothing;
+        return None;
     }
     let group = group_of(WordList::Tsb, text, index);
     let to = group.to;
@@ -171,7 +171,7 @@ pub fn match_live(text: &[u8], bytes: &[u8], index: &[u16], sets: Sets) -> Match
     while i < to {
         let place = place_of(index, i);
         if sets.demoted[place] {
-            return Match::Nothing;
+            return None;
         }
         i = word_search::first_passing(
             Test::Begins,
@@ -185,11 +185,11 @@ pub fn match_live(text: &[u8], bytes: &[u8], index: &[u16], sets: Sets) -> Match
     if first < to {
         return word_found(bytes, index, first);
     }
-    Match::Nothing
+    None
 }
 
 // The escape name that the text is.
-pub fn match_escape(name: &[u8], bytes: &[u8], index: &[u16]) -> Match
+pub fn match_escape(name: &[u8], bytes: &[u8], index: &[u16]) -> Option<Match>
     requires { SpellsWords bytes.now index.now }
     ensures { result ≡ name_in escape_names name.now }
 {

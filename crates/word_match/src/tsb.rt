@@ -12,11 +12,11 @@ pub fn is_tsb_keyword_name(word: &[u8]) -> bool
     let bytes = spellings::word_bytes();
     let index = spellings::word_index();
     match crate::match_in(WordList::Tsb, Test::Same, word, &bytes, &index) {
-        Match::Word {
+        Some(Match {
             index: _,
             used: _,
             token: _,
-        } => true,
-        Match::Nothing => false,
+        }) => true,
+        None => false,
     }
 }

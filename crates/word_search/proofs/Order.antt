@@ -120,6 +120,6 @@ pub longest_in : (es : List Entry) → T (ordered es) → (t : List ℕ) → Lon
 unfolding word_in
 longest_in es o t = go (first_that (λ i w. begins w t) es 0) refl
   where
-    go : (m : Match) → first_that (λ i w. begins w t) es 0 ≡ m → Longest es t m
+    go : (m : Option Match) → first_that (λ i w. begins w t) es 0 ≡ m → Longest es t m
     go (Word k len tok) q = longest es o t k len tok q
     go Nothing q = tt

@@ -38,7 +38,7 @@ same_is w t false q = go (same w t) refl
     go false e = sym e
 
 -- a word is found just where the text is one of the words
-abbrev pub is_found : Match → Bool
+abbrev pub is_found : Option Match → Bool
 is_found (Word index used token) = true
 is_found Nothing = false
 

@@ -5,7 +5,7 @@ use mathlib.Core.Path.{◌≡◌, refl, sym, ◌∙◌}
 use mathlib.Core.Bool.{Bool, true, false, ◌&&◌}
 use mathlib.Core.List.{List, [], ◌∷◌, map}
 use mathlib.Core.Logic.{◌⊎◌, inl, inr}
-use mathlib.Core.Option.{Option, none, some}
+use Rattle.std.specs.Prelude.{Option, None, Some}
 use native.Mathlib.Nat.{eq-or-lt_of_le, le_of_suc-le-suc}
 use native.Mathlib.Omega.{arith}
 use lib.Dec.{T, leb, ltb, leb→le, ltb→lt}
@@ -69,8 +69,8 @@ module _ (bytes starts : List ℕ) where
 
   -- what the name at a place means
   means_at : {A : Type 0} → List (Name A) → ℕ → Option A
-  means_at [] k = none
-  means_at (n ∷ ns) zero = some n.means
+  means_at [] k = None
+  means_at (n ∷ ns) zero = Some n.means
   means_at (n ∷ ns) (suc k) = means_at ns k
 
   -- the search of the names is the search of the stored words
@@ -85,17 +85,17 @@ module _ (bytes starts : List ℕ) where
         (go (alike n.name t) _ (meaning_from ns (suc k) (and_right spelt _ s)) (first_from_lem (passes_at Alike t bytes starts) (suc k) (length ns)))
       where
         go : (b : Bool) (next : ℕ) → meaning ns t ≡ means_at ns (next - suc k) → suc k ≤ next
-            → ◌≡◌ {A = Option A} (elim b [ true ↦ some n.means | false ↦ meaning ns t ]) (means_at (n ∷ ns) (elim b [ true ↦ k | false ↦ next ] - k))
+            → ◌≡◌ {A = Option A} (elim b [ true ↦ Some n.means | false ↦ meaning ns t ]) (means_at (n ∷ ns) (elim b [ true ↦ k | false ↦ next ] - k))
         go true next h l = let e : k - k ≡ 0 = omega arith in rw e
         go false next h l = let e : next - k ≡ suc (next - suc k) = omega arith in rw e h
 
-    means_some : (d : A) (ns : List (Name A)) (r : ℕ) → r < length ns → means_at ns r ≡ some (get_or (map (λ n. n.means) ns) r d)
+    means_some : (d : A) (ns : List (Name A)) (r : ℕ) → r < length ns → means_at ns r ≡ Some (get_or (map (λ n. n.means) ns) r d)
     unfolding means_at
     means_some d [] r h = absurd (omega arith)
     means_some d (n ∷ ns) zero h = refl
     means_some d (n ∷ ns) (suc r) h = means_some d ns r (le_of_suc-le-suc h)
 
-    means_none : (ns : List (Name A)) (r : ℕ) → length ns ≤ r → means_at ns r ≡ none
+    means_none : (ns : List (Name A)) (r : ℕ) → length ns ≤ r → means_at ns r ≡ None
     unfolding means_at
     means_none [] r h = refl
     means_none (n ∷ ns) zero h = absurd (omega arith)
@@ -105,8 +105,8 @@ module _ (bytes starts : List ℕ) where
       is_meaning : meaning ns t ≡ means_at ns r
       is_meaning = let z : r - 0 ≡ r = omega arith in meaning_from ns 0 s ∙ rw (← e, z)
 
-      pub name_means : (d : A) → r < length ns → some (get_or (map (λ n. n.means) ns) r d) ≡ meaning ns t
+      pub name_means : (d : A) → r < length ns → Some (get_or (map (λ n. n.means) ns) r d) ≡ meaning ns t
       name_means d h = sym (is_meaning ∙ means_some d ns r h)
 
-      pub name_unknown : length ns ≤ r → none ≡ meaning ns t
+      pub name_unknown : length ns ≤ r → None ≡ meaning ns t
       name_unknown h = sym (is_meaning ∙ means_none ns r h)

@@ -6,7 +6,7 @@ use Rattle.std.specs.Prelude.{ℕ, ◌≤◌, ◌<◌, ◌≡◌, Bool, true, no
 use Rattle.word_search.specs.Compare.{begins}
 use Rattle.word_search.specs.Find.{Entry}
 use Rattle.word_search.specs.declared.Match.{Match}
-use Rattle.word_search.specs.declared.Match.TheVariants.{Word, Nothing}
+use Rattle.std.specs.Prelude.{Option, Some, None}
 
 -- the word begins none of the list's words
 unfoldable pub begins_none : List ℕ → List Entry → Bool
@@ -24,6 +24,6 @@ abbrev pub word_at : List Entry → ℕ → List ℕ
 word_at es k = (get_or es k (record { word = []; token = 0 })).word
 
 -- no word that the text begins with is longer than the one found
-abbrev pub Longest : List Entry → List ℕ → Match → Type 0
-Longest es t (Word index used token) = (j : ℕ) → j < length es → begins (word_at es j) t ≡ true → length (word_at es j) ≤ used
-Longest es t Nothing = Unit {0}
+abbrev pub Longest : List Entry → List ℕ → Option Match → Type 0
+Longest es t (Some m) = (j : ℕ) → j < length es → begins (word_at es j) t ≡ true → length (word_at es j) ≤ m.used
+Longest es t None = Unit {0}

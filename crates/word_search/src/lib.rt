@@ -5,15 +5,12 @@ ghost use Rattle.std.specs.Prelude.{◌≡◌, ◌-◌};
 ghost use Rattle.word_search.specs.Compare.{begins as begins_of, alike as alike_of, same as same_of, shortens as shortens_of, passes as passes_of};
 ghost use Rattle.word_search.specs.RunHelpers.{Lies, Ready, Stored, word_of, passes_at, first_from};
 
+// A word that stands in a text: its place in its list, how many bytes of the text it takes, and its token.
 #[derive(Clone, Copy)]
-pub enum Match {
-    // The word's place in its list, how many bytes of the text it takes, and its token.
-    Word {
-        index: usize,
-        used: usize,
-        token: u8,
-    },
-    Nothing,
+pub struct Match {
+    pub index: usize,
+    pub used: usize,
+    pub token: u8,
 }
 
 // The words of a run from a place up to another.

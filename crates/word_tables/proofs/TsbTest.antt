@@ -40,11 +40,11 @@ own_capitals : capitals tsb_words ≡ tsb_words
 unfolding capitals tsb_words
 own_capitals = refl
 
-tsb_test : (w : List ℕ) {m : Match} → m ≡ match_in Same (capitals tsb_words) w → is_found m ≡ is_tsb_word w
+tsb_test : (w : List ℕ) {m : Option Match} → m ≡ match_in Same (capitals tsb_words) w → is_found m ≡ is_tsb_word w
 unfolding is_tsb_word same_in
 tsb_test w e = ap is_found (e ∙ ap (λ (es : List Entry). match_in Same es w) own_capitals) ∙ same_member w tsb_words ∙ member_same w (spellings tsb_words) given list_in_given given_in_list
 
-module _ {m : Match} (w : List ℕ) where
+module _ {m : Option Match} (w : List ℕ) where
   pub tsb_yes : {i u k : ℕ} → m ≡ Word i u k → m ≡ match_in Same (capitals tsb_words) w → true ≡ is_tsb_word w
   tsb_yes f e = ap is_found (sym f) ∙ tsb_test w e
 

@@ -6,7 +6,7 @@ use Rattle.base_ascii.specs.Bytes.{between, upper}
 use Rattle.word_search.specs.Find.{Entry}
 use Rattle.word_search.specs.RunHelpers.{Lies, word_of}
 use Rattle.word_search.specs.declared.Match.{Match}
-use Rattle.word_search.specs.declared.Match.TheVariants.{Word}
+use Rattle.std.specs.Prelude.{Option, Some, None}
 use Rattle.word_search.specs.declared.Section.{Section}
 use Rattle.word_tables.specs.Rom.{v2_words, operators}
 use Rattle.word_tables.specs.Tsb.{tsb_words}
@@ -79,8 +79,9 @@ group_at index l b =
     ]
 
 -- stored word i, as the search of its list answers it
-abbrev pub word_found : List ℕ → List ℕ → ℕ → Match
-word_found bytes index i = Word (get_or index (362 + i) 0) (length (word_of bytes index i)) (get_or bytes (1727 + i) 0)
+abbrev pub word_found : List ℕ → List ℕ → ℕ → Option Match
+word_found bytes index i =
+    Some (record { index = get_or index (362 + i) 0; used = length (word_of bytes index i); token = get_or bytes (1727 + i) 0 })
 
 -- stored word i lies in the tables with its place and its token
 pub record Held (bytes index : List ℕ) (i : ℕ) : Type 0 where

@@ -1,13 +1,13 @@
 -- `library_numbers::checked_code` meets its contract.
 -- Assumes nothing.
 use mathlib.Core.Path.{ap, sym, ◌∙◌}
-use Rattle.image_readers.specs.Answers.{checked_answer}
 use Rattle.image_readers.specs.declared.Checked.{Checked}
 use Rattle.library_numbers.specs.Overview.{overview_code}
 use Rattle.library_numbers.proofs.checked_code.Goals as goal
+use Rattle.base_refusals.specs.Answer.{answered}
 
 pub returns-in-Image : goal.returns-in-Image
-returns-in-Image c = rw c.wide16.ensures (ap (λ (x : Checked). overview_code (checked_answer x)) (sym c.in-Image.is))
+returns-in-Image c = rw c.wide16.ensures (ap (λ (x : Checked). overview_code (answered x)) (sym c.in-Image.is))
 
 pub returns-in-Refused : goal.returns-in-Refused
-returns-in-Refused c = c.refusal_code.ensures ∙ ap (λ (x : Checked). overview_code (checked_answer x)) (sym c.in-Refused.is)
+returns-in-Refused c = c.refusal_code.ensures ∙ ap (λ (x : Checked). overview_code (answered x)) (sym c.in-Refused.is)
