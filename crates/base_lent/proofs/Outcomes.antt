@@ -13,10 +13,6 @@ use Rattle.base_lent.specs.Stores.{Put, HasRoom}
 use Rattle.std.specs.Prelude.{Result}
 use Rattle.base_refusals.specs.declared.Refusal.{Refusal}
 
--- what an outcome is known to be, its answer is
-pub told_outcome : {r x : (Result ℕ Refusal)} {a : Answer ℕ} → r ≡ x → answered r ≡ a → answered x ≡ a
-told_outcome d e = ap answered (sym d) ∙ e
-
 module _ (buffer : List ℕ) where
   pub has_room : (a : Answer (List ℕ)) {n : ℕ} → done n ≡ room_for a → n ≤ length buffer → HasRoom buffer a
   has_room (done bytes) {n} e h = let l : n ≡ length bytes = cc in record { room = omega arith }

@@ -5,7 +5,8 @@ use mathlib.Core.Path.{◌≡◌, refl, sym, ap, ◌∙◌}
 use mathlib.Core.List.{[], ◌∷◌}
 use lib.ListN.{get_or}
 use Rattle.base_refusals.specs.Numbers.{Numbered}
-use Rattle.base_refusals.specs.Answer.{numbered}
+use Rattle.std.specs.Prelude.{Result, Ok, Err}
+use Rattle.base_refusals.specs.Answer.{Answer, done, refused, numbered, answered}
 use Rattle.base_refusals.specs.declared.Refusal.{Refusal}
 use Rattle.base_refusals.specs.declared.Refusal.TheVariants.{TextTooLong, BadByte, MissingLineNumber, LineNumberOutOfRange, AddressOverflow, NoRoom, ImageTooLong, TooShort, UnexpectedEof, MissingEnd, LinkBackward, LinkOutside, LinkNoEnd, UnknownDialect, NumberTooHigh, NotAscending, ZeroInBody, BodyLength, BadDisk, BadName, NameTaken, NoSuchFile, DirectoryFull, DiskFull, TooManyImages, TooManyLines, TargetTooHigh}
 
@@ -55,3 +56,24 @@ tells_apart f g inverse a b e = sym (inverse a) ∙ ap g e ∙ inverse b
 
 pub numbered_tight : (r s : Refusal) → numbered r ≡ numbered s → r ≡ s
 numbered_tight = tells_apart numbered named named_numbered
+
+module _ {A : Type 0} where
+  said : Answer A → Result A Refusal
+  said (done a) = Ok a
+  said (refused n) = Err (named n)
+
+  said_answered : (r : Result A Refusal) → said (answered r) ≡ r
+  unfolding said
+  said_answered (Ok a) = refl
+  said_answered (Err r) = ap Err (named_numbered r)
+
+  -- two results that meet one promise are the same
+  pub answered_tight : (a : Answer A) (r s : Result A Refusal) → answered r ≡ a → answered s ≡ a → r ≡ s
+  answered_tight a r s p q = tells_apart answered said said_answered r s (p ∙ sym q)
+
+  -- what a result is known to be, its answer is
+  pub told : {r x : Result A Refusal} {a : Answer A} → r ≡ x → answered r ≡ a → answered x ≡ a
+  told d e = ap answered (sym d) ∙ e
+
+  pub told_back : {r x : Result A Refusal} {a : Answer A} → r ≡ x → answered r ≡ a → a ≡ answered x
+  told_back d e = sym (told d e)

@@ -10,18 +10,14 @@ use lib.ListN.{length, get_or, drop, length-append, length-drop}
 use mir.Syntax.{w64}
 use mir.Val.{Fits}
 use Rattle.base_refusals.specs.Numbers.{Numbered}
-use Rattle.base_refusals.specs.Answer.{Answer, done, refused, map_done}
+use Rattle.base_refusals.specs.Answer.{Answer, done, refused, map_done, answered}
 use Rattle.base_refusals.specs.declared.Refusal.{Refusal}
 use Rattle.image_readers.specs.declared.By.TheVariants.{Terminators}
 use Rattle.image_readers.specs.declared.Line.{Line}
-use Rattle.image_readers.specs.declared.Step.{Step}
-use Rattle.image_readers.specs.declared.Step.TheVariants.{Found, End, Refused}
-use Rattle.image_readers.specs.Answers.{step_answer}
 use Rattle.image_readers.specs.Bodies.{body_of, numbered_body, bodies_from}
-use Rattle.image_readers.specs.Image.{line, end}
 use Rattle.image_readers.specs.NumberedBody.{NumberedBody}
 use Rattle.image_readers.specs.Readers.{step_by}
-use Rattle.image_readers.proofs.Finding.{told}
+use Rattle.base_refusals.proofs.Tight.{told_back}
 use Rattle.image_readers.proofs.Reading.{bodies_line, bodies_end, bodies_refused, body_length_lem}
 use Rattle.image_readers.proofs.Steps.{by_sound, found_lies}
 use Rattle.word_tables.specs.Tsb.{tsb_id, tsb_text}
@@ -38,6 +34,7 @@ use Rattle.count_images.specs.Tallies.{tally, added}
 use Rattle.count_images.specs.TallyHelpers.{Raisable, Tallied}
 use Rattle.count_images.proofs.Tallying.{tally_none, tally_on}
 use Rattle.count_images.proofs.Raising.{raisable_less, raised}
+use Rattle.std.specs.Prelude.{Option, Some, None, Result, Ok, Err}
 
 -- a unit is one token at most
 word_one : (w : List ℕ) (k : ℕ) → length (if_word w k) ≤ 1
@@ -105,7 +102,7 @@ module _ {rules : Rules} {t body now : List ℕ} {i : ℕ} {mode : Mode} (k : Bo
 -- ---- the lines of an image
 
 module _ (image : List ℕ) (p : ℕ) where
-  pub left_end : step_by Terminators image p ≡ done end → tokens_from image p ≡ done []
+  pub left_end : step_by Terminators image p ≡ done None → tokens_from image p ≡ done []
   unfolding tokens_from flat_map
   left_end e = ap (map_done _) (bodies_end (step_by Terminators) image p e)
 
@@ -113,7 +110,7 @@ module _ (image : List ℕ) (p : ℕ) where
   unfolding tokens_from
   left_refused e = ap (map_done _) (bodies_refused (step_by Terminators) image p e)
 
-  pub left_line : {l : Line} → step_by Terminators image p ≡ done (line l)
+  pub left_line : {l : Line} → step_by Terminators image p ≡ done (Some l)
       → tokens_from image p ≡ map_done (λ ts. tokens_of (body_of image l) ++ ts) (tokens_from image l.next)
   unfolding tokens_from flat_map
   left_line {l} e = ap (map_done _) (bodies_line (by_sound Terminators) image p e) ∙ go (bodies_from (step_by Terminators) image l.next)
@@ -164,12 +161,12 @@ pub record ImageTallied (image t now : List ℕ) (p : ℕ) : Type 0 where
 pub image_start : {t : List ℕ} (image : List ℕ) → Raisable 1048576 t → ImageTallied image t t 2
 image_start image r = record { room = raisable_less r (omega arith); left = λ ms e. record { rest = ms; is = e; gives = refl } }
 
-module _ {image t now : List ℕ} {p : ℕ} (k : ImageTallied image t now p) {r : Step} where
-  module _ {l : Line} (is : r ≡ Found l) (e : step_answer r ≡ step_by Terminators image p) where
+module _ {image t now : List ℕ} {p : ℕ} (k : ImageTallied image t now p) {r : Result (Option Line) Refusal} where
+  module _ {l : Line} (is : r ≡ Ok (Some l)) (e : answered r ≡ step_by Terminators image p) where
     within : length (body_of image l) + (1048576 - l.next) ≤ 1048576 - p
     within =
         let d = found_lies Terminators image p is e in
-        omega (arith, body_length_lem d, d.starts, d.runs, d.ends, d.within, (by_sound Terminators).not_too_long image p (told is e))
+        omega (arith, body_length_lem d, d.starts, d.runs, d.ends, d.within, (by_sound Terminators).not_too_long image p (told_back is e))
 
     pub line_room : Raisable (length (body_of image l)) now
     line_room = raisable_less k.room (omega (arith, within))
@@ -186,20 +183,20 @@ module _ {image t now : List ℕ} {p : ℕ} (k : ImageTallied image t now p) {r 
         go : {ns : List ℕ} → LeftTally image t now p ns → (a : Answer (List ℕ)) → tokens_from image l.next ≡ a
             → LeftTally image t (added now (tally (tokens_of (body_of image l)))) l.next ns
         go left (done rest) q =
-            let same : left.rest ≡ tokens_of (body_of image l) ++ rest = cc (left_line image p (told is e), q, left.is) in
+            let same : left.rest ≡ tokens_of (body_of image l) ++ rest = cc (left_line image p (told_back is e), q, left.is) in
             record { rest = rest; is = q; gives = tally_on now (tokens_of (body_of image l)) rest ∙ ap (λ (ms : List ℕ). added now (tally ms)) (sym same) ∙ left.gives }
-        go left (refused n) q = let z : ◌≡◌ {A = ℕ} 0 1 = cc (left_line image p (told is e), q, left.is) in absurd (omega arith)
+        go left (refused n) q = let z : ◌≡◌ {A = ℕ} 0 1 = cc (left_line image p (told_back is e), q, left.is) in absurd (omega arith)
 
-  pub image_end : r ≡ End → step_answer r ≡ step_by Terminators image p → Tallied (tokens_in image) t now
+  pub image_end : r ≡ Ok None → answered r ≡ step_by Terminators image p → Tallied (tokens_in image) t now
   image_end is e = record { is = λ ms f. go (k.left ms f) }
     where
       go : {ms : List ℕ} → LeftTally image t now p ms → now ≡ added t (tally ms)
       go left =
-          let none : left.rest ≡ [] = cc (left_end image p (told is e), left.is) in
+          let none : left.rest ≡ [] = cc (left_end image p (told_back is e), left.is) in
           sym (tally_none now k.room.long) ∙ ap (λ (ns : List ℕ). added now (tally ns)) (sym none) ∙ left.gives
 
-  pub image_refused : {n : Refusal} → r ≡ Refused n → step_answer r ≡ step_by Terminators image p → Tallied (tokens_in image) t now
+  pub image_refused : {n : Refusal} → r ≡ Err n → answered r ≡ step_by Terminators image p → Tallied (tokens_in image) t now
   image_refused is e = record { is = λ ms f. go (k.left ms f) }
     where
       go : {ms : List ℕ} → LeftTally image t now p ms → now ≡ added t (tally ms)
-      go left = let z : ◌≡◌ {A = ℕ} 0 1 = cc (left_refused image p (told is e), left.is) in absurd (omega arith)
+      go left = let z : ◌≡◌ {A = ℕ} 0 1 = cc (left_refused image p (told_back is e), left.is) in absurd (omega arith)

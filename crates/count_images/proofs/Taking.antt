@@ -15,7 +15,7 @@ use Rattle.image_readers.specs.NumberedBody.{NumberedBody}
 use Rattle.image_readers.specs.Lines.{overview_of, overview}
 use Rattle.image_readers.specs.declared.Overview.{Overview}
 use Rattle.image_readers.specs.Readers.{step_by}
-use Rattle.image_readers.proofs.Finding.{told_checked}
+use Rattle.base_refusals.proofs.Tight.{told_back}
 use Rattle.image_readers.proofs.Reading.{overview_bodies}
 use Rattle.count_tokens.specs.Tokens.{tokens_of, tokens_from, tokens_in}
 use Rattle.count_images.specs.Tallies.{tally, added}
@@ -60,9 +60,9 @@ module _ (t image : List ℕ) {one two : List ℕ} {r : Checked} (e : one ≡ ad
   pub image_counted : {load lines : ℕ} → r ≡ Image load lines → Tallied (tokens_in image) one two
       → ◌≡◌ {A = Kept} (record { answer = done counted; totals = two }) (with_marks t (tokens_in image))
   image_counted is s =
-      let w = read_whole image (told_checked is d) in
+      let w = read_whole image (told_back is d) in
       rw (w.1, s.is w.0 w.1, e, tally_on t (0xCC ∷ []) w.0)
 
   pub image_apart : {n : Refusal} → r ≡ Refused n → two ≡ added one (tally (0xCD ∷ []))
       → ◌≡◌ {A = Kept} (record { answer = done (counted_apart (numbered n)); totals = two }) (with_marks t (tokens_in image))
-  image_apart is s = rw (read_refused image (told_checked is d), s, e, tally_on t (0xCC ∷ []) (0xCD ∷ []))
+  image_apart is s = rw (read_refused image (told_back is d), s, e, tally_on t (0xCC ∷ []) (0xCD ∷ []))

@@ -14,7 +14,6 @@ use Rattle.base_refusals.specs.Numbers.{too_many_images}
 use Rattle.image_readers.specs.declared.By.TheVariants.{Terminators}
 use Rattle.image_readers.specs.declared.Line.{Line}
 use Rattle.image_readers.specs.Bodies.{body_of, bodies_from}
-use Rattle.image_readers.specs.Image.{Found, line, end}
 use Rattle.image_readers.specs.NumberedBody.{NumberedBody}
 use Rattle.image_readers.specs.Readers.{step_by}
 use Rattle.image_readers.proofs.Equations.{LiesAt, by_lines}
@@ -35,6 +34,7 @@ use Rattle.count_tokens.proofs.UnitTokens.{below_or_not}
 use Rattle.count_images.proofs.Bodies.{left_end, left_line, left_refused, few_tokens}
 use Rattle.count_totals.proofs.Bounds.{AreTotals, totals_true}
 use Rattle.count_images.proofs.Laws.{marks_of, totals_join, totals_in_any_order}
+use Rattle.std.specs.Prelude.{Option, Some, None}
 
 -- ---- every token stands below CC
 
@@ -98,11 +98,11 @@ module _ (image : List ℕ) where
           (arith, ap length same, length-append (tokens_of (body_of image l)) us, few us e, few_tokens (body_of image l), body_length_lem d, d.starts, d.runs, d.ends, d.within)
       behind p l d short few (refused n) e ts f = let z : ◌≡◌ {A = ℕ} 0 1 = cc in absurd (omega arith)
 
-      go : (p : ℕ) → ((l : Line) → step_by Terminators image p ≡ done (line l) → Few l.next) → (r : Answer Found) → step_by Terminators image p ≡ r → Few p
-      go p ih (done (line l)) e ts f =
+      go : (p : ℕ) → ((l : Line) → step_by Terminators image p ≡ done (Some l) → Few l.next) → (r : Answer (Option Line)) → step_by Terminators image p ≡ r → Few p
+      go p ih (done (Some l)) e ts f =
           behind p l ((by_sound Terminators).lies image p e) ((by_sound Terminators).not_too_long image p e) (ih l e) (tokens_from image l.next) refl ts
           (sym (left_line image p e) ∙ f)
-      go p ih (done end) e ts f = let none : ts ≡ [] = cc (left_end image p e) in omega (arith, ap length none)
+      go p ih (done None) e ts f = let none : ts ≡ [] = cc (left_end image p e) in omega (arith, ap length none)
       go p ih (refused n) e ts f = let z : ◌≡◌ {A = ℕ} 0 1 = cc (left_refused image p e) in absurd (omega arith)
 
   pub few_in : {ts : List ℕ} → tokens_in image ≡ done ts → length ts ≤ 1048576

@@ -11,7 +11,8 @@ use Rattle.base_refusals.specs.declared.Refusal.{Refusal}
 use Rattle.base_refusals.specs.declared.Refusal.TheVariants.{NoRoom}
 use Rattle.base_lent.specs.Lent.{into_buffer, room_for, left}
 use Rattle.base_lent.specs.Stores.{HasRoom}
-use Rattle.base_lent.proofs.Outcomes.{told_outcome, has_room, into_refused, into_none}
+use Rattle.base_refusals.proofs.Tight.{told}
+use Rattle.base_lent.proofs.Outcomes.{has_room, into_refused, into_none}
 use Rattle.word_match.specs.Sets.{with_forms}
 use Rattle.word_match.specs.declared.sets.Sets.{Sets}
 use Rattle.text_lines.specs.declared.LineRule.TheVariants.{AfterCr}
@@ -110,16 +111,16 @@ module _ (profile : Bool) (words : Lexicon) (load : ℕ) (text buffer : List ℕ
   module _ {place : ℕ} {p : Pass} where
     pub room_short : {n : ℕ} → p.room ≡ Ok n → PassedAs profile words load place text p → length buffer < n
         → left (Err (NoRoom n)) buffer ≡ into_buffer (text_image profile words load text) buffer
-    room_short told k h = into_none buffer (text_image profile words load text) (told_outcome told k.sized) h
+    room_short told k h = into_none buffer (text_image profile words load text) (told told k.sized) h
 
     pub room_enough : {n : ℕ} → p.room ≡ Ok n → PassedAs profile words load place text p → n ≤ length buffer → HasRoom buffer (text_image false words load text)
     room_enough told k h =
-        let e = told_outcome told k.sized in
+        let e = told told k.sized in
         rw (image_plain e) (has_room buffer (text_image profile words load text) e h)
 
     pub room_put : (r : Result ℕ Refusal) {n : ℕ} {after : List ℕ} → left r after ≡ into_buffer (text_image false words load text) buffer → p.room ≡ Ok n → PassedAs profile words load place text p
         → left r after ≡ into_buffer (text_image profile words load text) buffer
-    room_put r q told k = q ∙ ap (λ (a : Answer (List ℕ)). into_buffer a buffer) (image_plain (told_outcome told k.sized))
+    room_put r q told k = q ∙ ap (λ (a : Answer (List ℕ)). into_buffer a buffer) (image_plain (told told k.sized))
 
     pub room_refused : {x : Refusal} → p.room ≡ Err x → PassedAs profile words load place text p → left (Err x) buffer ≡ into_buffer (text_image profile words load text) buffer
-    room_refused told k = into_refused buffer (text_image profile words load text) (told_outcome told k.sized)
+    room_refused told k = into_refused buffer (text_image profile words load text) (told told k.sized)

@@ -8,7 +8,7 @@ use Rattle.std.specs.Prelude.{Option, None, Some}
 use Rattle.base_refusals.specs.Answer.{Answer, done, refused, answered}
 use Rattle.base_lent.specs.Lent.{into_buffer, room_for, left}
 use Rattle.base_refusals.proofs.Tight.{named, named_numbered, tells_apart}
-use Rattle.base_lent.proofs.Tight.{outcome_tight, lent_tight}
+use Rattle.base_lent.proofs.Tight.{answered_tight, lent_tight}
 use Rattle.crunch_rules.specs.Crunched.{crunched}
 use Rattle.crunch_rules.specs.Measured.{line_measured}
 use Rattle.crunch_rules.specs.declared.LineMeasured.{LineMeasured}
@@ -64,7 +64,7 @@ module _ (o : Options) (text : List ℕ) where
 
   -- `crunch_image::room`
   pub room_tight : (r s : Result ℕ Refusal) → answered r ≡ room_for (crunched o text) → answered s ≡ room_for (crunched o text) → r ≡ s
-  room_tight = outcome_tight (room_for (crunched o text))
+  room_tight = answered_tight (room_for (crunched o text))
 
   -- `crunch_image::measured_line`
   pub measured_line_tight : (place : ℕ) (r s : LineMeasured) → answered r ≡ line_measured o place text → answered s ≡ line_measured o place text → r ≡ s

@@ -6,7 +6,6 @@ use Rattle.base_refusals.specs.Answer.{done}
 use Rattle.word_search.specs.Spelling.{bytes_of}
 use Rattle.word_dialects.specs.declared.Dialect.TheVariants.{Auto}
 use Rattle.image_bytes.specs.ImageBytes.{address_at}
-use Rattle.image_readers.specs.Image.{end}
 use Rattle.image_readers.specs.Lines.{lines_of}
 use Rattle.image_readers.specs.Links.{link_step}
 use Rattle.image_readers.specs.declared.Line.{Line}
@@ -35,7 +34,7 @@ pub record ComeFrom (text : List ℕ) (ms : List MeasuredLine) : Type 0 where
 -- equals the next line's address, and the last equals the address of the end marker", which are the image's last two bytes
 pub record MeasuredBack (ms : List MeasuredLine) (s : List ℕ) : Type 0 where
   pub read : lines_of link_step s ≡ done (image_lines ms)
-  pub marker : link_step s (length s - 2) ≡ done end
+  pub marker : link_step s (length s - 2) ≡ done None
   pub lead : LinksLead (image_lines ms) (address_at s (length s - 2))
 
 -- an empty line, `10 A`, an empty line, `20`

@@ -18,7 +18,6 @@ use Rattle.image_readers.specs.declared.Line.{Line}
 use Rattle.image_readers.specs.Bodies.{body_of, body_found, body_at}
 use Rattle.image_bytes.specs.ImageBytes.{low_first_at, before_zero, body_end}
 use Rattle.image_bytes.proofs.Zeros.{body_end_within}
-use Rattle.image_readers.specs.Image.{Found, line}
 use Rattle.image_readers.specs.Terminators.{terminated_line, terminator_step}
 use Rattle.image_readers.proofs.ByLinks.{link_found, link_sound}
 use Rattle.image_readers.proofs.ByTerminators.{terminator_line}
@@ -30,6 +29,7 @@ use Rattle.image_relink.specs.Relinking.{relinking, relinked_answer}
 use Rattle.image_faults.specs.declared.Fault.TheVariants.{OutsideMemory, NumberTooHigh, NotAscending, ZeroInBody, BodyLength, LinkChanges, LinksLeave, LinksEndless}
 use Rattle.image_faults.specs.Faults.{memory_faults, number_faults, order_faults, first_zero, zero_faults, length_faults, relink_fault, relink_faults}
 use Rattle.image_faults.specs.ToldHelpers.{LineIs}
+use Rattle.std.specs.Prelude.{Option, Some}
 
 -- ---- bytes
 
@@ -119,10 +119,10 @@ module _ (s : List ℕ) (p : ℕ) {l : Line} (is : LineIs s p l) where
   before : length (body_at terminator_step s p) ≡ before_zero (drop (p + 4) s)
   before =
       let k = link_found s p is in
-      let t : done (line (terminated_line s p)) ≡ terminator_step s p =
+      let t : done (Some (terminated_line s p)) ≡ terminator_step s p =
       terminator_line s p (link_sound.not_too_long s p is) (link_sound.long_enough s p is) (omega (arith, k.forward, k.inside))
       (omega (arith, k.forward, k.inside)) k.no_end (omega (arith, k.forward, k.inside)) refl in
-      ap (λ (a : Answer Found). length (body_found s a)) (sym t)
+      ap (λ (a : Answer (Option Line)). length (body_found s a)) (sym t)
       ∙ length-take-le (body_end s p - (p + 4)) (drop (p + 4) s)
       (omega (arith, body_end_within s p (omega (arith, k.forward, k.inside)), length-drop (p + 4) s))
       ∙ omega arith

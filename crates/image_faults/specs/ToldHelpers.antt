@@ -3,7 +3,6 @@
 use Rattle.std.specs.Prelude.{ℕ, ◌≡◌, Bool, List, [], ◌∷◌}
 use Rattle.base_refusals.specs.Answer.{done}
 use Rattle.image_readers.specs.declared.Line.{Line}
-use Rattle.image_readers.specs.Image.{line}
 use Rattle.image_readers.specs.Links.{link_step}
 use Rattle.image_jumps.specs.declared.Cursor.{Cursor}
 use Rattle.image_jumps.specs.declared.Next.{Next}
@@ -13,6 +12,7 @@ use Rattle.image_faults.specs.declared.Fault.{Fault}
 use Rattle.image_faults.specs.declared.Told.{Told}
 use Rattle.image_faults.specs.declared.Told.TheVariants.{Fault as ToldFault, Nothing}
 use Rattle.image_faults.specs.Faults.{unmet}
+use Rattle.std.specs.Prelude.{Some}
 
 abbrev pub told_fault : Told → List Fault
 told_fault (ToldFault f) = f ∷ []
@@ -20,7 +20,7 @@ told_fault Nothing = []
 
 -- the line at an offset
 abbrev pub LineIs : List ℕ → ℕ → Line → Type 0
-LineIs s p l = link_step s p ≡ done (line l)
+LineIs s p l = link_step s p ≡ done (Some l)
 
 -- the next target that is not met, and what is left behind it
 abbrev pub UnmetIs : (ℕ → Bool) → List ℕ → Cursor → Next → Type 0

@@ -13,7 +13,6 @@ use Rattle.base_refusals.specs.Numbers.{image_too_long, too_short}
 use Rattle.image_readers.specs.declared.Line.{Line}
 use Rattle.image_readers.specs.Bodies.{body_found, body_at}
 use Rattle.image_readers.specs.Chain.{Chain, here, on, Leads}
-use Rattle.image_readers.specs.Image.{line}
 use Rattle.image_readers.specs.Lined.{Ending, ended, faulted, Lined, lined_from}
 use Rattle.image_readers.specs.Lines.{lines_of}
 use Rattle.image_readers.specs.Links.{link_step}
@@ -23,6 +22,7 @@ use Rattle.image_readers.proofs.Lined.{lined_end, lined_refused, chain_lined}
 use Rattle.image_readers.proofs.Reading.{lines_lead}
 use Rattle.image_find.specs.Sought.{limit_reached, at, within, line_sought, body_in}
 use Rattle.image_find.proofs.Seeking.{sought_from}
+use Rattle.std.specs.Prelude.{Some}
 
 -- ---- `body` meets its contract, case by case
 
@@ -44,7 +44,7 @@ module _ (s : List ℕ) (l : Line) where
 -- it is the line of the step at an offset
 pub record Stepped (s : List ℕ) (l : Line) : Type 0 where
   pub offset : ℕ
-  pub step : link_step s offset ≡ done (line l)
+  pub step : link_step s offset ≡ done (Some l)
 
 module _ (number limit : ℕ) (s : List ℕ) where
   chain_found : (v : ℕ) {p q w : ℕ} {ls : List Line} (e : Ending) {l : Line} → Chain (link_step s) p ls q → within number limit v ls e ≡ done (at w l) → Stepped s l
@@ -60,7 +60,7 @@ module _ (number limit : ℕ) (s : List ℕ) where
       go : (b d : Bool) → (within number limit (v + 1) ls e ≡ done (at w l) → Stepped s l)
           → cond b (refused limit_reached) (cond d (done (at (v + 1) x)) (within number limit (v + 1) ls e)) ≡ done (at w l) → Stepped s l
       go true d more g = let z : ◌≡◌ {A = ℕ} 0 1 = cc in absurd (omega arith)
-      go false true more g = let same : x ≡ l = cc in record { offset = p; step = h ∙ ap (λ (y : Line). done (line y)) same }
+      go false true more g = let same : x ≡ l = cc in record { offset = p; step = h ∙ ap (λ (y : Line). done (Some y)) same }
       go false false more g = more g
 
   -- the lines before the fault, found one after the other

@@ -15,7 +15,6 @@ use Rattle.base_refusals.specs.Answer.{Answer, done, refused}
 use Rattle.image_bytes.specs.ImageBytes.{target_at}
 use Rattle.image_readers.specs.declared.Line.{Line}
 use Rattle.image_readers.specs.Chain.{Chain, here, on, Leads}
-use Rattle.image_readers.specs.Image.{Found, line, end}
 use Rattle.image_readers.specs.Lined.{Ending, ended, faulted, Lined}
 use Rattle.image_readers.specs.Lines.{lines_of}
 use Rattle.image_readers.specs.Links.{link_step}
@@ -26,6 +25,7 @@ use Rattle.image_readers.proofs.Reading.{lines_lead}
 use Rattle.image_find.specs.LimitMet.{LimitMet}
 use Rattle.image_find.specs.Sought.{limit_reached, Visit, at, within, line_sought}
 use Rattle.image_find.proofs.Seeking.{sought_from}
+use Rattle.std.specs.Prelude.{Option, Some, None}
 
 -- ---- no step answers 19
 
@@ -33,7 +33,7 @@ abbrev code : {A : Type 0} → Answer A → ℕ
 code (done a) = 0
 code (refused n) = n.number
 
-either : (b : Bool) (x y : Answer Found) → (code x ≡ 19 → ⊥) → (code y ≡ 19 → ⊥) → code (cond b x y) ≡ 19 → ⊥
+either : (b : Bool) (x y : Answer (Option Line)) → (code x ≡ 19 → ⊥) → (code y ≡ 19 → ⊥) → code (cond b x y) ≡ 19 → ⊥
 either true x y p q = p
 either false x y p q = q
 
@@ -58,9 +58,9 @@ module _ (number limit : ℕ) (s : List ℕ) where
     lead : Chain (link_step s) p visited next
     many : v + length visited ≡ limit
     others : Each (λ l. l.number ≡ number → ⊥) visited
-    more : link_step s next ≡ done end → ⊥
+    more : link_step s next ≡ done None → ⊥
 
-  met_here : {p v : ℕ} → v ≤ limit → leb limit v ≡ true → (link_step s p ≡ done end → ⊥) → MetFrom p v
+  met_here : {p v : ℕ} → v ≤ limit → leb limit v ≡ true → (link_step s p ≡ done None → ⊥) → MetFrom p v
   met_here {p} {v} h e n = record { visited = []; next = p; lead = here; many = omega (arith, leb-true limit v e); others = tt; more = n }
 
   met : (v : ℕ) {p q : ℕ} {ls : List Line} (e : Ending) → ((n : Numbered) → e ≡ faulted n → link_step s q ≡ refused n) → Chain (link_step s) p ls q → v ≤ limit
@@ -123,16 +123,16 @@ module _ (number limit : ℕ) (s : List ℕ) where
 
   -- ---- the limit is met, so 19
 
-  reached_here : (p v : ℕ) → limit ≤ v → (link_step s p ≡ done end → ⊥) → sought_from number limit s p v ≡ refused limit_reached
+  reached_here : (p v : ℕ) → limit ≤ v → (link_step s p ≡ done None → ⊥) → sought_from number limit s p v ≡ refused limit_reached
   unfolding within
   reached_here p v h n = go (link_step s p) refl
     where
-      go : (a : Answer Found) → link_step s p ≡ a → sought_from number limit s p v ≡ refused limit_reached
-      go (done (line l)) e = ap (λ (x : Lined). within number limit v x.lines x.ending) (lined_line link_sound s p e) ∙ simp (le-leb _ _ h)
-      go (done end) e = absurd (n e)
+      go : (a : Answer (Option Line)) → link_step s p ≡ a → sought_from number limit s p v ≡ refused limit_reached
+      go (done (Some l)) e = ap (λ (x : Lined). within number limit v x.lines x.ending) (lined_line link_sound s p e) ∙ simp (le-leb _ _ h)
+      go (done None) e = absurd (n e)
       go (refused r) e = ap (λ (x : Lined). within number limit v x.lines x.ending) (lined_refused link_sound s p e) ∙ simp (le-leb _ _ h)
 
-  reached_from : (v : ℕ) {p q : ℕ} {ls : List Line} → Chain (link_step s) p ls q → v + length ls ≡ limit → Each (λ l. l.number ≡ number → ⊥) ls → (link_step s q ≡ done end → ⊥)
+  reached_from : (v : ℕ) {p q : ℕ} {ls : List Line} → Chain (link_step s) p ls q → v + length ls ≡ limit → Each (λ l. l.number ≡ number → ⊥) ls → (link_step s q ≡ done None → ⊥)
       → sought_from number limit s p v ≡ refused limit_reached
   unfolding within
   reached_from v {p} here m o n = reached_here p v (omega arith) n

@@ -9,19 +9,18 @@ use mir.Syntax.{w64}
 use mir.Val.{Fits}
 use borrow.Author.Tests.{le-leb, lt-leb, eq-eqb, ne_eqb}
 use Rattle.base_refusals.specs.Numbers.{image_too_long, too_short}
-use Rattle.base_refusals.specs.Answer.{Answer, done, refused, numbered}
+use Rattle.base_refusals.specs.Answer.{Answer, done, refused, numbered, answered}
 use Rattle.base_refusals.specs.declared.Refusal.{Refusal}
 use Rattle.image_readers.specs.declared.Line.{Line}
-use Rattle.image_readers.specs.declared.Step.{Step}
-use Rattle.image_readers.specs.declared.Step.TheVariants.{Found as FoundLine, End, Refused}
-use Rattle.image_readers.specs.Answers.{step_answer}
 use Rattle.image_readers.specs.Lined.{faulted, Lined, lined_from}
 use Rattle.image_readers.specs.Links.{link_step}
 use Rattle.image_readers.proofs.ByLinks.{link_sound}
 use Rattle.image_readers.proofs.Equations.{LiesAt, next_nearer}
-use Rattle.image_readers.proofs.Finding.{told, sized_long, sized_short, sized_right}
+use Rattle.image_readers.proofs.Finding.{sized_long, sized_short, sized_right}
+use Rattle.base_refusals.proofs.Tight.{told_back}
 use Rattle.image_readers.proofs.Lined.{lined_line, lined_end, lined_refused}
 use Rattle.image_find.specs.Sought.{limit_reached, Visit, at, nowhere, within, line_sought}
+use Rattle.std.specs.Prelude.{Option, Some, None, Result, Ok, Err}
 
 -- the search from p on, v headers being visited
 abbrev pub sought_from : ℕ → ℕ → List ℕ → ℕ → ℕ → Answer Visit
@@ -45,10 +44,10 @@ module _ (number limit : ℕ) (s : List ℕ) where
   unfolding line_sought
   none_start long short = record { few = omega arith; gives = sized_right s _ long short }
 
-module _ {number limit : ℕ} {s : List ℕ} {p v : ℕ} {r : Step} (e : step_answer r ≡ link_step s p) (k : NoneBefore number limit s p v) where
-  module _ {l : Line} (is : r ≡ FoundLine l) where
+module _ {number limit : ℕ} {s : List ℕ} {p v : ℕ} {r : Result (Option Line) Refusal} (e : answered r ≡ link_step s p) (k : NoneBefore number limit s p v) where
+  module _ {l : Line} (is : r ≡ Ok (Some l)) where
     here : sought_from number limit s p v ≡ within number limit v (l ∷ (lined_from link_step s l.next).lines) (lined_from link_step s l.next).ending
-    here = ap (λ (x : Lined). within number limit v x.lines x.ending) (lined_line link_sound s p (told is e))
+    here = ap (λ (x : Lined). within number limit v x.lines x.ending) (lined_line link_sound s p (told_back is e))
 
     pub line_limit : limit ≤ v → refused limit_reached ≡ line_sought number limit s
     unfolding within
@@ -61,25 +60,25 @@ module _ {number limit : ℕ} {s : List ℕ} {p v : ℕ} {r : Step} (e : step_an
     pub none_turn : v < limit → (l.number ≡ number → ⊥) → NoneBefore number limit s l.next (v + 1)
     unfolding within
     none_turn h m =
-        let d : LiesAt s p l = link_sound.lies s p (told is e) in
+        let d : LiesAt s p l = link_sound.lies s p (told_back is e) in
         let w = sym here ∙ k.gives in
         record { few = omega arith; gives = simp (lt-leb _ _ h, ne_eqb _ _ m) at w }
 
     pub next_less : length s - l.next < length s - p
-    next_less = next_nearer link_sound s p (told is e)
+    next_less = next_nearer link_sound s p (told_back is e)
 
     pub visit_fits : {m : ℕ} → m ≤ 4 → Fits w64 (v + m)
     visit_fits h =
-        let d : LiesAt s p l = link_sound.lies s p (told is e) in
-        record { fits = omega (arith, k.few, link_sound.not_too_long s p (told is e)) }
+        let d : LiesAt s p l = link_sound.lies s p (told_back is e) in
+        record { fits = omega (arith, k.few, link_sound.not_too_long s p (told_back is e)) }
 
-  pub end_nowhere : r ≡ End → done (nowhere v) ≡ line_sought number limit s
+  pub end_nowhere : r ≡ Ok None → done (nowhere v) ≡ line_sought number limit s
   unfolding within
-  end_nowhere is = sym (ap (λ (x : Lined). within number limit v x.lines x.ending) (lined_end link_sound s p (told is e))) ∙ k.gives
+  end_nowhere is = sym (ap (λ (x : Lined). within number limit v x.lines x.ending) (lined_end link_sound s p (told_back is e))) ∙ k.gives
 
-  module _ {n : Refusal} (is : r ≡ Refused n) where
+  module _ {n : Refusal} (is : r ≡ Err n) where
     fault : within number limit v [] (faulted (numbered n)) ≡ line_sought number limit s
-    fault = sym (ap (λ (x : Lined). within number limit v x.lines x.ending) (lined_refused link_sound s p (told is e))) ∙ k.gives
+    fault = sym (ap (λ (x : Lined). within number limit v x.lines x.ending) (lined_refused link_sound s p (told_back is e))) ∙ k.gives
 
     pub fault_limit : limit ≤ v → refused limit_reached ≡ line_sought number limit s
     unfolding within

@@ -6,8 +6,8 @@ use Rattle.base_steps.specs.Each.{Each}
 use Rattle.base_refusals.specs.Answer.{done}
 use Rattle.image_readers.specs.declared.Line.{Line}
 use Rattle.image_readers.specs.Chain.{Chain}
-use Rattle.image_readers.specs.Image.{end}
 use Rattle.image_readers.specs.Links.{link_step}
+use Rattle.std.specs.Prelude.{None}
 
 -- neither 7 nor 8; the first `limit` lines that the links lead to, none with the number; and what stands next is not the end marker
 pub record LimitMet (number limit : ℕ) (s : List ℕ) : Type 0 where
@@ -18,4 +18,4 @@ pub record LimitMet (number limit : ℕ) (s : List ℕ) : Type 0 where
   pub lead : Chain (link_step s) 2 visited next
   pub many : length visited ≡ limit
   pub others : Each (λ l. l.number ≡ number → ⊥) visited
-  pub more : link_step s next ≡ done end → ⊥
+  pub more : link_step s next ≡ done None → ⊥

@@ -13,7 +13,6 @@ use Rattle.base_refusals.specs.Answer.{Answer, done, refused, map_done}
 use Rattle.image_readers.specs.declared.Line.{Line}
 use Rattle.image_readers.specs.Chain.{Chain, here, on, Leads}
 use Rattle.image_bytes.specs.ImageBytes.{address_at, target_at, before_zero, body_end}
-use Rattle.image_readers.specs.Image.{Found, line, end}
 use Rattle.image_readers.specs.Lines.{lines_from, lines_of}
 use Rattle.image_readers.specs.Links.{link_step}
 use Rattle.image_readers.specs.Terminators.{terminated_line, terminator_step}
@@ -27,6 +26,7 @@ use Rattle.image_faults.specs.declared.Fault.{Fault}
 use Rattle.image_faults.specs.declared.Fault.TheVariants.{ZeroInBody}
 use Rattle.image_faults.specs.Faults.{memory_faults, relink_fault, relink_faults, number_faults, order_faults, first_zero, zero_faults, line_faults, lines_faults, has_target, faults_in, fitness}
 use Rattle.image_faults.specs.ToldHelpers.{LineIs}
+use Rattle.std.specs.Prelude.{Option, Some, None}
 
 -- ---- lists without elements
 
@@ -65,7 +65,7 @@ module _ (s : List ℕ) (p : ℕ) {l : Line} (is : LineIs s p l) where
       go true e f = let z : ◌≡◌ {A = ℕ} 0 1 = cc in absurd (omega arith)
       go false e f = ltb-false (first_zero s l) l.to e
 
-  line_alike : zero_faults s l ≡ [] → terminator_step s p ≡ done (line l)
+  line_alike : zero_faults s l ≡ [] → terminator_step s p ≡ done (Some l)
   line_alike none =
       let k = link_found s p is in
       let t : ℕ = target_at s p in
@@ -86,9 +86,9 @@ module _ (s : List ℕ) (p : ℕ) {l : Line} (is : LineIs s p l) where
 
 -- ---- the end
 
-abbrev EndIs : List ℕ → ℕ → Answer Found → Type 0
-EndIs s p (done (line l)) = Unit {0}
-EndIs s p (done end) = RightLength s × (p + 2 ≤ length s) × (get_or s (p + 1) 0 ≡ 0)
+abbrev EndIs : List ℕ → ℕ → Answer (Option Line) → Type 0
+EndIs s p (done (Some l)) = Unit {0}
+EndIs s p (done None) = RightLength s × (p + 2 ≤ length s) × (get_or s (p + 1) 0 ≡ 0)
 EndIs s p (refused n) = Unit {0}
 
 module _ (s : List ℕ) (p : ℕ) where
@@ -107,7 +107,7 @@ module _ (s : List ℕ) (p : ℕ) where
       cond_by E (ltb (length s) t) (λ _. tt) (λ _.
       cond_by E (eqb (get_or s (t - 1) 0) 0) (λ _. tt) (λ _. tt)))))))
 
-  end_alike : link_step s p ≡ done end → terminator_step s p ≡ done end
+  end_alike : link_step s p ≡ done None → terminator_step s p ≡ done None
   end_alike e =
       let k = subst (EndIs s p) e link_ends in
       sym (terminator_end s p k.0.long k.0.short (omega (arith, k.1)) (omega (arith, k.1)) k.2)
@@ -115,7 +115,7 @@ module _ (s : List ℕ) (p : ℕ) where
 -- ---- the lines
 
 chain_alike : (has : ℕ → Bool) (s : List ℕ) (least : ℕ) {p q : ℕ} {ls : List Line} → Chain (link_step s) p ls q → lines_faults has s least ls ≡ []
-    → link_step s q ≡ done end → lines_from terminator_step s p ≡ done ls
+    → link_step s q ≡ done None → lines_from terminator_step s p ≡ done ls
 unfolding lines_faults line_faults
 chain_alike has s least (here {p = p}) none e = lines_end terminator_step s p (end_alike s p e)
 chain_alike has s least (on {p = p} {l = l} {ls = ls} h c) none e =

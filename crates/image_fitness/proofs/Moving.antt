@@ -6,17 +6,13 @@ use mathlib.Core.Bool.{Bool, false}
 use mathlib.Core.List.{List, [], ◌∷◌, ◌++◌, map, append_assoc, append-nil}
 use native.Mathlib.Omega.{arith}
 use Rattle.base_refusals.specs.declared.Refusal.{Refusal}
-use Rattle.base_refusals.specs.Answer.{Answer, done, refused}
+use Rattle.base_refusals.specs.Answer.{Answer, done, refused, answered}
 use Rattle.image_readers.specs.declared.Line.{Line}
-use Rattle.image_readers.specs.declared.Step.{Step}
-use Rattle.image_readers.specs.declared.Step.TheVariants.{Found as FoundLine, End as EndStep, Refused}
-use Rattle.image_readers.specs.Answers.{step_answer}
 use Rattle.image_readers.specs.Bodies.{body_of}
-use Rattle.image_readers.specs.Image.{Found, line, end}
 use Rattle.image_readers.specs.Links.{link_step}
 use Rattle.image_readers.proofs.ByLinks.{link_sound}
 use Rattle.image_readers.proofs.Equations.{next_nearer}
-use Rattle.image_readers.proofs.Finding.{told}
+use Rattle.base_refusals.proofs.Tight.{told_back}
 use Rattle.image_readers.specs.Lined.{Lined, lined_from}
 use Rattle.image_readers.proofs.Lined.{lined_line, lined_end, lined_refused}
 use Rattle.image_units.specs.declared.Mode.TheVariants.{Plain}
@@ -42,6 +38,7 @@ use Rattle.image_faults.specs.Faults.{memory_faults, relink_faults, number_fault
 use Rattle.image_marks.specs.Marks.{has_mark}
 use Rattle.image_faults.specs.ToldHelpers.{told_fault, LineIs, UnmetIs}
 use Rattle.image_fitness.specs.FaultHelpers.{rest_from, faults_by, check_faults, stage_faults, faults_at, place_ahead, moved_by, WalksOn, MovedIs, FaultIs}
+use Rattle.std.specs.Prelude.{Option, Some, Result, Ok, Err}
 
 -- ---- what is led on
 
@@ -59,7 +56,7 @@ place_in stage p least = record { stage = stage; offset = p; least = least }
 
 module _ (has : ℕ → Bool) (s : List ℕ) (p : ℕ) where
   module _ (least : ℕ) where
-    -- a line's faults from the first check on, and those behind it, are those from the line on
+    -- a Some's faults from the first check on, and those behind it, are those from the Some on
     pub rest_line : stage_faults has s (LineStage Number) p least ≡ rest_from has s least p
     unfolding stage_faults rest_from check_faults lines_faults
     rest_line = go (link_step s p) refl
@@ -67,14 +64,14 @@ module _ (has : ℕ → Bool) (s : List ℕ) (p : ℕ) where
         on : {x : Lined} → lined_from link_step s p ≡ x → lines_faults has s least (lined_from link_step s p).lines ++ relink_faults s ≡ lines_faults has s least x.lines ++ relink_faults s
         on e = ap (λ (y : Lined). lines_faults has s least y.lines ++ relink_faults s) e
 
-        go : (a : Answer Found) → link_step s p ≡ a
+        go : (a : Answer (Option Line)) → link_step s p ≡ a
             → faults_by has s (check_faults has s least Number) a ≡ lines_faults has s least (lined_from link_step s p).lines ++ relink_faults s
-        go (done (line l)) e = sym (on (lined_line link_sound s p e) ∙ append_assoc (line_faults has s least l) _ _)
-        go (done end) e = sym (on (lined_end link_sound s p e))
+        go (done (Some l)) e = sym (on (lined_line link_sound s p e) ∙ append_assoc (line_faults has s least l) _ _)
+        go (done None) e = sym (on (lined_end link_sound s p e))
         go (refused n) e = sym (on (lined_refused link_sound s p e))
 
     module _ {l : Line} (is : LineIs s p l) where
-      -- what is left at a check of a line
+      -- what is left at a check of a Some
       at_line : (c : Check) → stage_faults has s (LineStage c) p least ≡ check_faults has s least c l ++ rest_from has s (l.number + 1) l.next
       unfolding stage_faults
       at_line c = ap (faults_by has s (check_faults has s least c)) is
@@ -150,12 +147,12 @@ module _ (marked s : List ℕ) (p least : ℕ) {l : Line} (here : LineIs s p l) 
 
 -- ---- what a step at an offset says
 
-module _ (s : List ℕ) (p : ℕ) {r : Step} (e : step_answer r ≡ link_step s p) where
-  pub line_found : {l : Line} → r ≡ FoundLine l → LineIs s p l
-  line_found is = told is e
+module _ (s : List ℕ) (p : ℕ) {r : Result (Option Line) Refusal} (e : answered r ≡ link_step s p) where
+  pub line_found : {l : Line} → r ≡ Ok (Some l) → LineIs s p l
+  line_found is = told_back is e
 
   module _ (marked : List ℕ) (check : Check) (least : ℕ) {q : Place} (at : q ≡ place_in Relinking p least) where
-    behind : {x : Step} → r ≡ x → {a : Answer Found} → link_step s p ≡ a → faults_by (has_mark marked) s (check_faults (has_mark marked) s least check) a ≡ relink_faults s
+    behind : {x : Result (Option Line) Refusal} → r ≡ x → {a : Answer (Option Line)} → link_step s p ≡ a → faults_by (has_mark marked) s (check_faults (has_mark marked) s least check) a ≡ relink_faults s
         → MovedIs (has_mark marked) s (place_in (LineStage check) p least) (On q)
     unfolding stage_faults
     behind _ is f = rw at (record { same = ap (faults_by (has_mark marked) s (check_faults (has_mark marked) s least check)) is ∙ f; nearer = near check })
@@ -167,11 +164,11 @@ module _ (s : List ℕ) (p : ℕ) {r : Step} (e : step_answer r ≡ link_step s 
         near Length = omega arith
         near (Jumps d) = omega arith
 
-    pub line_ended : r ≡ EndStep → MovedIs (has_mark marked) s (place_in (LineStage check) p least) (On q)
-    line_ended is = behind is (told is e) refl
+    pub line_ended : r ≡ Ok None → MovedIs (has_mark marked) s (place_in (LineStage check) p least) (On q)
+    line_ended is = behind is (told_back is e) refl
 
-    pub line_refused : {n : Refusal} → r ≡ Refused n → MovedIs (has_mark marked) s (place_in (LineStage check) p least) (On q)
-    line_refused is = behind is (told is e) refl
+    pub line_refused : {n : Refusal} → r ≡ Err n → MovedIs (has_mark marked) s (place_in (LineStage check) p least) (On q)
+    line_refused is = behind is (told_back is e) refl
 
 -- ---- a stage
 

@@ -4,7 +4,6 @@ use Rattle.std.specs.Prelude.{ℕ, ◌+◌, ◌-◌, ◌*◌, ◌<◌, ◌≡◌
 use Rattle.base_refusals.specs.Answer.{Answer, done, refused}
 use Rattle.image_readers.specs.declared.Line.{Line}
 use Rattle.image_readers.specs.Bodies.{body_of}
-use Rattle.image_readers.specs.Image.{Found, line, end}
 use Rattle.image_readers.specs.Links.{link_step}
 use Rattle.image_readers.specs.Lined.{lined_from}
 use Rattle.image_jumps.specs.JumpHelpers.{left_of}
@@ -22,6 +21,7 @@ use Rattle.image_fitness.specs.declared.Moved.TheVariants.{Told as MovedTold, On
 use Rattle.image_fitness.specs.declared.Found.{Found as NextFault}
 use Rattle.image_fitness.specs.declared.Found.TheVariants.{Fault as FoundFault, None as NoFault}
 use Rattle.image_faults.specs.Faults.{memory_faults, relink_faults, order_faults, zero_faults, length_faults, unmet, jump_faults, line_faults, lines_faults}
+use Rattle.std.specs.Prelude.{Option, Some, None}
 
 -- ---- places
 
@@ -31,9 +31,9 @@ unfolding lines_faults lined_from link_step relink_faults
 rest_from has s least p = lines_faults has s least (lined_from link_step s p).lines ++ relink_faults s
 
 -- the faults of what stands at an offset, f being those of a line, and those behind it
-abbrev pub faults_by : (ℕ → Bool) → List ℕ → (Line → List Fault) → Answer Found → List Fault
-faults_by has s f (done (line l)) = f l ++ rest_from has s (l.number + 1) l.next
-faults_by has s f (done end) = relink_faults s
+abbrev pub faults_by : (ℕ → Bool) → List ℕ → (Line → List Fault) → Answer (Option Line) → List Fault
+faults_by has s f (done (Some l)) = f l ++ rest_from has s (l.number + 1) l.next
+faults_by has s f (done None) = relink_faults s
 faults_by has s f (refused n) = relink_faults s
 
 -- the faults of a line from a check on

@@ -10,9 +10,6 @@ use lib.ListN.{length}
 use borrow.Author.Tests.{lt-ltb, le-ltb, not-true, not-false}
 use Rattle.base_refusals.specs.declared.Refusal.{Refusal}
 use Rattle.image_readers.specs.declared.Line.{Line}
-use Rattle.image_readers.specs.declared.Step.{Step}
-use Rattle.image_readers.specs.declared.Step.TheVariants.{Found as FoundLine, End, Refused}
-use Rattle.image_readers.specs.Answers.{step_answer}
 use Rattle.image_readers.specs.Bodies.{body_of}
 use Rattle.image_readers.specs.Links.{link_step}
 use Rattle.image_readers.proofs.Reading.{body_length_lem}
@@ -28,6 +25,8 @@ use Rattle.image_index.specs.declared.Counted.{Counted}
 use Rattle.image_index.specs.declared.Counted.TheVariants.{TooHigh, Jumps}
 use Rattle.image_index.specs.IndexHelpers.{found_from, Sound, low_jumps, low_targets, targets_counted, AtMost, CountedIs}
 use Rattle.image_index.proofs.Sounding.{SoundLine, sound_line, sound_end, sound_refused}
+use Rattle.std.specs.Prelude.{Option, Some, Result, Ok, Err}
+use Rattle.base_refusals.specs.Answer.{answered}
 
 -- ---- the cases of `counted`
 
@@ -127,8 +126,8 @@ low_none : (s : List ℕ) → low_targets s [] ≡ []
 unfolding low_targets
 low_none s = refl
 
-module _ {marked s : List ℕ} {p n : ℕ} {r : Step} (e : step_answer r ≡ link_step s p) (k : CountingLines marked s p n) where
-  module _ {l : Line} (is : r ≡ FoundLine l) where
+module _ {marked s : List ℕ} {p n : ℕ} {r : Result (Option Line) Refusal} (e : answered r ≡ link_step s p) (k : CountingLines marked s p n) where
+  module _ {l : Line} (is : r ≡ Ok (Some l)) where
     at : SoundLine s p l
     at = sound_line s p e k.sound is
 
@@ -169,7 +168,7 @@ module _ {marked s : List ℕ} {p n : ℕ} {r : Step} (e : step_answer r ≡ lin
     pub lines_less : length s - l.next < length s - p
     lines_less = omega (arith, at.lies)
 
-  pub lines_end : r ≡ End → length s ≤ 1048576 → CountedIs marked 0 (low_targets s (found_from s 2)) 2097152 (Jumps n)
+  pub lines_end : r ≡ Ok None → length s ≤ 1048576 → CountedIs marked 0 (low_targets s (found_from s 2)) 2097152 (Jumps n)
   lines_end is h =
       record {
         is =
@@ -178,5 +177,5 @@ module _ {marked s : List ℕ} {p n : ℕ} {r : Step} (e : step_answer r ≡ lin
         few = omega (arith, k.few, k.within);
       }
 
-  pub lines_fault : {f : Refusal} {most : ℕ} → r ≡ Refused f → CountedIs marked 0 (low_targets s (found_from s 2)) most (Jumps n)
+  pub lines_fault : {f : Refusal} {most : ℕ} → r ≡ Err f → CountedIs marked 0 (low_targets s (found_from s 2)) most (Jumps n)
   lines_fault is = absurd (sound_refused s p e k.sound is)

@@ -8,12 +8,12 @@ use native.Mathlib.Omega.{arith}
 use lib.ListN.{get_or}
 use Rattle.base_refusals.specs.Answer.{done}
 use Rattle.image_readers.specs.declared.Line.{Line}
-use Rattle.image_readers.specs.Image.{line}
 use Rattle.image_readers.specs.Links.{link_step}
 use Rattle.image_readers.proofs.ByLinks.{link_found, link_sound}
 use Rattle.image_readers.specs.IndexLines.{index_line}
+use Rattle.std.specs.Prelude.{Some}
 
-module _ (s : List ℕ) (bytes : (i : ℕ) → get_or s i 0 < 256) (p : ℕ) {l : Line} (e : link_step s p ≡ done (line l)) where
+module _ (s : List ℕ) (bytes : (i : ℕ) → get_or s i 0 < 256) (p : ℕ) {l : Line} (e : link_step s p ≡ done (Some l)) where
   pub offset_fits : (index_line l).offset < 65536
   offset_fits = omega (arith, (link_found s p e).forward, (link_sound.lies s p e).starts, bytes p, bytes (p + 1))
 

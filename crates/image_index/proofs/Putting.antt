@@ -10,9 +10,6 @@ use mir.Syntax.{w64}
 use mir.Val.{Fits}
 use Rattle.base_refusals.specs.declared.Refusal.{Refusal}
 use Rattle.image_readers.specs.declared.Line.{Line}
-use Rattle.image_readers.specs.declared.Step.{Step}
-use Rattle.image_readers.specs.declared.Step.TheVariants.{Found as FoundLine, End, Refused}
-use Rattle.image_readers.specs.Answers.{step_answer}
 use Rattle.image_readers.specs.Bodies.{body_of}
 use Rattle.image_readers.specs.Links.{link_step}
 use Rattle.image_marks.specs.Marks.{has_mark}
@@ -31,6 +28,8 @@ use Rattle.base_bits.proofs.Bytes.{AreBits, bits_are, are_both}
 use Rattle.base_bits.proofs.Pens.{drawn_both, ready_first, ready_behind, put_behind}
 use Rattle.image_index.specs.IndexHelpers.{found_from, Sound, low_jumps, pair_bits, line_bits, target_bit, target_bits, jump_bits, index_bits}
 use Rattle.image_index.proofs.Sounding.{SoundLine, sound_line, sound_end, sound_refused}
+use Rattle.std.specs.Prelude.{Option, Some, Result, Ok, Err}
+use Rattle.base_refusals.specs.Answer.{answered}
 
 -- ---- bits that are left to write
 
@@ -161,8 +160,8 @@ lines_none : line_bits [] ≡ []
 unfolding line_bits
 lines_none = refl
 
-module _ {s out₀ : List ℕ} {pen₀ : Pen} {out : List ℕ} {pen : Pen} {p : ℕ} (k : PuttingLines s out₀ pen₀ out pen p) {r : Step} (e : step_answer r ≡ link_step s p) where
-  module _ {l : Line} (is : r ≡ FoundLine l) where
+module _ {s out₀ : List ℕ} {pen₀ : Pen} {out : List ℕ} {pen : Pen} {p : ℕ} (k : PuttingLines s out₀ pen₀ out pen p) {r : Result (Option Line) Refusal} (e : answered r ≡ link_step s p) where
+  module _ {l : Line} (is : r ≡ Ok (Some l)) where
     at : SoundLine s p l
     at = sound_line s p e k.sound is
 
@@ -185,10 +184,10 @@ module _ {s out₀ : List ℕ} {pen₀ : Pen} {out : List ℕ} {pen : Pen} {p : 
           owed = owed_turn k.owed (pair_bits 16 l.number (l.from - 4)) (line_bits (found_from s l.next)) line_here (pair_are 16 l.number (l.from - 4)) g;
         }
 
-  pub line_end : r ≡ End → record { pen = pen; out = out } ≡ drawn out₀ pen₀ (line_bits (found_from s 2))
+  pub line_end : r ≡ Ok None → record { pen = pen; out = out } ≡ drawn out₀ pen₀ (line_bits (found_from s 2))
   line_end is = owed_end k.owed (ap line_bits (sound_end s p e k.sound is) ∙ lines_none)
 
-  pub line_fault : {f : Refusal} → r ≡ Refused f → record { pen = pen; out = out } ≡ drawn out₀ pen₀ (line_bits (found_from s 2))
+  pub line_fault : {f : Refusal} → r ≡ Err f → record { pen = pen; out = out } ≡ drawn out₀ pen₀ (line_bits (found_from s 2))
   line_fault is = absurd (sound_refused s p e k.sound is)
 
 -- ---- the loop over the lines' jumps
@@ -210,9 +209,9 @@ jumps_none : (marked s : List ℕ) (v : ℕ) → jump_bits marked s v [] ≡ []
 unfolding jump_bits
 jumps_none marked s v = refl
 
-module _ {marked s out₀ : List ℕ} {pen₀ : Pen} {out : List ℕ} {pen : Pen} {p v : ℕ} (k : PuttingJumps marked s out₀ pen₀ out pen p v) {r : Step}
-    (e : step_answer r ≡ link_step s p) where
-  module _ {l : Line} (is : r ≡ FoundLine l) where
+module _ {marked s out₀ : List ℕ} {pen₀ : Pen} {out : List ℕ} {pen : Pen} {p v : ℕ} (k : PuttingJumps marked s out₀ pen₀ out pen p v) {r : Result (Option Line) Refusal}
+    (e : answered r ≡ link_step s p) where
+  module _ {l : Line} (is : r ≡ Ok (Some l)) where
     found : SoundLine s p l
     found = sound_line s p e k.sound is
 
@@ -245,10 +244,10 @@ module _ {marked s out₀ : List ℕ} {pen₀ : Pen} {out : List ℕ} {pen : Pen
               (targets_are marked (v + 1) (low_jumps (body_of s l))) g;
         }
 
-  pub jumps_end : r ≡ End → record { pen = pen; out = out } ≡ drawn out₀ pen₀ (jump_bits marked s 0 (found_from s 2))
+  pub jumps_end : r ≡ Ok None → record { pen = pen; out = out } ≡ drawn out₀ pen₀ (jump_bits marked s 0 (found_from s 2))
   jumps_end is = owed_end k.owed (ap (jump_bits marked s v) (sound_end s p e k.sound is) ∙ jumps_none marked s v)
 
-  pub jumps_fault : {f : Refusal} → r ≡ Refused f → record { pen = pen; out = out } ≡ drawn out₀ pen₀ (jump_bits marked s 0 (found_from s 2))
+  pub jumps_fault : {f : Refusal} → r ≡ Err f → record { pen = pen; out = out } ≡ drawn out₀ pen₀ (jump_bits marked s 0 (found_from s 2))
   jumps_fault is = absurd (sound_refused s p e k.sound is)
 
 -- ---- all of an index

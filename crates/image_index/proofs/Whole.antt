@@ -25,7 +25,7 @@ use Rattle.image_readers.specs.Lines.{lines_of, overview_of, overview}
 use Rattle.image_readers.specs.declared.Overview.{Overview}
 use Rattle.image_readers.specs.Links.{link_step}
 use Rattle.image_readers.proofs.ByLinks.{link_sound}
-use Rattle.image_readers.proofs.Finding.{told_checked}
+use Rattle.base_refusals.proofs.Tight.{told_back}
 use Rattle.image_readers.proofs.Reading.{lines_lead, overview_lines, overview_refused}
 use Rattle.image_marks.specs.Marks.{has_mark}
 use Rattle.image_jumps.specs.Jumps.{jumps_of, low}
@@ -299,7 +299,7 @@ module _ (s : List ℕ) {r : Checked} (e : answered r ≡ overview link_step s) 
   check_faultless {load} {n} is = go (lines_of link_step s) refl
     where
       seen : overview link_step s ≡ done (record { load = load; lines = n })
-      seen = told_checked is e
+      seen = told_back is e
 
       go : (a : Answer (List Line)) → lines_of link_step s ≡ a → Faultless s n
       go (done ls) f =
@@ -326,12 +326,12 @@ module _ (s : List ℕ) {r : Checked} (e : answered r ≡ overview link_step s) 
       go : (a : Answer (List Line)) → lines_of link_step s ≡ a → lines_of link_step s ≡ refused (numbered f)
       go (done ls) g =
           let w : overview link_step s ≡ done (overview_of s ls) = overview_lines link_step s g in
-          let v : overview link_step s ≡ refused (numbered f) = told_checked is e in
+          let v : overview link_step s ≡ refused (numbered f) = told_back is e in
           let z : ◌≡◌ {A = ℕ} 0 1 = cc in
           absurd (omega arith)
       go (refused m) g =
           let w : overview link_step s ≡ refused m = overview_refused link_step s g in
-          let v : overview link_step s ≡ refused (numbered f) = told_checked is e in
+          let v : overview link_step s ≡ refused (numbered f) = told_back is e in
           let same : m ≡ numbered f = cc in
           g ∙ ap refused same
 

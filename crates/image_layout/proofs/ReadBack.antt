@@ -13,7 +13,6 @@ use borrow.Author.Tests.{leb-true, leb-false, le-leb}
 use Rattle.base_refusals.specs.Answer.{Answer, done, map_done}
 use Rattle.image_readers.specs.NumberedBody.{NumberedBody}
 use Rattle.image_bytes.specs.ImageBytes.{low_first_at, address_at}
-use Rattle.image_readers.specs.Image.{line, end}
 use Rattle.image_readers.specs.declared.Line.{Line}
 use Rattle.image_readers.specs.Lines.{Reader, lines_from, overview, overview_of}
 use Rattle.image_readers.specs.Bodies.{numbered_body, bodies_from}
@@ -28,6 +27,7 @@ use Rattle.image_layout.specs.Layout.{link_of, line_bytes, lines_bytes, image_of
 use Rattle.image_layout.specs.Reads.{least_load, lines_found, placed_line, lines_at, LinksLead, ReadAs, NoZero, NoZeros}
 use Rattle.image_layout.proofs.Laying.{image_length, lines_length, end_above, first_fits}
 use Rattle.image_layout.proofs.Standing.{Holds, holds_on, Stands, stands_next, stands_end, body_read, end_by_links, end_by_terminators, found_by_links, found_by_terminators}
+use Rattle.std.specs.Prelude.{Some, None}
 
 -- the offset p is that of the address a, which is not below another
 record Meets (load least a p : ℕ) : Type 0 where
@@ -60,8 +60,8 @@ bodies_at s (l ∷ ls) a p h =
 record Finds (step : Reader) (s : List ℕ) (load least : ℕ) (Q : NumberedBody → Type 0) : Type 0 where
   sound : Sound step
   finds_line : {a p : ℕ} {l : NumberedBody} {rest : List ℕ} → Meets load least a p → Stands s p (link_of a l.body) l rest → link_of a l.body ≤ 0xFFFF → Q l
-      → step s p ≡ done (line (placed_line a (link_of a l.body) p l))
-  finds_end : {p : ℕ} → Holds s p (0 ∷ 0 ∷ []) → step s p ≡ done end
+      → step s p ≡ done (Some (placed_line a (link_of a l.body) p l))
+  finds_end : {p : ℕ} → Holds s p (0 ∷ 0 ∷ []) → step s p ≡ done None
 
 module _ {step : Reader} {s : List ℕ} {load least : ℕ} {Q : NumberedBody → Type 0} (finds : Finds step s load least Q) where
   places_from : (ls : List NumberedBody) (a p : ℕ) → Meets load least a p → Lined s p a ls → Fits a ls → Each Q ls → lines_from step s p ≡ done (lines_at a p ls)
@@ -133,7 +133,7 @@ module _ {load : ℕ} {ls : List NumberedBody} (laid : Laid load ls) where
 
 -- ---- at any load address the reader by links takes an image, and finds all lines or none
 
-none_read : {load : ℕ} {ls : List NumberedBody} → Laid load ls → link_step (image_of load ls) 2 ≡ done end → overview link_step (image_of load ls) ≡ done (record { load = load; lines = 0 })
+none_read : {load : ℕ} {ls : List NumberedBody} → Laid load ls → link_step (image_of load ls) 2 ≡ done None → overview link_step (image_of load ls) ≡ done (record { load = load; lines = 0 })
 unfolding bodies_from
 none_read {load} {ls} laid e =
     let s = image_of load ls in
@@ -180,7 +180,7 @@ links_lead (l ∷ m ∷ ls) a p = (refl, links_lead (m ∷ ls) (link_of a l.body
 
 -- the image's last two bytes are the end marker, and that is its address
 module _ {load : ℕ} {ls : List NumberedBody} (laid : Laid load ls) where
-  pub marker_read : link_step (image_of load ls) (length (image_of load ls) - 2) ≡ done end
+  pub marker_read : link_step (image_of load ls) (length (image_of load ls) - 2) ≡ done None
   marker_read =
       let p : length (image_of load ls) - 2 ≡ 2 + length (lines_bytes load ls) = omega (arith, image_length load ls, lines_length load ls) in
       rw p (end_by_links (image_long laid) (holds_on (lines_bytes load ls) (lines_there laid)))

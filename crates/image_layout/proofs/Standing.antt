@@ -10,7 +10,7 @@ use lib.Seq.{get_or-drop, drop-drop, get_or-append_seam, take-append_seam, drop-
 use Rattle.base_refusals.specs.Answer.{done}
 use Rattle.image_readers.specs.NumberedBody.{NumberedBody}
 use Rattle.image_bytes.specs.ImageBytes.{low_first_at, address_at, before_zero, body_end}
-use Rattle.image_readers.specs.Image.{line_at, line, end}
+use Rattle.image_readers.specs.Image.{line_at}
 use Rattle.image_readers.specs.Bodies.{numbered_body}
 use Rattle.image_readers.specs.Links.{link_step}
 use Rattle.image_readers.specs.Terminators.{terminator_step}
@@ -19,6 +19,7 @@ use Rattle.image_readers.proofs.ByTerminators.{terminator_end, terminator_line}
 use Rattle.image_layout.specs.Layout.{linked_bytes}
 use Rattle.image_layout.specs.Reads.{placed_line, NoZero}
 use Rattle.image_layout.proofs.Laying.{line_length_lem}
+use Rattle.std.specs.Prelude.{Some, None}
 
 -- from an offset on an image holds these bytes
 pub record Holds (s : List ℕ) (p : ℕ) (bytes : List ℕ) : Type 0 where
@@ -37,10 +38,10 @@ holds_on {s} {p} front {rest} h =
 
 -- an image of a right length, at its end marker
 module _ {s : List ℕ} {p : ℕ} (long : length s ≤ 1048576) (h : Holds s p (0 ∷ 0 ∷ [])) where
-  pub end_by_links : link_step s p ≡ done end
+  pub end_by_links : link_step s p ≡ done None
   end_by_links = let n : length s ≡ p + 2 = holds_long h (omega arith) in sym (link_end s p long (omega arith) (omega arith) (holds_at h 1))
 
-  pub end_by_terminators : terminator_step s p ≡ done end
+  pub end_by_terminators : terminator_step s p ≡ done None
   end_by_terminators =
       let n : length s ≡ p + 2 = holds_long h (omega arith) in sym (terminator_end s p long (omega arith) (omega arith) (omega arith) (holds_at h 1))
 
@@ -98,7 +99,7 @@ module _ {s : List ℕ} {p link : ℕ} {l : NumberedBody} {rest : List ℕ} (k :
       ap (λ (x : List ℕ). record { number = l.number; body = x }) b
 
   -- by links, where the link's high byte is 0
-  pub stands_end : length s ≤ 1048576 → link < 0x0100 → link_step s p ≡ done end
+  pub stands_end : length s ≤ 1048576 → link < 0x0100 → link_step s p ≡ done None
   stands_end long low =
       let z : get_or s (p + 1) 0 ≡ 0 = omega (arith, high_byte) in
       sym (link_end s p long (omega (arith, long_as)) (omega (arith, long_as)) z)
@@ -110,15 +111,15 @@ module _ {s : List ℕ} {p link : ℕ} {l : NumberedBody} {rest : List ℕ} (k :
     no_end : get_or s (p + 1) 0 ≡ 0 → ⊥
     no_end z = omega (arith, high_byte)
 
-    -- by links, where the link leads behind the line
-    pub found_by_links : link + 2 ≡ low_first_at s 0 + (p + 5 + length l.body) → link_step s p ≡ done (line (placed_line a link p l))
+    -- by links, where the link leads behind the Some
+    pub found_by_links : link + 2 ≡ low_first_at s 0 + (p + 5 + length l.body) → link_step s p ≡ done (Some (placed_line a link p l))
     found_by_links leads =
         let t = p + 5 + length l.body in
         let z : get_or s (t - 1) 0 ≡ 0 = rw (let e : t - 1 ≡ p + 4 + length l.body = omega arith in e) zero_there in
         sym (link_line s p long (omega (arith, long_as)) (omega (arith, long_as)) no_end (omega arith) (omega (arith, long_as)) z (omega (arith, link_there_lem fits)) (sym (at_place (omega arith) refl)))
 
     -- by terminators, where no byte of the body is 00
-    pub found_by_terminators : NoZero l.body → terminator_step s p ≡ done (line (placed_line a link p l))
+    pub found_by_terminators : NoZero l.body → terminator_step s p ≡ done (Some (placed_line a link p l))
     found_by_terminators none =
         let e : body_end s p ≡ p + 4 + length l.body = ap (λ (b : List ℕ). p + 4 + before_zero b) body_there ∙ ap (λ (n : ℕ). p + 4 + n) (before_zero_lem l.body rest none) in
         sym (terminator_line s p long (omega (arith, long_as)) (omega (arith, long_as)) (omega (arith, long_as)) no_end (omega (arith, long_as)) (sym (at_place e (omega (arith, long_as, e)))))

@@ -11,10 +11,10 @@ use Rattle.image_bytes.specs.ImageBytes.{target_at}
 use Rattle.base_refusals.specs.Answer.{done, refused}
 use Rattle.base_refusals.specs.Numbers.{image_too_long, too_short, missing_end, link_backward, link_outside, link_no_end}
 use Rattle.image_readers.specs.declared.Line.{Line}
-use Rattle.image_readers.specs.Image.{line, end}
 use Rattle.image_readers.proofs.Equations.{LiesAt, Sound}
 use Rattle.image_readers.specs.Links.{linked_line, follow, link_step}
 use Rattle.image_readers.proofs.Finding.{sized_long, sized_short, Knows, cond_by, sized_knows, knows_length, knows_line}
+use Rattle.std.specs.Prelude.{Some, None}
 
 module _ (s : List ℕ) (p : ℕ) where
   pub link_long : 1048576 < length s → refused (image_too_long (length s)) ≡ link_step s p
@@ -31,11 +31,11 @@ module _ (s : List ℕ) (p : ℕ) where
     unfolding link_step
     link_missing h = let g : length s < p + 2 = omega arith in simp (le-ltb _ _ long, le-ltb _ _ short, lt-ltb _ _ g)
 
-    pub link_end : p ≤ length s - 2 → get_or s (p + 1) 0 ≡ 0 → done end ≡ link_step s p
+    pub link_end : p ≤ length s - 2 → get_or s (p + 1) 0 ≡ 0 → done None ≡ link_step s p
     unfolding link_step
     link_end h e = let g : p + 2 ≤ length s = omega arith in simp (le-ltb _ _ long, le-ltb _ _ short, le-ltb _ _ g, eq-eqb _ _ e)
 
-    -- a link that is not the end's
+    -- a link that is not the None's
     module _ (h : p ≤ length s - 2) (e : get_or s (p + 1) 0 ≡ 0 → ⊥) {t : ℕ} where
       link_follow : t ≡ target_at s p → follow s p t ≡ link_step s p
       unfolding link_step
@@ -51,7 +51,7 @@ module _ (s : List ℕ) (p : ℕ) where
       pub link_no_end_lem : p + 5 ≤ t → t ≤ length s → (get_or s (t - 1) 0 ≡ 0 → ⊥) → t ≡ target_at s p → refused (link_no_end p) ≡ link_step s p
       link_no_end_lem b f z target = simp (← link_follow target, le-ltb _ _ b, le-ltb _ _ f, ne_eqb _ _ z)
 
-      pub link_line : p + 5 ≤ t → t ≤ length s → get_or s (t - 1) 0 ≡ 0 → t ≡ target_at s p → {l : Line} → l ≡ linked_line s p t → done (line l) ≡ link_step s p
+      pub link_line : p + 5 ≤ t → t ≤ length s → get_or s (t - 1) 0 ≡ 0 → t ≡ target_at s p → {l : Line} → l ≡ linked_line s p t → done (Some l) ≡ link_step s p
       link_line b f z target is = rw is (simp (← link_follow target, le-ltb _ _ b, le-ltb _ _ f, eq-eqb _ _ z))
 
 -- ---- what was found
@@ -89,7 +89,7 @@ link_knows s p =
     ))
     (λ _. tt))))))
 
-pub link_found : (s : List ℕ) (p : ℕ) {l : Line} → link_step s p ≡ done (line l) → LinkedAt s p l
+pub link_found : (s : List ℕ) (p : ℕ) {l : Line} → link_step s p ≡ done (Some l) → LinkedAt s p l
 link_found s p e = knows_line (LinkedAt s p) s e (link_knows s p)
 
 linked_lies : {s : List ℕ} {p : ℕ} {l : Line} → LinkedAt s p l → LiesAt s p l

@@ -12,10 +12,11 @@ use Rattle.image_bytes.proofs.Zeros.{body_end_within}
 use Rattle.base_refusals.specs.Answer.{done, refused}
 use Rattle.base_refusals.specs.Numbers.{image_too_long, too_short, unexpected_eof}
 use Rattle.image_readers.specs.declared.Line.{Line}
-use Rattle.image_readers.specs.Image.{line_at, line, end}
+use Rattle.image_readers.specs.Image.{line_at}
 use Rattle.image_readers.proofs.Equations.{LiesAt, Sound}
 use Rattle.image_readers.specs.Terminators.{terminated_line, terminator_step}
 use Rattle.image_readers.proofs.Finding.{sized_long, sized_short, Knows, cond_by, sized_knows, knows_length, knows_line}
+use Rattle.std.specs.Prelude.{Some, None}
 
 -- ---- the answers
 
@@ -30,7 +31,7 @@ module _ (s : List ℕ) (p : ℕ) where
 
   -- an image of a right length
   module _ (long : length s ≤ 1048576) (short : 2 ≤ length s) where
-    pub terminator_beyond : length s ≤ p → done end ≡ terminator_step s p
+    pub terminator_beyond : length s ≤ p → done None ≡ terminator_step s p
     unfolding terminator_step
     terminator_beyond h = simp (le-ltb _ _ long, le-ltb _ _ short, le-leb _ _ h)
 
@@ -44,7 +45,7 @@ module _ (s : List ℕ) (p : ℕ) where
         two : p + 2 ≤ length s
         two = omega arith
 
-        pub terminator_end : get_or s (p + 1) 0 ≡ 0 → done end ≡ terminator_step s p
+        pub terminator_end : get_or s (p + 1) 0 ≡ 0 → done None ≡ terminator_step s p
         unfolding terminator_step
         terminator_end e = simp (le-ltb _ _ long, le-ltb _ _ short, lt-leb _ _ h, le-ltb _ _ two, eq-eqb _ _ e)
 
@@ -55,7 +56,7 @@ module _ (s : List ℕ) (p : ℕ) where
               let g : length s < p + 4 = omega arith in
               simp (le-ltb _ _ long, le-ltb _ _ short, lt-leb _ _ h, le-ltb _ _ two, ne_eqb _ _ e, lt-ltb _ _ g)
 
-          pub terminator_line : 4 ≤ length s - p → {f : Line} → f ≡ terminated_line s p → done (line f) ≡ terminator_step s p
+          pub terminator_line : 4 ≤ length s - p → {f : Line} → f ≡ terminated_line s p → done (Some f) ≡ terminator_step s p
           unfolding terminator_step
           terminator_line n is =
               let g : p + 4 ≤ length s = omega arith in
@@ -91,7 +92,7 @@ terminator_knows s p =
     cond_by K (ltb (length s) (p + 4)) (λ _. tt)
     (λ left. (right, record { left = ltb-false _ _ left; no_end = eqb-false _ _ no_end; is = refl }))))))
 
-pub terminator_found : (s : List ℕ) (p : ℕ) {l : Line} → terminator_step s p ≡ done (line l) → TerminatedAt s p l
+pub terminator_found : (s : List ℕ) (p : ℕ) {l : Line} → terminator_step s p ≡ done (Some l) → TerminatedAt s p l
 terminator_found s p e = knows_line (TerminatedAt s p) s e (terminator_knows s p)
 
 terminated_lies : {s : List ℕ} {p : ℕ} {l : Line} → TerminatedAt s p l → LiesAt s p l

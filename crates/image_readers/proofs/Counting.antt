@@ -7,20 +7,18 @@ use native.Mathlib.Omega.{arith}
 use lib.ListN.{length}
 use mir.Syntax.{w64}
 use mir.Val.{Fits}
-use Rattle.base_refusals.specs.Answer.{Answer, done, refused, map_done, numbered}
+use Rattle.base_refusals.specs.Answer.{Answer, done, refused, map_done, numbered, answered}
 use Rattle.base_refusals.specs.declared.Refusal.{Refusal}
 use Rattle.image_readers.specs.declared.By.{By}
 use Rattle.image_readers.specs.declared.Line.{Line}
-use Rattle.image_readers.specs.declared.Step.{Step}
-use Rattle.image_readers.specs.declared.Step.TheVariants.{Found as FoundLine, End, Refused}
-use Rattle.image_readers.specs.Answers.{step_answer}
 use Rattle.image_bytes.specs.ImageBytes.{low_first_at}
 use Rattle.image_readers.specs.Lines.{lines_from, overview_of, overview}
 use Rattle.image_readers.specs.declared.Overview.{Overview}
 use Rattle.image_readers.specs.Readers.{step_by}
 use Rattle.image_readers.proofs.Equations.{LiesAt, lines_line, lines_end, lines_refused}
-use Rattle.image_readers.proofs.Finding.{told}
+use Rattle.base_refusals.proofs.Tight.{told_back}
 use Rattle.image_readers.proofs.Steps.{by_sound}
+use Rattle.std.specs.Prelude.{Option, Some, None, Result, Ok, Err}
 
 -- the load address, and so many lines more than were passed
 abbrev after : List ℕ → ℕ → List Line → Overview
@@ -45,26 +43,26 @@ unfolding overview
 passed_start by s = record { few = omega arith; gives = none_passed s (lines_from (step_by by) s 2) }
 
 -- a step at p found a line
-module _ {by : By} {s : List ℕ} {p n : ℕ} {r : Step} {l : Line} (is : r ≡ FoundLine l) (e : step_answer r ≡ step_by by s p) (k : LinesPassed by s p n) where
+module _ {by : By} {s : List ℕ} {p n : ℕ} {r : Result (Option Line) Refusal} {l : Line} (is : r ≡ Ok (Some l)) (e : answered r ≡ step_by by s p) (k : LinesPassed by s p n) where
   pub passed_turn : LinesPassed by s l.next (n + 1)
   passed_turn =
-      let d : LiesAt s p l = (by_sound by).lies s p (told is e) in
+      let d : LiesAt s p l = (by_sound by).lies s p (told_back is e) in
       record {
         few = omega arith;
-        gives = one_passed s n l (lines_from (step_by by) s l.next) ∙ ap (map_done (after s n)) (sym (lines_line (by_sound by) s p (told is e))) ∙ k.gives;
+        gives = one_passed s n l (lines_from (step_by by) s l.next) ∙ ap (map_done (after s n)) (sym (lines_line (by_sound by) s p (told_back is e))) ∙ k.gives;
       }
 
   pub passed_fits : Fits w64 (n + 1)
   passed_fits =
-      let d : LiesAt s p l = (by_sound by).lies s p (told is e) in
-      record { fits = omega (arith, (by_sound by).not_too_long s p (told is e)) }
+      let d : LiesAt s p l = (by_sound by).lies s p (told_back is e) in
+      record { fits = omega (arith, (by_sound by).not_too_long s p (told_back is e)) }
 
-pub passed_end : {by : By} {s : List ℕ} {p n : ℕ} {r : Step} {load : ℕ} → r ≡ End → step_answer r ≡ step_by by s p → LinesPassed by s p n → load ≡ low_first_at s 0
+pub passed_end : {by : By} {s : List ℕ} {p n : ℕ} {r : Result (Option Line) Refusal} {load : ℕ} → r ≡ Ok None → answered r ≡ step_by by s p → LinesPassed by s p n → load ≡ low_first_at s 0
     → done (record { load = load; lines = n }) ≡ overview (step_by by) s
 passed_end {by} {s} {p} {n} is e k w =
     let z : n ≡ n + 0 = omega arith in
-    rw (w, z) (sym (ap (map_done (after s n)) (lines_end (step_by by) s p (told is e))) ∙ k.gives)
+    rw (w, z) (sym (ap (map_done (after s n)) (lines_end (step_by by) s p (told_back is e))) ∙ k.gives)
 
-pub passed_refused : {by : By} {s : List ℕ} {p n : ℕ} {r : Step} {m : Refusal} → r ≡ Refused m → step_answer r ≡ step_by by s p → LinesPassed by s p n
+pub passed_refused : {by : By} {s : List ℕ} {p n : ℕ} {r : Result (Option Line) Refusal} {m : Refusal} → r ≡ Err m → answered r ≡ step_by by s p → LinesPassed by s p n
     → refused (numbered m) ≡ overview (step_by by) s
-passed_refused {by} {s} {p} {n} is e k = sym (ap (map_done (after s n)) (lines_refused (step_by by) s p (told is e))) ∙ k.gives
+passed_refused {by} {s} {p} {n} is e k = sym (ap (map_done (after s n)) (lines_refused (step_by by) s p (told_back is e))) ∙ k.gives

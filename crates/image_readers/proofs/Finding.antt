@@ -10,20 +10,11 @@ use lib.Dec.{ltb}
 use borrow.Author.Tests.{le-ltb, lt-ltb, ltb-false}
 use Rattle.base_refusals.specs.Answer.{Answer, done, refused, answered}
 use Rattle.base_refusals.specs.Numbers.{image_too_long, too_short}
-use Rattle.image_readers.specs.declared.Checked.{Checked}
 use Rattle.image_readers.specs.declared.Line.{Line}
-use Rattle.image_readers.specs.declared.Step.{Step}
-use Rattle.image_readers.specs.Image.{Found, line, end, sized}
+use Rattle.image_readers.specs.Image.{sized}
 use Rattle.image_readers.specs.declared.Overview.{Overview}
-use Rattle.image_readers.specs.Answers.{step_answer}
-
--- a step whose result r is known to be x answers as x does
-pub told : {r x : Step} {a : Answer Found} → r ≡ x → step_answer r ≡ a → a ≡ step_answer x
-told d e = sym e ∙ ap step_answer d
-
--- the same of a check
-pub told_checked : {r x : Checked} {a : Answer Overview} → r ≡ x → answered r ≡ a → a ≡ answered x
-told_checked d e = sym e ∙ ap answered d
+use Rattle.std.specs.Prelude.{Option, Some, None, Result}
+use Rattle.base_refusals.specs.declared.Refusal.{Refusal}
 
 -- ---- the length is checked first
 
@@ -45,9 +36,9 @@ pub record RightLength (s : List ℕ) : Type 0 where
   pub short : 2 ≤ length s
 
 -- what is to be known of an answer: that the image's length is right, and Q of a line
-abbrev pub Knows : (Line → Type 0) → List ℕ → Answer Found → Type 0
-Knows Q s (done (line l)) = RightLength s × Q l
-Knows Q s (done end) = RightLength s
+abbrev pub Knows : (Line → Type 0) → List ℕ → Answer (Option Line) → Type 0
+Knows Q s (done (Some l)) = RightLength s × Q l
+Knows Q s (done None) = RightLength s
 Knows Q s (refused n) = Unit {0}
 
 -- it is known of a choice if it is known of each case under its test
@@ -56,15 +47,15 @@ cond_by P true f g = f refl
 cond_by P false f g = g refl
 
 module _ (Q : Line → Type 0) (s : List ℕ) where
-  pub sized_knows : (a : Answer Found) → (RightLength s → Knows Q s a) → Knows Q s (sized s a)
+  pub sized_knows : (a : Answer (Option Line)) → (RightLength s → Knows Q s a) → Knows Q s (sized s a)
   sized_knows a f =
       cond_by (Knows Q s) (ltb 1048576 (length s)) (λ _. tt) (λ long.
       cond_by (Knows Q s) (ltb (length s) 2) (λ _. tt) (λ short.
       f (record { long = ltb-false 1048576 (length s) long; short = ltb-false (length s) 2 short })))
 
-  pub knows_length : {a : Answer Found} (f : Found) → a ≡ done f → Knows Q s a → RightLength s
-  knows_length (line l) e k = (subst (Knows Q s) e k).0
-  knows_length end e k = subst (Knows Q s) e k
+  pub knows_length : {a : Answer (Option Line)} (f : (Option Line)) → a ≡ done f → Knows Q s a → RightLength s
+  knows_length (Some l) e k = (subst (Knows Q s) e k).0
+  knows_length None e k = subst (Knows Q s) e k
 
-  pub knows_line : {a : Answer Found} {l : Line} → a ≡ done (line l) → Knows Q s a → Q l
+  pub knows_line : {a : Answer (Option Line)} {l : Line} → a ≡ done (Some l) → Knows Q s a → Q l
   knows_line e k = (subst (Knows Q s) e k).1

@@ -11,11 +11,11 @@ use Rattle.base_refusals.specs.Numbers.{Numbered}
 use Rattle.base_refusals.specs.Answer.{Answer, done, refused, map_done}
 use Rattle.image_readers.specs.declared.Line.{Line}
 use Rattle.image_bytes.specs.ImageBytes.{low_first_at}
-use Rattle.image_readers.specs.Image.{Found, line, end}
 use Rattle.image_readers.specs.Lines.{Reader, onward, lines_from, lines_of, overview_of, overview}
 use Rattle.image_readers.proofs.Equations.{LiesAt, Sound, lines_from_lem, lines_line, lines_end, lines_refused, by_lines}
 use Rattle.image_readers.specs.Chain.{Chain, here, on, Leads}
 use Rattle.image_readers.specs.Bodies.{body_of, numbered_body, bodies_from, bodies_of}
+use Rattle.std.specs.Prelude.{Option, Some, None}
 
 -- ---- steps one after the other
 
@@ -34,24 +34,24 @@ module _ {step : Reader} (sound : Sound step) (s : List ℕ) where
   chain_then (on {p = p} {q = q} {l = l} {ls = ls} e c) =
       lines_line sound s p e ∙ ap (map_done (λ ms. l ∷ ms)) (chain_then c) ∙ then_these l ls (lines_from step s q)
 
-  -- lines found one after the other up to the end are all the lines from p on; up to a refusal they are none
-  pub chain_end : {p q : ℕ} {ls : List Line} → Chain (step s) p ls q → step s q ≡ done end → lines_from step s p ≡ done ls
+  -- lines found one after the other up to the None are all the lines from p on; up to a refusal they are none
+  pub chain_end : {p q : ℕ} {ls : List Line} → Chain (step s) p ls q → step s q ≡ done None → lines_from step s p ≡ done ls
   chain_end {q = q} {ls = ls} c e = chain_then c ∙ ap (map_done (λ ms. ls ++ ms)) (lines_end step s q e) ∙ ap done (append-nil ls)
 
   pub chain_refused : {p q : ℕ} {ls : List Line} {n : Numbered} → Chain (step s) p ls q → step s q ≡ refused n → lines_from step s p ≡ refused n
   chain_refused {q = q} {ls = ls} c e = chain_then c ∙ ap (map_done (λ ms. ls ++ ms)) (lines_refused step s q e)
 
-  leads_onward : (p : ℕ) (r : Answer Found) → step s p ≡ r → ((l : Line) → step s p ≡ done (line l) → Leads step s l.next (lines_from step s l.next))
+  leads_onward : (p : ℕ) (r : Answer (Option Line)) → step s p ≡ r → ((l : Line) → step s p ≡ done (Some l) → Leads step s l.next (lines_from step s l.next))
       → Leads step s p (onward (lines_from step s) r)
-  leads_onward p (done (line l)) e ih = go (lines_from step s l.next) (ih l e)
+  leads_onward p (done (Some l)) e ih = go (lines_from step s l.next) (ih l e)
     where
       go : (a : Answer (List Line)) → Leads step s l.next a → Leads step s p (map_done (λ ls. l ∷ ls) a)
       go (done ls) k = (k.0, on e k.1, k.2)
       go (refused n) k = (l ∷ k.0, k.1, on e k.2, k.3)
-  leads_onward p (done end) e ih = (p, here, e)
+  leads_onward p (done None) e ih = (p, here, e)
   leads_onward p (refused n) e ih = ([], p, here, e)
 
-  -- steps one after the other from p on find exactly the lines from p on, and then the end; or they come to the refusal
+  -- steps one after the other from p on find exactly the lines from p on, and then the None; or they come to the refusal
   pub lines_lead : (p : ℕ) → Leads step s p (lines_from step s p)
   lines_lead =
       by_lines sound s (λ q. Leads step s q (lines_from step s q))
@@ -82,7 +82,7 @@ overview_bodies step s = go (lines_of step s)
 -- ---- numbers and bodies, line by line
 
 module _ (step : Reader) (s : List ℕ) (p : ℕ) where
-  pub bodies_end : step s p ≡ done end → bodies_from step s p ≡ done []
+  pub bodies_end : step s p ≡ done None → bodies_from step s p ≡ done []
   unfolding bodies_from
   bodies_end e = ap (map_done (map (numbered_body s))) (lines_end step s p e)
 
@@ -90,7 +90,7 @@ module _ (step : Reader) (s : List ℕ) (p : ℕ) where
   unfolding bodies_from
   bodies_refused e = ap (map_done (map (numbered_body s))) (lines_refused step s p e)
 
-pub bodies_line : {step : Reader} → Sound step → (s : List ℕ) (p : ℕ) {l : Line} → step s p ≡ done (line l)
+pub bodies_line : {step : Reader} → Sound step → (s : List ℕ) (p : ℕ) {l : Line} → step s p ≡ done (Some l)
     → bodies_from step s p ≡ map_done (λ bs. numbered_body s l ∷ bs) (bodies_from step s l.next)
 unfolding bodies_from
 bodies_line {step} sound s p {l} e = ap (map_done (map (numbered_body s))) (lines_line sound s p e) ∙ go (lines_from step s l.next)

@@ -10,36 +10,35 @@ use Rattle.base_refusals.specs.declared.Refusal.{Refusal}
 use Rattle.image_readers.specs.declared.By.{By}
 use Rattle.image_readers.specs.declared.By.TheVariants.{Terminators, Links}
 use Rattle.image_readers.specs.declared.Line.{Line}
-use Rattle.image_readers.specs.declared.Step.{Step}
-use Rattle.image_readers.specs.declared.Step.TheVariants.{Found as FoundLine, End, Refused}
-use Rattle.image_readers.specs.Answers.{step_answer}
 use Rattle.image_readers.specs.Bodies.{body_of, body_found, body_at}
 use Rattle.image_readers.specs.Links.{link_step}
 use Rattle.image_readers.specs.Terminators.{terminator_step}
 use Rattle.image_readers.specs.Readers.{step_by}
 use Rattle.image_readers.proofs.Equations.{LiesAt, Sound, next_nearer}
-use Rattle.image_readers.proofs.Finding.{told}
+use Rattle.base_refusals.proofs.Tight.{told_back}
 use Rattle.image_readers.proofs.ByLinks.{link_sound}
 use Rattle.image_readers.proofs.ByTerminators.{terminator_sound}
+use Rattle.std.specs.Prelude.{Option, Some, None, Result, Ok, Err}
+use Rattle.base_refusals.specs.Answer.{answered}
 
 pub by_sound : (by : By) → Sound (step_by by)
 unfolding step_by
 by_sound Terminators = terminator_sound
 by_sound Links = link_sound
 
-module _ (by : By) (s : List ℕ) (p : ℕ) (r : Step) where
-  pub step_terminators : by ≡ Terminators → step_answer r ≡ terminator_step s p → step_answer r ≡ step_by by s p
+module _ (by : By) (s : List ℕ) (p : ℕ) (r : Result (Option Line) Refusal) where
+  pub step_terminators : by ≡ Terminators → answered r ≡ terminator_step s p → answered r ≡ step_by by s p
   unfolding step_by
   step_terminators is e = rw is e
 
-  pub step_links : by ≡ Links → step_answer r ≡ link_step s p → step_answer r ≡ step_by by s p
+  pub step_links : by ≡ Links → answered r ≡ link_step s p → answered r ≡ step_by by s p
   unfolding step_by
   step_links is e = rw is e
 
 -- a line was found
-module _ (by : By) (s : List ℕ) (p : ℕ) {r : Step} {l : Line} (is : r ≡ FoundLine l) (e : step_answer r ≡ step_by by s p) where
+module _ (by : By) (s : List ℕ) (p : ℕ) {r : Result (Option Line) Refusal} {l : Line} (is : r ≡ Ok (Some l)) (e : answered r ≡ step_by by s p) where
   pub found_lies : LiesAt s p l
-  found_lies = (by_sound by).lies s p (told is e)
+  found_lies = (by_sound by).lies s p (told_back is e)
 
   pub found_runs : l.from ≤ l.to
   found_runs = found_lies.runs
@@ -48,18 +47,18 @@ module _ (by : By) (s : List ℕ) (p : ℕ) {r : Step} {l : Line} (is : r ≡ Fo
   found_within = omega (arith, found_lies)
 
   pub found_nearer : length s - l.next < length s - p
-  found_nearer = next_nearer (by_sound by) s p (told is e)
+  found_nearer = next_nearer (by_sound by) s p (told_back is e)
 
   pub found_body : body_of s l ≡ body_at (step_by by) s p
-  found_body = sym (ap (body_found s) (told is e))
+  found_body = sym (ap (body_found s) (told_back is e))
 
 -- no line was found
-module _ (by : By) (s : List ℕ) (p : ℕ) {r : Step} where
-  pub end_long : r ≡ End → step_answer r ≡ step_by by s p → 0 + 1 < length s
-  end_long is e = (by_sound by).long_enough s p (told is e)
+module _ (by : By) (s : List ℕ) (p : ℕ) {r : Result (Option Line) Refusal} where
+  pub end_long : r ≡ Ok None → answered r ≡ step_by by s p → 0 + 1 < length s
+  end_long is e = (by_sound by).long_enough s p (told_back is e)
 
-  pub end_body : r ≡ End → step_answer r ≡ step_by by s p → [] ≡ body_at (step_by by) s p
-  end_body is e = sym (ap (body_found s) (told is e))
+  pub end_body : r ≡ Ok None → answered r ≡ step_by by s p → [] ≡ body_at (step_by by) s p
+  end_body is e = sym (ap (body_found s) (told_back is e))
 
-  pub refused_body : {m : Refusal} → r ≡ Refused m → step_answer r ≡ step_by by s p → [] ≡ body_at (step_by by) s p
-  refused_body is e = sym (ap (body_found s) (told is e))
+  pub refused_body : {m : Refusal} → r ≡ Err m → answered r ≡ step_by by s p → [] ≡ body_at (step_by by) s p
+  refused_body is e = sym (ap (body_found s) (told_back is e))

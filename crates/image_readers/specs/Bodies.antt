@@ -4,9 +4,9 @@
 use Rattle.std.specs.Prelude.{ℕ, ◌-◌, List, [], map, take, drop}
 use Rattle.base_refusals.specs.Answer.{Answer, done, refused, map_done}
 use Rattle.image_readers.specs.declared.Line.{Line}
-use Rattle.image_readers.specs.Image.{Found, line, end}
 use Rattle.image_readers.specs.Lines.{Reader, lines_from}
 use Rattle.image_readers.specs.NumberedBody.{NumberedBody}
+use Rattle.std.specs.Prelude.{Option, Some, None}
 
 -- the bytes of an image from a body's first offset up to the one behind its last
 abbrev pub body_of : List ℕ → Line → List ℕ
@@ -16,9 +16,9 @@ abbrev pub numbered_body : List ℕ → Line → NumberedBody
 numbered_body s l = record { number = l.number; body = body_of s l }
 
 -- the body of what a step found, and nothing where it found no line
-abbrev pub body_found : List ℕ → Answer Found → List ℕ
-body_found s (done (line l)) = body_of s l
-body_found s (done end) = []
+abbrev pub body_found : List ℕ → Answer (Option Line) → List ℕ
+body_found s (done (Some l)) = body_of s l
+body_found s (done None) = []
 body_found s (refused n) = []
 
 -- the body of the line at p

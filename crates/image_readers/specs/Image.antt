@@ -19,11 +19,6 @@ line_at s p to next =
       next = next;
     }
 
--- what is found at an offset: a line, or the end
-pub data Found : Type 0 where
-  line : Line → Found
-  end : Found
-
 -- an image of more than 1,048,576 bytes is 7, one of fewer than two bytes is 8, and of any other the answer is a
 abbrev pub sized : {A : Type 0} → List ℕ → Answer A → Answer A
 sized s a = cond (ltb 1048576 (length s)) (refused (image_too_long (length s))) (cond (ltb (length s) 2) (refused too_short) a)

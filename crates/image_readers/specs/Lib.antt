@@ -1,4 +1,3 @@
-pub mod Answers
 pub mod Bodies
 pub mod Chain
 pub mod Image

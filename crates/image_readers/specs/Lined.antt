@@ -5,8 +5,8 @@ use Rattle.base_steps.specs.Again.{again}
 use Rattle.base_refusals.specs.Numbers.{Numbered}
 use Rattle.base_refusals.specs.Answer.{Answer, done, refused}
 use Rattle.image_readers.specs.declared.Line.{Line}
-use Rattle.image_readers.specs.Image.{Found, line, end}
 use Rattle.image_readers.specs.Lines.{Reader}
+use Rattle.std.specs.Prelude.{Option, Some, None}
 
 -- what stands behind the lines that are read: the end, or a fault
 pub data Ending : Type 0 where
@@ -19,9 +19,9 @@ pub record Lined : Type 0 where
   pub ending : Ending
 
 -- the step at p, and what f reads from the next offset on
-abbrev pub lined_by : (ℕ → Lined) → Answer Found → Lined
-lined_by f (done (line l)) = record { lines = l ∷ (f l.next).lines; ending = (f l.next).ending }
-lined_by f (done end) = record { lines = []; ending = ended }
+abbrev pub lined_by : (ℕ → Lined) → Answer (Option Line) → Lined
+lined_by f (done (Some l)) = record { lines = l ∷ (f l.next).lines; ending = (f l.next).ending }
+lined_by f (done None) = record { lines = []; ending = ended }
 lined_by f (refused n) = record { lines = []; ending = faulted n }
 
 abbrev pub lined_on : Reader → List ℕ → (ℕ → Lined) → ℕ → Lined

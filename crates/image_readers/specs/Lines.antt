@@ -11,16 +11,16 @@ use Rattle.base_refusals.specs.Answer.{Answer, done, refused, map_done}
 use Rattle.image_readers.specs.declared.Line.{Line}
 use Rattle.image_readers.specs.declared.Overview.{Overview}
 use Rattle.image_bytes.specs.ImageBytes.{low_first_at}
-use Rattle.image_readers.specs.Image.{Found, line, end}
+use Rattle.std.specs.Prelude.{Option, Some, None}
 
 -- what a step answers, for an image and an offset
 abbrev pub Reader : Type 0
-Reader = List ℕ → ℕ → Answer Found
+Reader = List ℕ → ℕ → Answer (Option Line)
 
 -- a line and what f reads from the next offset on, nothing at the end, or the refusal
-abbrev pub onward : (ℕ → Answer (List Line)) → Answer Found → Answer (List Line)
-onward f (done (line l)) = map_done (λ ls. l ∷ ls) (f l.next)
-onward f (done end) = done []
+abbrev pub onward : (ℕ → Answer (List Line)) → Answer (Option Line) → Answer (List Line)
+onward f (done (Some l)) = map_done (λ ls. l ∷ ls) (f l.next)
+onward f (done None) = done []
 onward f (refused n) = refused n
 
 -- the step at p, and what f reads from the next offset on

@@ -4,7 +4,6 @@
 #![tactic(auto)]
 
 ghost use Rattle.std.specs.Prelude.{◌≡◌, ◌+◌, ◌≤◌, length};
-ghost use Rattle.image_readers.specs.Answers.{step_answer};
 ghost use Rattle.image_readers.specs.Bodies.{body_at};
 ghost use Rattle.image_readers.specs.Image.{line_at};
 ghost use Rattle.image_readers.specs.Lines.{overview};
@@ -71,7 +70,7 @@ pub fn check_by(image: &[u8], by: By) -> Result<Overview, Refusal>
 
 // The line at an offset, any offset; none where the image ends.
 pub fn step_by(image: &[u8], offset: usize, by: By) -> Result<Option<Line>, Refusal>
-    ensures { step_answer result ≡ step_by by image.now offset }
+    ensures { answered result ≡ step_by by image.now offset }
 {
     match by {
         By::Terminators => terminators::step(image, offset),

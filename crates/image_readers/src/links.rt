@@ -1,6 +1,5 @@
 // By links: a line ends where its link leads, and the byte before that place is its 00.
 ghost use Rattle.std.specs.Prelude.{◌≡◌};
-ghost use Rattle.image_readers.specs.Answers.{step_answer};
 ghost use Rattle.image_readers.specs.Bodies.{body_at};
 ghost use Rattle.image_readers.specs.Lines.{overview};
 ghost use Rattle.image_readers.specs.Links.{link_step};
@@ -20,7 +19,7 @@ pub fn check(image: &[u8]) -> Result<Overview, Refusal>
 // The line at an offset, any offset; none where the image ends.
 #[tactic(auto, using(crate::proofs::ByLinks::link_end))]
 pub fn step(image: &[u8], offset: usize) -> Result<Option<Line>, Refusal>
-    ensures { step_answer result ≡ link_step image.now offset }
+    ensures { answered result ≡ link_step image.now offset }
 {
     let length = image.len();
     if length > LONGEST {

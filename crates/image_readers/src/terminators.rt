@@ -1,6 +1,5 @@
 // By terminators: a line's body ends at its first 00, whatever its link says.
 ghost use Rattle.std.specs.Prelude.{◌≡◌, ◌+◌, ◌≤◌, length};
-ghost use Rattle.image_readers.specs.Answers.{step_answer};
 ghost use Rattle.image_readers.specs.Bodies.{body_at};
 ghost use Rattle.image_readers.specs.Lines.{overview};
 ghost use Rattle.image_readers.specs.Terminators.{terminated_line, terminator_step};
@@ -20,7 +19,7 @@ pub fn check(image: &[u8]) -> Result<Overview, Refusal>
 // The line at an offset, any offset; none where the image ends.
 #[tactic(auto, using(crate::proofs::ByTerminators::terminator_end))]
 pub fn step(image: &[u8], offset: usize) -> Result<Option<Line>, Refusal>
-    ensures { step_answer result ≡ terminator_step image.now offset }
+    ensures { answered result ≡ terminator_step image.now offset }
 {
     let length = image.len();
     if length > LONGEST {

@@ -16,18 +16,16 @@ use Rattle.base_lent.proofs.Storing.{put_as, put_both, put_none, put_long}
 use Rattle.say_put.specs.Rows.{filled}
 use Rattle.image_readers.specs.declared.By.{By}
 use Rattle.image_readers.specs.declared.Line.{Line}
-use Rattle.image_readers.specs.declared.Step.{Step}
-use Rattle.image_readers.specs.declared.Step.TheVariants.{Found as FoundLine, End, Refused}
 use Rattle.image_readers.specs.declared.Checked.{Checked}
 use Rattle.image_readers.specs.declared.Checked.TheVariants.{Image, Refused as RefusedImage}
-use Rattle.image_readers.specs.Answers.{step_answer}
 use Rattle.image_readers.specs.Lines.{lines_from, lines_of, overview_of, overview}
 use Rattle.image_readers.specs.Readers.{step_by}
 use Rattle.image_readers.proofs.Equations.{LiesAt, lines_line, lines_end, lines_refused}
-use Rattle.image_readers.proofs.Finding.{told, told_checked}
+use Rattle.base_refusals.proofs.Tight.{told_back}
 use Rattle.image_readers.proofs.Steps.{by_sound, found_lies}
 use Rattle.image_rows.specs.Places.{place_text, place_rows, places_shown}
 use Rattle.image_rows.specs.PartHelpers.{Adds, AddsTwo, Stores, IsText}
+use Rattle.std.specs.Prelude.{Option, Some, None, Result, Ok, Err}
 
 module _ (l : Line) (origins : List ℕ) (before : ℕ) {buffer after : List ℕ} {at behind : ℕ} where
   pub adds_origin : before < length origins → Adds buffer at (filled (0x23 ∷ 0x09 ∷ 0x23 ∷ 0x09 ∷ 0x23 ∷ []) l.number l.address (get_or origins before 0)) behind after
@@ -79,20 +77,20 @@ unfolding places_shown
 placing_start by s origins buffer =
     record { text = []; put = put_none buffer 0; few = omega arith; near = omega arith; onward = none (places_shown by s origins) }
 
-module _ (by : By) (s origins : List ℕ) {buffer out : List ℕ} {p k to : ℕ} {r : Step} (i : Placing by s origins buffer out p k to) where
-  pub placing_room : {l : Line} → r ≡ FoundLine l → step_answer r ≡ step_by by s p → to ≤ 1099511625216
+module _ (by : By) (s origins : List ℕ) {buffer out : List ℕ} {p k to : ℕ} {r : Result (Option Line) Refusal} (i : Placing by s origins buffer out p k to) where
+  pub placing_room : {l : Line} → r ≡ Ok (Some l) → answered r ≡ step_by by s p → to ≤ 1099511625216
   placing_room {l} is e =
       let d : LiesAt s p l = found_lies by s p is e in
-      let long : length s ≤ 1048576 = (by_sound by).not_too_long s p (told is e) in
+      let long : length s ≤ 1048576 = (by_sound by).not_too_long s p (told_back is e) in
       omega (arith, i.near, d.starts, d.runs, d.ends, d.within)
 
-  pub placing_few : {l : Line} → r ≡ FoundLine l → step_answer r ≡ step_by by s p → Fits w64 (k + 1)
+  pub placing_few : {l : Line} → r ≡ Ok (Some l) → answered r ≡ step_by by s p → Fits w64 (k + 1)
   placing_few {l} is e =
       let d : LiesAt s p l = found_lies by s p is e in
-      let long : length s ≤ 1048576 = (by_sound by).not_too_long s p (told is e) in
+      let long : length s ≤ 1048576 = (by_sound by).not_too_long s p (told_back is e) in
       record { fits = omega (arith, i.few, d.starts, d.runs, d.ends, d.within) }
 
-  pub placing_turn : {l : Line} {mid : ℕ} {half : List ℕ} → r ≡ FoundLine l → step_answer r ≡ step_by by s p → AddsTwo out to (place_text l (drop k origins)) mid half
+  pub placing_turn : {l : Line} {mid : ℕ} {half : List ℕ} → r ≡ Ok (Some l) → answered r ≡ step_by by s p → AddsTwo out to (place_text l (drop k origins)) mid half
       → Placing by s origins buffer half l.next (k + 1) mid
   placing_turn {l} is e a =
       let d : LiesAt s p l = found_lies by s p is e in
@@ -104,23 +102,23 @@ module _ (by : By) (s origins : List ℕ) {buffer out : List ℕ} {p k to : ℕ}
         near = omega (arith, i.near, a.near, d.starts, d.runs, d.ends);
         onward =
             i.onward
-            ∙ ap (λ (b : Answer (List Line)). map_done (λ t. i.text ++ t) (map_done (λ ls. place_rows ls (drop k origins)) b)) (lines_line (by_sound by) s p (told is e))
+            ∙ ap (λ (b : Answer (List Line)). map_done (λ t. i.text ++ t) (map_done (λ ls. place_rows ls (drop k origins)) b)) (lines_line (by_sound by) s p (told_back is e))
             ∙ ap (map_done (λ t. i.text ++ t)) (rows_line origins k l (lines_from (step_by by) s l.next))
             ∙ both i.text row (rest_shown by s origins l.next (k + 1));
       }
 
-  pub placing_end : r ≡ End → step_answer r ≡ step_by by s p → Stores (places_shown by s origins) buffer to out
+  pub placing_end : r ≡ Ok None → answered r ≡ step_by by s p → Stores (places_shown by s origins) buffer to out
   unfolding place_rows
   placing_end is e =
-      let all : places_shown by s origins ≡ done (i.text ++ []) = i.onward ∙ ap (λ (b : Answer (List Line)). map_done (λ t. i.text ++ t) (map_done (λ ls. place_rows ls (drop k origins)) b)) (lines_end (step_by by) s p (told is e)) in
+      let all : places_shown by s origins ≡ done (i.text ++ []) = i.onward ∙ ap (λ (b : Answer (List Line)). map_done (λ t. i.text ++ t) (map_done (λ ls. place_rows ls (drop k origins)) b)) (lines_end (step_by by) s p (told_back is e)) in
       record {
         stores = λ t f. let same : i.text ++ [] ≡ t = cc in put_as (sym (append-nil i.text) ∙ same) i.put;
         sized = put_long i.put;
       }
 
-  pub placing_refused : {m : Refusal} → r ≡ Refused m → step_answer r ≡ step_by by s p → Stores (places_shown by s origins) buffer to out
+  pub placing_refused : {m : Refusal} → r ≡ Err m → answered r ≡ step_by by s p → Stores (places_shown by s origins) buffer to out
   placing_refused {m} is e =
-      let all : places_shown by s origins ≡ refused (numbered m) = i.onward ∙ ap (λ (b : Answer (List Line)). map_done (λ t. i.text ++ t) (map_done (λ ls. place_rows ls (drop k origins)) b)) (lines_refused (step_by by) s p (told is e)) in
+      let all : places_shown by s origins ≡ refused (numbered m) = i.onward ∙ ap (λ (b : Answer (List Line)). map_done (λ t. i.text ++ t) (map_done (λ ls. place_rows ls (drop k origins)) b)) (lines_refused (step_by by) s p (told_back is e)) in
       record { stores = λ t f. let z : ◌≡◌ {A = ℕ} 0 1 = cc in absurd (omega arith); sized = put_long i.put }
 
 -- ---- the whole
@@ -128,7 +126,7 @@ module _ (by : By) (s origins : List ℕ) {buffer out : List ℕ} {p k to : ℕ}
 module _ (by : By) (s origins : List ℕ) {r : Checked} where
   pub checked_text_lem : {load lines : ℕ} → r ≡ Image load lines → answered r ≡ overview (step_by by) s → IsText (places_shown by s origins)
   unfolding places_shown overview
-  checked_text_lem {load} {lines} is e = go (lines_of (step_by by) s) (told_checked is e)
+  checked_text_lem {load} {lines} is e = go (lines_of (step_by by) s) (told_back is e)
     where
       go : (a : Answer (List Line)) → map_done (overview_of s) a ≡ answered (Image load lines) → IsText (map_done (λ ls. place_rows ls origins) a)
       go (done ls) f = tt
@@ -137,7 +135,7 @@ module _ (by : By) (s origins : List ℕ) {r : Checked} where
   pub checked_none : {m : Refusal} (out : List ℕ) → r ≡ RefusedImage m → answered r ≡ overview (step_by by) s
       → ◌≡◌ {A = Lent} (record { answer = refused (numbered m); buffer = out }) (into_buffer (places_shown by s origins) out)
   unfolding places_shown overview into_buffer
-  checked_none {m} out is e = go (lines_of (step_by by) s) (told_checked is e)
+  checked_none {m} out is e = go (lines_of (step_by by) s) (told_back is e)
     where
       go : (a : Answer (List Line)) → map_done (overview_of s) a ≡ refused (numbered m)
           → ◌≡◌ {A = Lent} (record { answer = refused (numbered m); buffer = out }) (into_buffer (map_done (λ ls. place_rows ls origins) a) out)

@@ -3,10 +3,10 @@
 #![tactic(auto)]
 
 ghost use Rattle.std.specs.Prelude.{◌≡◌};
-ghost use Rattle.image_readers.specs.Answers.{step_answer};
 ghost use Rattle.image_readers.specs.Bodies.{body_at};
 ghost use Rattle.image_readers.specs.Terminators.{terminator_step};
 ghost use Rattle.image_walk.specs.Places.{walk_at, behind};
+ghost use Rattle.base_refusals.specs.Answer.{answered};
 
 
 // An image, and the offset at which the walk stands.
@@ -25,7 +25,7 @@ pub fn start<'a>(image: &'a [u8]) -> Walk<'a>
 
 // What stands at a walk's place: a line, the end, or the refusal.
 pub fn step<'a>(walk: Walk<'a>) -> Result<Option<Line>, Refusal>
-    ensures { step_answer result ≡ terminator_step walk.entry.image.now walk.entry.offset }
+    ensures { answered result ≡ terminator_step walk.entry.image.now walk.entry.offset }
 {
     image_readers::terminators::step(walk.image, walk.offset)
 }
@@ -56,7 +56,7 @@ pub fn place<'a>(walk: Walk<'a>) -> usize
 
 // What stands at an image's first line, for a caller that keeps no walk.
 pub fn first_step(image: &[u8]) -> Result<Option<Line>, Refusal>
-    ensures { step_answer result ≡ terminator_step image.now 2 }
+    ensures { answered result ≡ terminator_step image.now 2 }
 {
     step(start(image))
 }

@@ -16,19 +16,19 @@ use Rattle.image_readers.specs.declared.By.{By}
 use Rattle.image_readers.specs.declared.Checked.{Checked}
 use Rattle.image_readers.specs.declared.Checked.TheVariants.{Image, Refused}
 use Rattle.image_readers.specs.declared.Line.{Line}
-use Rattle.image_readers.specs.Image.{Found, line, end}
 use Rattle.image_readers.specs.NumberedBody.{NumberedBody}
 use Rattle.image_readers.specs.Bodies.{body_of, numbered_body, bodies_from}
 use Rattle.image_readers.specs.Lines.{overview, overview_of}
 use Rattle.image_readers.specs.Readers.{step_by}
 use Rattle.image_readers.proofs.Equations.{LiesAt, by_lines}
-use Rattle.image_readers.proofs.Finding.{told_checked}
+use Rattle.base_refusals.proofs.Tight.{told_back}
 use Rattle.image_readers.proofs.Reading.{overview_bodies, bodies_line, bodies_end, bodies_refused, body_length_lem}
 use Rattle.image_readers.proofs.Steps.{by_sound}
 use Rattle.image_units.specs.declared.Rules.{Rules}
 use Rattle.list_lines.specs.Body.{line_listing}
 use Rattle.list_image.specs.Listing.{lines_listing, listing_by}
 use Rattle.list_lines.proofs.Lining.{line_short}
+use Rattle.std.specs.Prelude.{Option, Some, None}
 
 module _ (by : By) (rules : Rules) (image : List ℕ) (bytes : (i : ℕ) → get_or image i 0 < 256) where
   abbrev from : ℕ → Answer (List NumberedBody)
@@ -48,12 +48,12 @@ module _ (by : By) (rules : Rules) (image : List ℕ) (bytes : (i : ℕ) → get
       (arith, length-append shown (lines_listing rules bs), line_short rules l.number (body_of image l) small, body_length_lem d, d.starts, d.runs, d.ends, d.within)
   one_more p l d (refused n) h = tt
 
-  short_at : (p : ℕ) → ((l : Line) → step_by by image p ≡ done (line l) → Short l.next (from l.next))
-      → (f : Answer Found) → step_by by image p ≡ f → Short p (from p)
+  short_at : (p : ℕ) → ((l : Line) → step_by by image p ≡ done (Some l) → Short l.next (from l.next))
+      → (f : Answer (Option Line)) → step_by by image p ≡ f → Short p (from p)
   unfolding lines_listing
-  short_at p h (done (line l)) e =
+  short_at p h (done (Some l)) e =
       subst (Short p) (sym (bodies_line (by_sound by) image p e)) (one_more p l ((by_sound by).lies image p e) (from l.next) (h l e))
-  short_at p h (done end) e = subst (Short p) (sym (bodies_end (step_by by) image p e)) (omega arith)
+  short_at p h (done None) e = subst (Short p) (sym (bodies_end (step_by by) image p e)) (omega arith)
   short_at p h (refused n) e = subst (Short p) (sym (bodies_refused (step_by by) image p e)) tt
 
   short_from : (p : ℕ) → Short p (from p)
@@ -73,14 +73,14 @@ overview_by : (by : By) (image : List ℕ) {a : Answer (List NumberedBody)} → 
 overview_by by image f = overview_bodies (step_by by) image ∙ ap (map_done (overview_of image)) f
 
 module _ (by : By) (rules : Rules) (image buffer : List ℕ) {r : Checked} (e : answered r ≡ overview (step_by by) image) where
-  -- an image that was read to its end has a listing, and the buffer has room for it
+  -- an image that was read to its None has a listing, and the buffer has room for it
   pub ninefold_room : {load lines : ℕ} → r ≡ Image load lines → length image ≤ length buffer / 9 → ((i : ℕ) → Fits w8 (get_or image i 0)) → HasRoom buffer (listing_by by rules image)
   unfolding listing_by
   ninefold_room is few bytes = go (bodies_from (step_by by) image 2) refl
     where
       go : (a : Answer (List NumberedBody)) → bodies_from (step_by by) image 2 ≡ a → HasRoom buffer (map_done (lines_listing rules) a)
       go (done bs) f = record { room = omega (arith, listing_short by rules image (λ i. omega (arith, (bytes i).fits)) (ap (map_done (lines_listing rules)) f)) }
-      go (refused n) f = let z : ◌≡◌ {A = ℕ} 0 1 = cc (overview_by by image f, told_checked is e) in absurd (omega arith)
+      go (refused n) f = let z : ◌≡◌ {A = ℕ} 0 1 = cc (overview_by by image f, told_back is e) in absurd (omega arith)
 
   -- one that was refused has none
   pub ninefold_refused : {n : Refusal} → r ≡ Refused n → ◌≡◌ {A = Lent} (record { answer = refused (numbered n); buffer = buffer }) (into_buffer (listing_by by rules image) buffer)
@@ -88,5 +88,5 @@ module _ (by : By) (rules : Rules) (image buffer : List ℕ) {r : Checked} (e : 
   ninefold_refused {n} is = into_refused buffer (listing_by by rules image) (go (bodies_from (step_by by) image 2) refl)
     where
       go : (a : Answer (List NumberedBody)) → bodies_from (step_by by) image 2 ≡ a → refused (numbered n) ≡ room_for (map_done (lines_listing rules) a)
-      go (done bs) f = let z : ◌≡◌ {A = ℕ} 0 1 = cc (overview_by by image f, told_checked is e) in absurd (omega arith)
-      go (refused m) f = cc (overview_by by image f, told_checked is e)
+      go (done bs) f = let z : ◌≡◌ {A = ℕ} 0 1 = cc (overview_by by image f, told_back is e) in absurd (omega arith)
+      go (refused m) f = cc (overview_by by image f, told_back is e)

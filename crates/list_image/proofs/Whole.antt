@@ -13,16 +13,14 @@ use Rattle.base_refusals.specs.Numbers.{no_room}
 use Rattle.base_lent.specs.Lent.{Lent, into_buffer, room_for}
 use Rattle.base_lent.specs.Stores.{Room, Put, HasRoom}
 use Rattle.base_lent.proofs.Storing.{room_first, room_second, put_both}
-use Rattle.base_lent.proofs.Outcomes.{told_outcome, has_room, into_refused, into_none, into_done}
+use Rattle.base_refusals.proofs.Tight.{told}
+use Rattle.base_lent.proofs.Outcomes.{has_room, into_refused, into_none, into_done}
 use Rattle.image_readers.specs.declared.By.{By}
 use Rattle.image_readers.specs.declared.Line.{Line}
-use Rattle.image_readers.specs.declared.Step.{Step}
-use Rattle.image_readers.specs.declared.Step.TheVariants.{Found, End, Refused}
-use Rattle.image_readers.specs.Answers.{step_answer}
 use Rattle.image_readers.specs.NumberedBody.{NumberedBody}
 use Rattle.image_readers.specs.Bodies.{body_of, numbered_body, bodies_from}
 use Rattle.image_readers.specs.Readers.{step_by}
-use Rattle.image_readers.proofs.Finding.{told}
+use Rattle.base_refusals.proofs.Tight.{told_back}
 use Rattle.image_readers.proofs.Reading.{bodies_line, bodies_end, bodies_refused, body_length_lem}
 use Rattle.image_readers.proofs.Steps.{by_sound, found_lies}
 use Rattle.image_units.specs.declared.Rules.{Rules}
@@ -34,6 +32,7 @@ use Rattle.list_options.specs.declared.ListOptions.{ListOptions}
 use Rattle.list_image.specs.Listing.{lines_listing, listing_by, listing, listing_under}
 use Rattle.list_lines.proofs.Lining.{line_parts}
 use Rattle.std.specs.Prelude.{Result, Ok, Err}
+use Rattle.std.specs.Prelude.{Option, Some, None}
 
 -- what is left to list of an image, from an offset on
 abbrev left_from : By → Rules → List ℕ → ℕ → Answer (List ℕ)
@@ -43,18 +42,18 @@ left_from by rules image p = map_done (lines_listing rules) (bodies_from (step_b
 abbrev line_shown : Rules → List ℕ → Line → List ℕ
 line_shown rules image l = line_listing rules l.number (body_of image l)
 
-module _ (by : By) (rules : Rules) (image : List ℕ) (p : ℕ) {r : Step} where
-  left_end : r ≡ End → step_answer r ≡ step_by by image p → left_from by rules image p ≡ done []
+module _ (by : By) (rules : Rules) (image : List ℕ) (p : ℕ) {r : Result (Option Line) Refusal} where
+  left_end : r ≡ Ok None → answered r ≡ step_by by image p → left_from by rules image p ≡ done []
   unfolding lines_listing
-  left_end is e = ap (map_done (lines_listing rules)) (bodies_end (step_by by) image p (told is e))
+  left_end is e = ap (map_done (lines_listing rules)) (bodies_end (step_by by) image p (told_back is e))
 
-  left_refused : {n : Refusal} → r ≡ Refused n → step_answer r ≡ step_by by image p → left_from by rules image p ≡ refused (numbered n)
-  left_refused is e = ap (map_done (lines_listing rules)) (bodies_refused (step_by by) image p (told is e))
+  left_refused : {n : Refusal} → r ≡ Err n → answered r ≡ step_by by image p → left_from by rules image p ≡ refused (numbered n)
+  left_refused is e = ap (map_done (lines_listing rules)) (bodies_refused (step_by by) image p (told_back is e))
 
-  module _ {l : Line} (is : r ≡ Found l) (e : step_answer r ≡ step_by by image p) where
+  module _ {l : Line} (is : r ≡ Ok (Some l)) (e : answered r ≡ step_by by image p) where
     left_line : left_from by rules image p ≡ map_done (λ rest. line_shown rules image l ++ rest) (left_from by rules image l.next)
     unfolding lines_listing
-    left_line = ap (map_done (lines_listing rules)) (bodies_line (by_sound by) image p (told is e)) ∙ go (bodies_from (step_by by) image l.next)
+    left_line = ap (map_done (lines_listing rules)) (bodies_line (by_sound by) image p (told_back is e)) ∙ go (bodies_from (step_by by) image l.next)
       where
         go : (a : Answer (List NumberedBody)) → map_done (lines_listing rules) (map_done (λ bs. numbered_body image l ∷ bs) a)
             ≡ map_done (λ rest. line_shown rules image l ++ rest) (map_done (lines_listing rules) a)
@@ -62,9 +61,9 @@ module _ (by : By) (rules : Rules) (image : List ℕ) (p : ℕ) {r : Step} where
         go (refused n) = refl
 
 -- a body that was found is no longer than an image
-pub found_short : (by : By) (s : List ℕ) (p : ℕ) {r : Step} {l : Line} → r ≡ Found l → step_answer r ≡ step_by by s p → length (body_of s l) ≤ 1048576
+pub found_short : (by : By) (s : List ℕ) (p : ℕ) {r : Result (Option Line) Refusal} {l : Line} → r ≡ Ok (Some l) → answered r ≡ step_by by s p → length (body_of s l) ≤ 1048576
 found_short by s p {r} {l} is e =
-    let d = found_lies by s p is e in omega (arith, body_length_lem d, d.ends, d.within, (by_sound by).not_too_long s p (told is e))
+    let d = found_lies by s p is e in omega (arith, body_length_lem d, d.ends, d.within, (by_sound by).not_too_long s p (told_back is e))
 
 -- ---- counting
 
@@ -81,8 +80,8 @@ counted_start by rules image = record { short = omega arith; gives = go (left_fr
     go (done rest) = ap done (omega arith)
     go (refused n) = refl
 
-module _ {by : By} {rules : Rules} {image : List ℕ} {p n : ℕ} (k : LinesCounted by rules image p n) {r : Step} where
-  module _ {l : Line} {m : ℕ} (is : r ≡ Found l) (e : step_answer r ≡ step_by by image p) (long : LineLength rules l.number (body_of image l) m) where
+module _ {by : By} {rules : Rules} {image : List ℕ} {p n : ℕ} (k : LinesCounted by rules image p n) {r : Result (Option Line) Refusal} where
+  module _ {l : Line} {m : ℕ} (is : r ≡ Ok (Some l)) (e : answered r ≡ step_by by image p) (long : LineLength rules l.number (body_of image l) m) where
     pub counted_turn : LinesCounted by rules image l.next (n + m)
     counted_turn =
         let d = found_lies by image p is e in
@@ -99,12 +98,12 @@ module _ {by : By} {rules : Rules} {image : List ℕ} {p n : ℕ} (k : LinesCoun
     pub counted_fits : Fits w64 (n + m)
     counted_fits =
         let d = found_lies by image p is e in
-        record { fits = omega (arith, counted_turn.short, d.within, (by_sound by).not_too_long image p (told is e)) }
+        record { fits = omega (arith, counted_turn.short, d.within, (by_sound by).not_too_long image p (told_back is e)) }
 
-  pub counted_end : r ≡ End → step_answer r ≡ step_by by image p → done n ≡ room_for (listing_by by rules image)
+  pub counted_end : r ≡ Ok None → answered r ≡ step_by by image p → done n ≡ room_for (listing_by by rules image)
   counted_end is e = ap done (omega arith) ∙ sym (ap (map_done (λ rest. n + length rest)) (left_end by rules image p is e)) ∙ k.gives
 
-  pub counted_refused : {q : Refusal} → r ≡ Refused q → step_answer r ≡ step_by by image p → refused (numbered q) ≡ room_for (listing_by by rules image)
+  pub counted_refused : {q : Refusal} → r ≡ Err q → answered r ≡ step_by by image p → refused (numbered q) ≡ room_for (listing_by by rules image)
   counted_refused is e = sym (ap (map_done (λ rest. n + length rest)) (left_refused by rules image p is e)) ∙ k.gives
 
 -- ---- storing
@@ -124,8 +123,8 @@ written_start by rules image buffer room = go (listing_by by rules image) refl r
     go (done bytes) e has = record { whole = bytes; left = bytes; is_whole = e; is_left = e; owed = owed_start has }
     go (refused n) e has = absurd has
 
-module _ {by : By} {rules : Rules} {image buffer : List ℕ} {p : ℕ} {out : List ℕ} {at : ℕ} (k : LinesWritten by rules image buffer p out at) {r : Step} where
-  module _ {l : Line} (is : r ≡ Found l) (e : step_answer r ≡ step_by by image p) where
+module _ {by : By} {rules : Rules} {image buffer : List ℕ} {p : ℕ} {out : List ℕ} {at : ℕ} (k : LinesWritten by rules image buffer p out at) {r : Result (Option Line) Refusal} where
+  module _ {l : Line} (is : r ≡ Ok (Some l)) (e : answered r ≡ step_by by image p) where
     -- the line, and what is left behind it
     record Parts : Type 0 where
       rest : List ℕ
@@ -164,13 +163,13 @@ module _ {by : By} {rules : Rules} {image buffer : List ℕ} {p : ℕ} {out : Li
             owed = owed_turn k.owed line_text split.rest split.parts (put_both (head_listing l.number) (rest_listing rules (body_of image l)) q t);
           }
 
-  pub written_end : r ≡ End → step_answer r ≡ step_by by image p → ◌≡◌ {A = Lent} (record { answer = done at; buffer = out }) (into_buffer (listing_by by rules image) buffer)
+  pub written_end : r ≡ Ok None → answered r ≡ step_by by image p → ◌≡◌ {A = Lent} (record { answer = done at; buffer = out }) (into_buffer (listing_by by rules image) buffer)
   written_end is e =
       let none : k.left ≡ [] = cc (left_end by rules image p is e, k.is_left) in
       into_done buffer (listing_by by rules image) (sym k.is_whole) (subst (HasRoom buffer) (sym k.is_whole) (record { room = k.owed.fits })) (owed_end k.owed none)
 
   -- an image that has a listing is refused nowhere
-  pub written_refused : {n : Refusal} → r ≡ Refused n → step_answer r ≡ step_by by image p → ⊥
+  pub written_refused : {n : Refusal} → r ≡ Err n → answered r ≡ step_by by image p → ⊥
   written_refused is e = let z : ◌≡◌ {A = ℕ} 0 1 = cc (left_refused by rules image p is e, k.is_left) in omega arith
 
 pub written_long : {by : By} {rules : Rules} {image buffer : List ℕ} {p : ℕ} {out : List ℕ} {at : ℕ} → LinesWritten by rules image buffer p out at → length out ≡ length buffer
@@ -180,15 +179,15 @@ written_long k = k.owed.long
 
 module _ (by : By) (rules : Rules) (image buffer : List ℕ) {r : (Result ℕ Refusal)} (e : answered r ≡ room_for (listing_by by rules image)) where
   pub room_there : {n : ℕ} → r ≡ Ok n → n ≤ length buffer → HasRoom buffer (listing_by by rules image)
-  room_there is h = has_room buffer (listing_by by rules image) (told_outcome is e) h
+  room_there is h = has_room buffer (listing_by by rules image) (told_back is e) h
 
   pub no_room_lem : {n : ℕ} → r ≡ Ok n → length buffer < n
       → ◌≡◌ {A = Lent} (record { answer = refused (no_room n); buffer = buffer }) (into_buffer (listing_by by rules image) buffer)
-  no_room_lem is h = into_none buffer (listing_by by rules image) (told_outcome is e) h
+  no_room_lem is h = into_none buffer (listing_by by rules image) (told_back is e) h
 
   pub no_listing : {n : Refusal} → r ≡ Err n
       → ◌≡◌ {A = Lent} (record { answer = refused (numbered n); buffer = buffer }) (into_buffer (listing_by by rules image) buffer)
-  no_listing is = into_refused buffer (listing_by by rules image) (told_outcome is e)
+  no_listing is = into_refused buffer (listing_by by rules image) (told_back is e)
 
 -- ---- as the options ask for it
 

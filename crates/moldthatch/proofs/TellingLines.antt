@@ -9,9 +9,6 @@ use Rattle.base_refusals.specs.declared.Code.{Code}
 use Rattle.base_refusals.specs.declared.Refusal.{Refusal}
 use Rattle.word_dialects.specs.Dialects.{by_number}
 use Rattle.word_dialects.specs.declared.Dialect.{Dialect}
-use Rattle.image_readers.specs.Answers.{step_answer}
-use Rattle.image_readers.specs.Image.{Found}
-use Rattle.image_readers.specs.declared.Step.{Step}
 use Rattle.image_find.specs.Sought.{Visit, sought_answer}
 use Rattle.image_find.specs.declared.Sought.{Sought}
 use Rattle.crunch_rules.specs.declared.Options.{Options}
@@ -24,16 +21,18 @@ use Rattle.moldthatch.specs.Given.{measured_with}
 use Rattle.moldthatch.specs.ToldLines.{no_line, step_code, visit_code, measured_code}
 use Rattle.moldthatch.proofs.TellingOptions.{of_known, of_unknown}
 use Rattle.std.specs.Prelude.{Result, Ok, Err}
+use Rattle.std.specs.Prelude.{Option}
+use Rattle.image_readers.specs.declared.Line.{Line}
 
 -- none, for a refusal
 pub tells_none : (r : Refusal) {k : Code} → k ≡ code_of (numbered r) → {c : LineCode} → c ≡ no_line k → c ≡ no_line (code_of (numbered r))
 tells_none r code made = made ∙ ap no_line code
 
 module _ {c : LineCode} where
-  pub tells_step : (r : Step) {m : Step} → r ≡ m → c ≡ step_code (step_answer m) → c ≡ step_code (step_answer r)
-  tells_step r e code = code ∙ ap (λ (x : Step). step_code (step_answer x)) (sym e)
+  pub tells_step : (r : Result (Option Line) Refusal) {m : Result (Option Line) Refusal} → r ≡ m → c ≡ step_code (answered m) → c ≡ step_code (answered r)
+  tells_step r e code = code ∙ ap (λ (x : Result (Option Line) Refusal). step_code (answered x)) (sym e)
 
-  pub tells_found : (r : Step) → c ≡ step_code (step_answer r) → {a : Answer Found} → step_answer r ≡ a → c ≡ step_code a
+  pub tells_found : (r : Result (Option Line) Refusal) → c ≡ step_code (answered r) → {a : Answer (Option Line)} → answered r ≡ a → c ≡ step_code a
   tells_found r code q = code ∙ ap step_code q
 
   pub tells_sought : (r : Sought) {m : Sought} → r ≡ m → c ≡ visit_code (sought_answer m) → c ≡ visit_code (sought_answer r)

@@ -5,7 +5,6 @@ use Rattle.std.specs.Prelude.{Option, None, Some}
 use Rattle.base_refusals.specs.Answer.{Answer, done, refused}
 use Rattle.base_refusals.specs.Code.{answer_code}
 use Rattle.base_refusals.specs.declared.Code.{Code}
-use Rattle.image_readers.specs.Image.{Found, line, end}
 use Rattle.image_readers.specs.declared.Line.{Line}
 use Rattle.image_find.specs.Sought.{Visit, at, nowhere}
 use Rattle.crunch_rules.specs.declared.MeasuredLine.{MeasuredLine}
@@ -28,9 +27,9 @@ abbrev pub no_line : Code → LineCode
 no_line code = record { code = code; found = 0; link = 0; number = 0; address = 0; from = 0; to = 0; next = 0 }
 
 -- a step: a line, or the end
-abbrev pub step_code : Answer Found → LineCode
-step_code (done (line l)) = line_code (answer_code (done [])) l
-step_code (done end) = no_line (answer_code (done []))
+abbrev pub step_code : Answer (Option Line) → LineCode
+step_code (done (Some l)) = line_code (answer_code (done [])) l
+step_code (done None) = no_line (answer_code (done []))
 step_code (refused n) = no_line (answer_code (refused n))
 
 -- a search, with the headers visited

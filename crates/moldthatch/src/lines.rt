@@ -2,7 +2,6 @@
 ghost use Rattle.std.specs.Prelude.{◌≡◌};
 ghost use Rattle.base_refusals.specs.Answer.{numbered, answered};
 ghost use Rattle.base_refusals.specs.Code.{code_of};
-ghost use Rattle.image_readers.specs.Answers.{step_answer};
 ghost use Rattle.image_readers.specs.Links.{link_step};
 ghost use Rattle.image_readers.specs.Terminators.{terminator_step};
 ghost use Rattle.image_find.specs.Sought.{line_sought, sought_answer};
@@ -71,7 +70,7 @@ pub extern "C" fn moldthatch_measured_line(
 }
 
 fn step_code(step: Result<Option<Line>, Refusal>) -> LineCode
-    ensures { result ≡ step_code (step_answer step) }
+    ensures { result ≡ step_code (answered step) }
 {
     match step {
         Ok(Some(line)) => line_code(0, 0, line),

@@ -12,8 +12,8 @@ use Rattle.base_refusals.specs.Answer.{answered}
 by-case : {r x : (Result ℕ Refusal)} {k : Code} → k ≡ length_code (answered x) → r ≡ x → k ≡ length_code (answered r)
 by-case p e = p ∙ ap (λ (y : Result ℕ Refusal). length_code (answered y)) (sym e)
 
-pub returns-in-Done : goal.returns-in-Done
-returns-in-Done c = by-case c.with_one.ensures c.in-Done.is
+pub returns-in-Ok : goal.returns-in-Ok
+returns-in-Ok c = by-case c.with_one.ensures c.in-Ok.is
 
-pub returns-in-Refused : goal.returns-in-Refused
-returns-in-Refused c = by-case c.refusal_code.ensures c.in-Refused.is
+pub returns-in-Err : goal.returns-in-Err
+returns-in-Err c = by-case c.refusal_code.ensures c.in-Err.is

@@ -6,8 +6,8 @@ use Rattle.body_short_forms.proofs.short_form.Goals as goal
 pub slice_bounds-form_letters-end : goal.slice_bounds-form_letters-end
 slice_bounds-form_letters-end c = search cut_count
 
-pub returns-in-Word : goal.returns-in-Word
-returns-in-Word c = search form_found
+pub returns-in-Some : goal.returns-in-Some
+returns-in-Some c = search form_found
 
-pub returns-in-Nothing : goal.returns-in-Nothing
-returns-in-Nothing c = search form_none
+pub returns-in-None : goal.returns-in-None
+returns-in-None c = search form_none

@@ -6,8 +6,8 @@ use Rattle.body_short_forms.proofs.tsb_there.Goals as goal
 pub returns-then-not-sets : goal.returns-then-not-sets
 returns-then-not-sets c = search tsb_off
 
-pub returns-in-Word : goal.returns-in-Word
-returns-in-Word c = search tsb_word
+pub returns-in-Some : goal.returns-in-Some
+returns-in-Some c = search tsb_word
 
-pub returns-in-Nothing : goal.returns-in-Nothing
-returns-in-Nothing c = search tsb_none
+pub returns-in-None : goal.returns-in-None
+returns-in-None c = search tsb_none

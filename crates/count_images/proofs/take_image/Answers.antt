@@ -13,8 +13,8 @@ count_image-requires c = search room_left
 pub raise-requires-in-Refused : goal.raise-requires-in-Refused
 raise-requires-in-Refused c = (search rules, search once_more)
 
-pub returns-in-Image : goal.returns-in-Image
-returns-in-Image c = search image_counted
+pub returns-in-Ok : goal.returns-in-Ok
+returns-in-Ok c = search image_counted
 
 pub returns-in-Refused : goal.returns-in-Refused
 returns-in-Refused c = search image_apart

@@ -3,8 +3,8 @@
 use Rattle.crunch_image.proofs.Whole.{whole_fine, whole_outside}
 use Rattle.crunch_image.proofs.crunch_with.Goals as goal
 
-pub returns-in-Fine : goal.returns-in-Fine
-returns-in-Fine c = search whole_fine
+pub returns-in-Ok : goal.returns-in-Ok
+returns-in-Ok c = search whole_fine
 
-pub returns-in-Refused : goal.returns-in-Refused
-returns-in-Refused c = search whole_outside
+pub returns-in-Err : goal.returns-in-Err
+returns-in-Err c = search whole_outside

@@ -13,11 +13,11 @@ returns-then-fits c = search (fits_put, not-true)
 pub returns-then-needed-out : goal.returns-then-needed-out
 returns-then-needed-out c = search room_short
 
-pub write-requires-in-Done : goal.write-requires-in-Done
-write-requires-in-Done c = search room_enough
+pub write-requires-in-Ok : goal.write-requires-in-Ok
+write-requires-in-Ok c = search room_enough
 
 pub returns-else-needed-out : goal.returns-else-needed-out
 returns-else-needed-out c = search room_put
 
-pub returns-in-Refused : goal.returns-in-Refused
-returns-in-Refused c = search room_refused
+pub returns-in-Err : goal.returns-in-Err
+returns-in-Err c = search room_refused

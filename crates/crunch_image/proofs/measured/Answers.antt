@@ -3,8 +3,8 @@
 use Rattle.crunch_image.proofs.Whole.{measured_fine, measured_outside}
 use Rattle.crunch_image.proofs.measured.Goals as goal
 
-pub returns-in-Fine : goal.returns-in-Fine
-returns-in-Fine c = search measured_fine
+pub returns-in-Ok : goal.returns-in-Ok
+returns-in-Ok c = search measured_fine
 
-pub returns-in-Refused : goal.returns-in-Refused
-returns-in-Refused c = search measured_outside
+pub returns-in-Err : goal.returns-in-Err
+returns-in-Err c = search measured_outside

@@ -20,8 +20,8 @@ slice_bounds-measure_line-end c = search line_high
 pub line_between-line-requires : goal.line_between-line-requires
 line_between-line-requires c = search measured_span
 
-pub returns-in-Refused : goal.returns-in-Refused
-returns-in-Refused c = search measured_refused
+pub returns-in-Err : goal.returns-in-Err
+returns-in-Err c = search measured_refused
 
 pub loop-at-smaller-in-Blank : goal.loop-at-smaller-in-Blank
 loop-at-smaller-in-Blank c = search line_less

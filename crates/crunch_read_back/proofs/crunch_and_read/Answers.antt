@@ -6,11 +6,11 @@ use Rattle.crunch_read_back.proofs.crunch_and_read.Goals as goal
 pub slice_bounds-check-end : goal.slice_bounds-check-end
 slice_bounds-check-end c = search image_fits
 
-pub slice_bounds-check-end-in-Done : goal.slice_bounds-check-end-in-Done
-slice_bounds-check-end-in-Done c = search image_long
+pub slice_bounds-check-end-in-Ok : goal.slice_bounds-check-end-in-Ok
+slice_bounds-check-end-in-Ok c = search image_long
 
-pub returns-in-Done : goal.returns-in-Done
-returns-in-Done c = search image_made
+pub returns-in-Ok : goal.returns-in-Ok
+returns-in-Ok c = search image_made
 
-pub returns-in-Refused : goal.returns-in-Refused
-returns-in-Refused c = search image_none
+pub returns-in-Err : goal.returns-in-Err
+returns-in-Err c = search image_none

@@ -25,14 +25,14 @@ slice_bounds-holds_zero-end c = search body_within
 pub returns-in-Blank : goal.returns-in-Blank
 returns-in-Blank c = search sized_blank
 
-pub returns-in-Missing : goal.returns-in-Missing
-returns-in-Missing c = search sized_missing
+pub returns-in-None : goal.returns-in-None
+returns-in-None c = search sized_missing
 
 pub returns-in-OutOfRange : goal.returns-in-OutOfRange
 returns-in-OutOfRange c = search sized_range
 
-pub returns-in-Yes : goal.returns-in-Yes
-returns-in-Yes c = search sized_allowed
+pub returns-in-Ok : goal.returns-in-Ok
+returns-in-Ok c = search sized_allowed
 
-pub returns-in-Refused : goal.returns-in-Refused
-returns-in-Refused c = search sized_not
+pub returns-in-Err : goal.returns-in-Err
+returns-in-Err c = search sized_not

@@ -28,8 +28,8 @@ put_frame-requires c = search given_frame
 pub returns-in-Blank : goal.returns-in-Blank
 returns-in-Blank c = search blank_put
 
-pub returns-in-Missing : goal.returns-in-Missing
-returns-in-Missing c = search missing_put
+pub returns-in-None : goal.returns-in-None
+returns-in-None c = search missing_put
 
 pub returns-in-OutOfRange : goal.returns-in-OutOfRange
 returns-in-OutOfRange c = search range_put

@@ -15,5 +15,5 @@ bounds-files-at c = search locate_in
 pub returns-else-at-count : goal.returns-else-at-count
 returns-else-at-count c = search locate_at
 
-pub returns-in-Refused : goal.returns-in-Refused
-returns-in-Refused c = search locate_refused
+pub returns-in-Err : goal.returns-in-Err
+returns-in-Err c = search locate_refused

@@ -6,8 +6,8 @@ use Rattle.disk.proofs.read.Goals as goal
 pub read_entry-requires : goal.read_entry-requires
 read_entry-requires c = search (found_long, found_in)
 
-pub returns-in-At : goal.returns-in-At
-returns-in-At c = search read_at_lem
+pub returns-in-Some : goal.returns-in-Some
+returns-in-Some c = search read_at_lem
 
-pub returns-in-Refused : goal.returns-in-Refused
-returns-in-Refused c = search read_refused
+pub returns-in-Err : goal.returns-in-Err
+returns-in-Err c = search read_refused

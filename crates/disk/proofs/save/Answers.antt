@@ -24,5 +24,5 @@ save_new-requires c = (search known_size, search known_chain, search known_long,
 pub returns-else-count-gt143 : goal.returns-else-count-gt143
 returns-else-count-gt143 c = search save_on
 
-pub returns-in-Refused : goal.returns-in-Refused
-returns-in-Refused c = search save_refused
+pub returns-in-Err : goal.returns-in-Err
+returns-in-Err c = search save_refused

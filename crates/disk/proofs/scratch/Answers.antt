@@ -6,8 +6,8 @@ use Rattle.disk.proofs.scratch.Goals as goal
 pub scratch_entry-requires : goal.scratch_entry-requires
 scratch_entry-requires c = search (found_long, found_in)
 
-pub returns-in-At : goal.returns-in-At
-returns-in-At c = search scratch_at
+pub returns-in-Some : goal.returns-in-Some
+returns-in-Some c = search scratch_at
 
-pub returns-in-Refused : goal.returns-in-Refused
-returns-in-Refused c = search scratch_refused
+pub returns-in-Err : goal.returns-in-Err
+returns-in-Err c = search scratch_refused

@@ -7,8 +7,8 @@ use Rattle.disk_names.proofs.text_of.Goals as goal
 pub behind-requires : goal.behind-requires
 behind-requires c = search mark_within
 
-pub returns-in-At : goal.returns-in-At
-returns-in-At c = search text_named
+pub returns-in-Some : goal.returns-in-Some
+returns-in-Some c = search text_named
 
-pub returns-in-Nowhere : goal.returns-in-Nowhere
-returns-in-Nowhere c = search text_unnamed
+pub returns-in-None : goal.returns-in-None
+returns-in-None c = search text_unnamed

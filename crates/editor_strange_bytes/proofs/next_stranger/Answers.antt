@@ -18,8 +18,8 @@ slice_bounds-strange-start c = search bad_within
 pub overflow_add-result : goal.overflow_add-result
 overflow_add-result c = search bad_fits
 
-pub returns-in-Fine : goal.returns-in-Fine
-returns-in-Fine c = search (stranger_fine, stranger_there)
+pub returns-in-Ok : goal.returns-in-Ok
+returns-in-Ok c = search (stranger_fine, stranger_there)
 
-pub returns-in-Refused : goal.returns-in-Refused
-returns-in-Refused c = search (stranger_fine, stranger_there)
+pub returns-in-Err : goal.returns-in-Err
+returns-in-Err c = search (stranger_fine, stranger_there)

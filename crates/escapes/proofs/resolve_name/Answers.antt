@@ -10,17 +10,17 @@ returns-then-name-eq0 c = search name_empty
 pub overflow_cast-result : goal.overflow_cast-result
 overflow_cast-result c = search decimal_byte
 
-pub overflow_cast-result-in-Value-hex_number : goal.overflow_cast-result-in-Value-hex_number
-overflow_cast-result-in-Value-hex_number c = search hex_byte_lem
+pub overflow_cast-result-in-Some-hex_number : goal.overflow_cast-result-in-Some-hex_number
+overflow_cast-result-in-Some-hex_number c = search hex_byte_lem
 
-pub returns-in-Value : goal.returns-in-Value
-returns-in-Value c = search (name_decimal, c.if-name-eq0.false)
+pub returns-in-Some : goal.returns-in-Some
+returns-in-Some c = search (name_decimal, c.if-name-eq0.false)
 
-pub returns-in-Value-hex_number : goal.returns-in-Value-hex_number
-returns-in-Value-hex_number c = search (name_hex, c.if-name-eq0.false)
+pub returns-in-Some-hex_number : goal.returns-in-Some-hex_number
+returns-in-Some-hex_number c = search (name_hex, c.if-name-eq0.false)
 
-pub returns-in-Word : goal.returns-in-Word
-returns-in-Word c = search (name_listed, c.if-name-eq0.false)
+pub returns-in-Some : goal.returns-in-Some
+returns-in-Some c = search (name_listed, c.if-name-eq0.false)
 
-pub returns-in-Nothing : goal.returns-in-Nothing
-returns-in-Nothing c = search (name_keyed, c.if-name-eq0.false)
+pub returns-in-None : goal.returns-in-None
+returns-in-None c = search (name_keyed, c.if-name-eq0.false)

@@ -13,5 +13,5 @@ slice_bounds-solid_length-end c = search star_taken
 pub returns-else-count-eq0 : goal.returns-else-count-eq0
 returns-else-count-eq0 c = search (starred_counted, c.if-count-eq0.false)
 
-pub returns-in-Missing : goal.returns-in-Missing
-returns-in-Missing c = search starred_missing
+pub returns-in-None : goal.returns-in-None
+returns-in-None c = search starred_missing

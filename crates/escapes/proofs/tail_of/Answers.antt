@@ -13,8 +13,8 @@ returns-then-not-may_end_in_count c = search tail_countless
 pub starred_tail-requires : goal.starred_tail-requires
 starred_tail-requires c = search star_within
 
-pub returns-in-At : goal.returns-in-At
-returns-in-At c = search tail_starred
+pub returns-in-Some : goal.returns-in-Some
+returns-in-Some c = search tail_starred
 
-pub returns-in-Nowhere : goal.returns-in-Nowhere
-returns-in-Nowhere c = search tail_unstarred
+pub returns-in-None : goal.returns-in-None
+returns-in-None c = search tail_unstarred

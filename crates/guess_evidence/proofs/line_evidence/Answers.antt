@@ -3,8 +3,8 @@
 use Rattle.guess_evidence.proofs.Steps.{evidence_somewhere, evidence_nowhere}
 use Rattle.guess_evidence.proofs.line_evidence.Goals as goal
 
-pub returns-in-At : goal.returns-in-At
-returns-in-At c = search evidence_somewhere
+pub returns-in-Some : goal.returns-in-Some
+returns-in-Some c = search evidence_somewhere
 
-pub returns-in-Nowhere : goal.returns-in-Nowhere
-returns-in-Nowhere c = search evidence_nowhere
+pub returns-in-None : goal.returns-in-None
+returns-in-None c = search evidence_nowhere

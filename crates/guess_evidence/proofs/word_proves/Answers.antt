@@ -6,8 +6,8 @@ use Rattle.guess_evidence.proofs.word_proves.Goals as goal
 pub proves-requires : goal.proves-requires
 proves-requires c = search word_within
 
-pub returns-in-Word : goal.returns-in-Word
-returns-in-Word c = search word_proves_lem
+pub returns-in-Some : goal.returns-in-Some
+returns-in-Some c = search word_proves_lem
 
-pub returns-in-Nothing : goal.returns-in-Nothing
-returns-in-Nothing c = search no_word_proves
+pub returns-in-None : goal.returns-in-None
+returns-in-None c = search no_word_proves

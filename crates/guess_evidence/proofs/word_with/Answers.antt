@@ -9,8 +9,8 @@ slice_bounds-list_place-count c = search place_within
 pub slice_bounds-list_place-start : goal.slice_bounds-list_place-start
 slice_bounds-list_place-start c = search place_within
 
-pub returns-in-At : goal.returns-in-At
-returns-in-At c = search word_told
+pub returns-in-Some : goal.returns-in-Some
+returns-in-Some c = search word_told
 
-pub returns-in-Nowhere : goal.returns-in-Nowhere
-returns-in-Nowhere c = search no_word_told
+pub returns-in-None : goal.returns-in-None
+returns-in-None c = search no_word_told

@@ -12,5 +12,5 @@ returns-then-is_name c = search pass_name
 pub returns-else-is_name : goal.returns-else-is_name
 returns-else-is_name c = search pass_word
 
-pub returns-in-Nothing : goal.returns-in-Nothing
-returns-in-Nothing c = search pass_nothing
+pub returns-in-None : goal.returns-in-None
+returns-in-None c = search pass_nothing

@@ -15,5 +15,5 @@ returns-in-Leaves c = search relink_leaves
 pub returns-in-Endless : goal.returns-in-Endless
 returns-in-Endless c = search relink_endless
 
-pub returns-in-Refused : goal.returns-in-Refused
-returns-in-Refused c = search relink_refused
+pub returns-in-Err : goal.returns-in-Err
+returns-in-Err c = search relink_refused

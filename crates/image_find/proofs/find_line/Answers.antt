@@ -34,5 +34,5 @@ returns-in-End c = search end_nowhere
 pub returns-then-limit-visited : goal.returns-then-limit-visited
 returns-then-limit-visited c = search fault_limit
 
-pub returns-in-Refused : goal.returns-in-Refused
-returns-in-Refused c = search fault_refused
+pub returns-in-Err : goal.returns-in-Err
+returns-in-Err c = search fault_refused

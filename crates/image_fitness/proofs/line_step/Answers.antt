@@ -9,5 +9,5 @@ in_line-requires c = search line_found
 pub returns-in-End : goal.returns-in-End
 returns-in-End c = search line_ended
 
-pub returns-in-Refused : goal.returns-in-Refused
-returns-in-Refused c = search line_refused
+pub returns-in-Err : goal.returns-in-Err
+returns-in-Err c = search line_refused

@@ -27,8 +27,8 @@ loop-line-smaller c = search lines_less
 pub loop-line-preserved : goal.loop-line-preserved
 loop-line-preserved c = search lines_turn
 
-pub returns-in-End : goal.returns-in-End
-returns-in-End c = search lines_end
+pub returns-in-Ok-None : goal.returns-in-Ok-None
+returns-in-Ok-None c = search lines_end
 
-pub returns-in-Refused : goal.returns-in-Refused
-returns-in-Refused c = search lines_fault
+pub returns-in-Err : goal.returns-in-Err
+returns-in-Err c = search lines_fault

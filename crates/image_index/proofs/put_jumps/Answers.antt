@@ -28,14 +28,14 @@ loop-line-smaller c = search jumps_less
 pub loop-line-preserved : goal.loop-line-preserved
 loop-line-preserved c = search jumps_turn
 
-pub returns-in-End : goal.returns-in-End
-returns-in-End c = search jumps_end
+pub returns-in-Ok-None : goal.returns-in-Ok-None
+returns-in-Ok-None c = search jumps_end
 
-pub shape_of-out-in-End : goal.shape_of-out-in-End
-shape_of-out-in-End c = drawn_same _ _ _ (returns-in-End c)
+pub shape_of-out-in-Ok-None : goal.shape_of-out-in-Ok-None
+shape_of-out-in-Ok-None c = drawn_same _ _ _ (returns-in-Ok-None c)
 
-pub returns-in-Refused : goal.returns-in-Refused
-returns-in-Refused c = search jumps_fault
+pub returns-in-Err : goal.returns-in-Err
+returns-in-Err c = search jumps_fault
 
-pub shape_of-out-in-Refused : goal.shape_of-out-in-Refused
-shape_of-out-in-Refused c = drawn_same _ _ _ (returns-in-Refused c)
+pub shape_of-out-in-Err : goal.shape_of-out-in-Err
+shape_of-out-in-Err c = drawn_same _ _ _ (returns-in-Err c)

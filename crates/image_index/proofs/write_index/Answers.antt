@@ -6,5 +6,5 @@ use Rattle.image_index.proofs.write_index.Goals as goal
 pub index_lines-requires : goal.index_lines-requires
 index_lines-requires c = search check_faultless
 
-pub returns-in-Refused : goal.returns-in-Refused
-returns-in-Refused c = search check_refused
+pub returns-in-Err : goal.returns-in-Err
+returns-in-Err c = search check_refused

@@ -8,5 +8,5 @@ use Rattle.image_index.proofs.write_report.Goals as goal
 pub report_lines-requires : goal.report_lines-requires
 report_lines-requires c = search (check_faultless, check_marked, rules)
 
-pub returns-in-Refused : goal.returns-in-Refused
-returns-in-Refused c = search report_unread
+pub returns-in-Err : goal.returns-in-Err
+returns-in-Err c = search report_unread

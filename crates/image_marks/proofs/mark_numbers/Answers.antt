@@ -24,8 +24,8 @@ loop-line-smaller c = search marks_less
 pub loop-line-preserved : goal.loop-line-preserved
 loop-line-preserved c = (search marks_past, search rules)
 
-pub returns-in-End : goal.returns-in-End
-returns-in-End c = search marks_end
+pub returns-in-Ok-None : goal.returns-in-Ok-None
+returns-in-Ok-None c = search marks_end
 
-pub returns-in-Refused : goal.returns-in-Refused
-returns-in-Refused c = search marks_fault
+pub returns-in-Err : goal.returns-in-Err
+returns-in-Err c = search marks_fault

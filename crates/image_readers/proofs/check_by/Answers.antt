@@ -19,8 +19,8 @@ loop-line-preserved c = search passed_turn
 pub low_first_at-load-requires : goal.low_first_at-load-requires
 low_first_at-load-requires c = search end_long
 
-pub returns-in-End : goal.returns-in-End
-returns-in-End c = search passed_end
+pub returns-in-Ok-None : goal.returns-in-Ok-None
+returns-in-Ok-None c = search passed_end
 
-pub returns-in-Refused : goal.returns-in-Refused
-returns-in-Refused c = search passed_refused
+pub returns-in-Err : goal.returns-in-Err
+returns-in-Err c = search passed_refused

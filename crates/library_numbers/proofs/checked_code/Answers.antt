@@ -6,8 +6,8 @@ use Rattle.library_numbers.specs.Overview.{overview_code}
 use Rattle.library_numbers.proofs.checked_code.Goals as goal
 use Rattle.base_refusals.specs.Answer.{answered}
 
-pub returns-in-Image : goal.returns-in-Image
-returns-in-Image c = rw c.wide16.ensures (ap (λ (x : Checked). overview_code (answered x)) (sym c.in-Image.is))
+pub returns-in-Ok : goal.returns-in-Ok
+returns-in-Ok c = rw c.wide16.ensures (ap (λ (x : Checked). overview_code (answered x)) (sym c.in-Ok.is))
 
-pub returns-in-Refused : goal.returns-in-Refused
-returns-in-Refused c = c.refusal_code.ensures ∙ ap (λ (x : Checked). overview_code (answered x)) (sym c.in-Refused.is)
+pub returns-in-Err : goal.returns-in-Err
+returns-in-Err c = c.refusal_code.ensures ∙ ap (λ (x : Checked). overview_code (answered x)) (sym c.in-Err.is)

@@ -6,5 +6,5 @@ use Rattle.list_image.proofs.list_checked.Goals as goal
 pub write-requires : goal.write-requires
 write-requires c = search (ninefold_room, c.type_inv.image)
 
-pub returns-in-Refused : goal.returns-in-Refused
-returns-in-Refused c = search ninefold_refused
+pub returns-in-Err : goal.returns-in-Err
+returns-in-Err c = search ninefold_refused

@@ -9,5 +9,5 @@ returns-then-needed-out c = search no_room_lem
 pub write-requires : goal.write-requires
 write-requires c = search room_there
 
-pub returns-in-Refused : goal.returns-in-Refused
-returns-in-Refused c = search no_listing
+pub returns-in-Err : goal.returns-in-Err
+returns-in-Err c = search no_listing

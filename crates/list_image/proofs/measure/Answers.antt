@@ -28,8 +28,8 @@ loop-line-smaller c = search found_nearer
 pub loop-line-preserved : goal.loop-line-preserved
 loop-line-preserved c = search counted_turn
 
-pub returns-in-End : goal.returns-in-End
-returns-in-End c = search counted_end
+pub returns-in-Ok-None : goal.returns-in-Ok-None
+returns-in-Ok-None c = search counted_end
 
-pub returns-in-Refused : goal.returns-in-Refused
-returns-in-Refused c = search counted_refused
+pub returns-in-Err : goal.returns-in-Err
+returns-in-Err c = search counted_refused

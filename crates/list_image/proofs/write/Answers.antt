@@ -28,14 +28,14 @@ loop-line-smaller c = search found_nearer
 pub loop-line-preserved : goal.loop-line-preserved
 loop-line-preserved c = search written_turn
 
-pub shape_of-out-in-End : goal.shape_of-out-in-End
-shape_of-out-in-End c = search written_long
+pub shape_of-out-in-Ok-None : goal.shape_of-out-in-Ok-None
+shape_of-out-in-Ok-None c = search written_long
 
-pub returns-in-End : goal.returns-in-End
-returns-in-End c = search written_end
+pub returns-in-Ok-None : goal.returns-in-Ok-None
+returns-in-Ok-None c = search written_end
 
-pub shape_of-out-in-Refused : goal.shape_of-out-in-Refused
-shape_of-out-in-Refused c = search written_long
+pub shape_of-out-in-Err : goal.shape_of-out-in-Err
+shape_of-out-in-Err c = search written_long
 
-pub returns-in-Refused : goal.returns-in-Refused
-returns-in-Refused c = search written_refused
+pub returns-in-Err : goal.returns-in-Err
+returns-in-Err c = search written_refused

@@ -3,8 +3,8 @@
 use Rattle.moldthatch.proofs.TellingOptions.{tells_image, tells_unknown}
 use Rattle.moldthatch.proofs.moldthatch_crunch_with.Goals as goal
 
-pub returns-in-Known : goal.returns-in-Known
-returns-in-Known c = search tells_image
+pub returns-in-Ok : goal.returns-in-Ok
+returns-in-Ok c = search tells_image
 
-pub returns-in-Refused : goal.returns-in-Refused
-returns-in-Refused c = search tells_unknown
+pub returns-in-Err : goal.returns-in-Err
+returns-in-Err c = search tells_unknown

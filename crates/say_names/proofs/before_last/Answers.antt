@@ -6,8 +6,8 @@ use Rattle.say_names.proofs.before_last.Goals as goal
 pub slice_bounds-result-end : goal.slice_bounds-result-end
 slice_bounds-result-end c = search mark_taken
 
-pub returns-in-At : goal.returns-in-At
-returns-in-At c = search split_before
+pub returns-in-Some : goal.returns-in-Some
+returns-in-Some c = search split_before
 
-pub returns-in-Nowhere : goal.returns-in-Nowhere
-returns-in-Nowhere c = search before_none
+pub returns-in-None : goal.returns-in-None
+returns-in-None c = search before_none

@@ -6,8 +6,8 @@ use Rattle.say_names.proofs.behind_last.Goals as goal
 pub behind-requires : goal.behind-requires
 behind-requires c = search mark_within
 
-pub returns-in-At : goal.returns-in-At
-returns-in-At c = search split_behind
+pub returns-in-Some : goal.returns-in-Some
+returns-in-Some c = search split_behind
 
-pub returns-in-Nowhere : goal.returns-in-Nowhere
-returns-in-Nowhere c = search behind_none
+pub returns-in-None : goal.returns-in-None
+returns-in-None c = search behind_none

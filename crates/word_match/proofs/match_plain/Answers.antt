@@ -9,11 +9,11 @@ returns-then-not-sets c = search plain_v2
 pub overflow_add-result : goal.overflow_add-result
 overflow_add-result c = search own_fits
 
-pub returns-in-Word : goal.returns-in-Word
-returns-in-Word c = search plain_first
+pub returns-in-Some : goal.returns-in-Some
+returns-in-Some c = search plain_first
 
-pub returns-in-Word-match_basic35 : goal.returns-in-Word-match_basic35
-returns-in-Word-match_basic35 c = search plain_own
+pub returns-in-Some-match_basic35 : goal.returns-in-Some-match_basic35
+returns-in-Some-match_basic35 c = search plain_own
 
-pub returns-in-Nothing-match_basic35 : goal.returns-in-Nothing-match_basic35
-returns-in-Nothing-match_basic35 c = search plain_none
+pub returns-in-None-match_basic35 : goal.returns-in-None-match_basic35
+returns-in-None-match_basic35 c = search plain_none

@@ -7,8 +7,8 @@ use Rattle.body_steps.proofs.plain.form_step.Goals as goal
 pub returns-then-not-sets : goal.returns-then-not-sets
 returns-then-not-sets c = search (letter_alone, document_proper)
 
-pub returns-in-Word : goal.returns-in-Word
-returns-in-Word c = search letter_form
+pub returns-in-Some : goal.returns-in-Some
+returns-in-Some c = search letter_form
 
-pub returns-in-Nothing : goal.returns-in-Nothing
-returns-in-Nothing c = search (letter_other, document_proper)
+pub returns-in-None : goal.returns-in-None
+returns-in-None c = search (letter_other, document_proper)

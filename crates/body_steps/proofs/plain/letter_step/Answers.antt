@@ -3,11 +3,11 @@
 use Rattle.body_rules.proofs.PlainSteps.{letter_tsb, letter_plain, letter_left}
 use Rattle.body_steps.proofs.plain.letter_step.Goals as goal
 
-pub returns-in-Word : goal.returns-in-Word
-returns-in-Word c = search letter_tsb
+pub returns-in-Some : goal.returns-in-Some
+returns-in-Some c = search letter_tsb
 
-pub returns-in-Word-match_plain : goal.returns-in-Word-match_plain
-returns-in-Word-match_plain c = search letter_plain
+pub returns-in-Some-match_plain : goal.returns-in-Some-match_plain
+returns-in-Some-match_plain c = search letter_plain
 
-pub returns-in-Nothing-match_plain : goal.returns-in-Nothing-match_plain
-returns-in-Nothing-match_plain c = search letter_left
+pub returns-in-None-match_plain : goal.returns-in-None-match_plain
+returns-in-None-match_plain c = search letter_left

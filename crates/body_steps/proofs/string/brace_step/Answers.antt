@@ -15,8 +15,8 @@ slice_bounds-escape_from-start c = search span_begun
 pub overflow_sub-at : goal.overflow_sub-at
 overflow_sub-at c = search span_from
 
-pub returns-in-Byte : goal.returns-in-Byte
-returns-in-Byte c = search brace_known
+pub returns-in-Some : goal.returns-in-Some
+returns-in-Some c = search brace_known
 
-pub returns-in-Unknown : goal.returns-in-Unknown
-returns-in-Unknown c = search brace_unknown
+pub returns-in-None : goal.returns-in-None
+returns-in-None c = search brace_unknown

@@ -25,8 +25,8 @@ loop-line-smaller c = search found_nearer
 pub loop-line-preserved : goal.loop-line-preserved
 loop-line-preserved c = search image_turn
 
-pub returns-in-End : goal.returns-in-End
-returns-in-End c = search image_end
+pub returns-in-Ok-None : goal.returns-in-Ok-None
+returns-in-Ok-None c = search image_end
 
 pub returns-in-Refused : goal.returns-in-Refused
 returns-in-Refused c = search image_refused

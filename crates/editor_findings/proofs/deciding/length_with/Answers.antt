@@ -3,8 +3,8 @@
 use Rattle.editor_findings.proofs.Undecided.{length_found, length_none}
 use Rattle.editor_findings.proofs.deciding.length_with.Goals as goal
 
-pub returns-in-Word : goal.returns-in-Word
-returns-in-Word c = search length_found
+pub returns-in-Some : goal.returns-in-Some
+returns-in-Some c = search length_found
 
-pub returns-in-Nothing : goal.returns-in-Nothing
-returns-in-Nothing c = search length_none
+pub returns-in-None : goal.returns-in-None
+returns-in-None c = search length_none

@@ -27,8 +27,8 @@ loop-number-smaller c = search row_nearer
 pub loop-number-preserved : goal.loop-number-preserved
 loop-number-preserved c = search rowing_turn
 
-pub returns-in-End : goal.returns-in-End
-returns-in-End c = search rowing_end
+pub returns-in-Ok-None : goal.returns-in-Ok-None
+returns-in-Ok-None c = search rowing_end
 
-pub shape_of-out-in-End : goal.shape_of-out-in-End
-shape_of-out-in-End c = put_long (returns-in-End c)
+pub shape_of-out-in-Ok-None : goal.shape_of-out-in-Ok-None
+shape_of-out-in-Ok-None c = put_long (returns-in-Ok-None c)

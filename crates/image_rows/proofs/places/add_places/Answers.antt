@@ -19,14 +19,14 @@ loop-line-smaller c = search found_nearer
 pub loop-line-preserved : goal.loop-line-preserved
 loop-line-preserved c = search placing_turn
 
-pub returns-in-End : goal.returns-in-End
-returns-in-End c = search placing_end
+pub returns-in-Ok-None : goal.returns-in-Ok-None
+returns-in-Ok-None c = search placing_end
 
-pub shape_of-out-in-End : goal.shape_of-out-in-End
-shape_of-out-in-End c = (returns-in-End c).sized
+pub shape_of-out-in-Ok-None : goal.shape_of-out-in-Ok-None
+shape_of-out-in-Ok-None c = (returns-in-Ok-None c).sized
 
-pub returns-in-Refused : goal.returns-in-Refused
-returns-in-Refused c = search placing_refused
+pub returns-in-Err : goal.returns-in-Err
+returns-in-Err c = search placing_refused
 
-pub shape_of-out-in-Refused : goal.shape_of-out-in-Refused
-shape_of-out-in-Refused c = (returns-in-Refused c).sized
+pub shape_of-out-in-Err : goal.shape_of-out-in-Err
+shape_of-out-in-Err c = (returns-in-Err c).sized

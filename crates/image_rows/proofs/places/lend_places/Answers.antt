@@ -6,5 +6,5 @@ use Rattle.image_rows.proofs.places.lend_places.Goals as goal
 pub lend_checked-requires : goal.lend_checked-requires
 lend_checked-requires c = search checked_text_lem
 
-pub returns-in-Refused : goal.returns-in-Refused
-returns-in-Refused c = search checked_none
+pub returns-in-Err : goal.returns-in-Err
+returns-in-Err c = search checked_none

@@ -3,8 +3,8 @@
 use Rattle.moldthatch.proofs.TellingDialects.{tells_coded}
 use Rattle.moldthatch.proofs.dialects.escape_code.Goals as goal
 
-pub returns-in-Byte : goal.returns-in-Byte
-returns-in-Byte c = search tells_coded
+pub returns-in-Some : goal.returns-in-Some
+returns-in-Some c = search tells_coded
 
-pub returns-in-Unknown : goal.returns-in-Unknown
-returns-in-Unknown c = search tells_coded
+pub returns-in-None : goal.returns-in-None
+returns-in-None c = search tells_coded

@@ -3,8 +3,8 @@
 use Rattle.moldthatch.proofs.TellingDialects.{tells_load, tells_no_load}
 use Rattle.moldthatch.proofs.dialects.load_code.Goals as goal
 
-pub returns-in-Known : goal.returns-in-Known
-returns-in-Known c = search tells_load
+pub returns-in-Ok : goal.returns-in-Ok
+returns-in-Ok c = search tells_load
 
-pub returns-in-Refused : goal.returns-in-Refused
-returns-in-Refused c = search tells_no_load
+pub returns-in-Err : goal.returns-in-Err
+returns-in-Err c = search tells_no_load

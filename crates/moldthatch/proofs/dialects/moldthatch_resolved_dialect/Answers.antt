@@ -3,8 +3,8 @@
 use Rattle.moldthatch.proofs.TellingDialects.{tells_taken, tells_untaken}
 use Rattle.moldthatch.proofs.dialects.moldthatch_resolved_dialect.Goals as goal
 
-pub returns-in-Known : goal.returns-in-Known
-returns-in-Known c = search tells_taken
+pub returns-in-Ok : goal.returns-in-Ok
+returns-in-Ok c = search tells_taken
 
-pub returns-in-Refused : goal.returns-in-Refused
-returns-in-Refused c = search tells_untaken
+pub returns-in-Err : goal.returns-in-Err
+returns-in-Err c = search tells_untaken

@@ -6,5 +6,5 @@ use Rattle.moldthatch.proofs.dialects.resolved_code.Goals as goal
 pub returns-in-Is : goal.returns-in-Is
 returns-in-Is c = search tells_resolved
 
-pub returns-in-Refused : goal.returns-in-Refused
-returns-in-Refused c = search tells_resolved
+pub returns-in-Err : goal.returns-in-Err
+returns-in-Err c = search tells_resolved

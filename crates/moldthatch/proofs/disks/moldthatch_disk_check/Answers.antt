@@ -3,8 +3,8 @@
 use Rattle.moldthatch.proofs.Telling.{tells_holding}
 use Rattle.moldthatch.proofs.disks.moldthatch_disk_check.Goals as goal
 
-pub returns-in-Holds : goal.returns-in-Holds
-returns-in-Holds c = search tells_holding
+pub returns-in-Ok : goal.returns-in-Ok
+returns-in-Ok c = search tells_holding
 
-pub returns-in-Refused : goal.returns-in-Refused
-returns-in-Refused c = search tells_holding
+pub returns-in-Err : goal.returns-in-Err
+returns-in-Err c = search tells_holding

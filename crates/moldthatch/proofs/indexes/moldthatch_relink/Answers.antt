@@ -15,5 +15,5 @@ returns-in-Leaves c = search tells_relinked
 pub returns-in-Endless : goal.returns-in-Endless
 returns-in-Endless c = search tells_relinked
 
-pub returns-in-Refused : goal.returns-in-Refused
-returns-in-Refused c = search tells_relinked
+pub returns-in-Err : goal.returns-in-Err
+returns-in-Err c = search tells_relinked

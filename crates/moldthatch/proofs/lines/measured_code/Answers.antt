@@ -9,5 +9,5 @@ returns-in-There c = search tells_measured
 pub returns-in-NoSuchLine : goal.returns-in-NoSuchLine
 returns-in-NoSuchLine c = search tells_measured
 
-pub returns-in-Refused : goal.returns-in-Refused
-returns-in-Refused c = search tells_measured
+pub returns-in-Err : goal.returns-in-Err
+returns-in-Err c = search tells_measured

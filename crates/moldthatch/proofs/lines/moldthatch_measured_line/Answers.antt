@@ -3,8 +3,8 @@
 use Rattle.moldthatch.proofs.TellingLines.{tells_there, tells_unmeasured}
 use Rattle.moldthatch.proofs.lines.moldthatch_measured_line.Goals as goal
 
-pub returns-in-Known : goal.returns-in-Known
-returns-in-Known c = search tells_there
+pub returns-in-Ok : goal.returns-in-Ok
+returns-in-Ok c = search tells_there
 
-pub returns-in-Refused : goal.returns-in-Refused
-returns-in-Refused c = search tells_unmeasured
+pub returns-in-Err : goal.returns-in-Err
+returns-in-Err c = search tells_unmeasured

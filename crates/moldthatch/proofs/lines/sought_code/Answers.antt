@@ -3,14 +3,14 @@
 use Rattle.moldthatch.proofs.TellingLines.{tells_sought}
 use Rattle.moldthatch.proofs.lines.sought_code.Goals as goal
 
-pub returns-in-Found : goal.returns-in-Found
-returns-in-Found c = search tells_sought
+pub returns-in-Ok-Some : goal.returns-in-Ok-Some
+returns-in-Ok-Some c = search tells_sought
 
-pub returns-in-Nowhere : goal.returns-in-Nowhere
-returns-in-Nowhere c = search tells_sought
+pub returns-in-None : goal.returns-in-None
+returns-in-None c = search tells_sought
 
 pub returns-in-LimitReached : goal.returns-in-LimitReached
 returns-in-LimitReached c = search tells_sought
 
-pub returns-in-Refused : goal.returns-in-Refused
-returns-in-Refused c = search tells_sought
+pub returns-in-Err : goal.returns-in-Err
+returns-in-Err c = search tells_sought

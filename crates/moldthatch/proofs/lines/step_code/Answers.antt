@@ -3,11 +3,11 @@
 use Rattle.moldthatch.proofs.TellingLines.{tells_step}
 use Rattle.moldthatch.proofs.lines.step_code.Goals as goal
 
-pub returns-in-Found : goal.returns-in-Found
-returns-in-Found c = search tells_step
+pub returns-in-Ok-Some : goal.returns-in-Ok-Some
+returns-in-Ok-Some c = search tells_step
 
-pub returns-in-End : goal.returns-in-End
-returns-in-End c = search tells_step
+pub returns-in-Ok-None : goal.returns-in-Ok-None
+returns-in-Ok-None c = search tells_step
 
-pub returns-in-Refused : goal.returns-in-Refused
-returns-in-Refused c = search tells_step
+pub returns-in-Err : goal.returns-in-Err
+returns-in-Err c = search tells_step

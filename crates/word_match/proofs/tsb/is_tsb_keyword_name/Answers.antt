@@ -7,8 +7,8 @@ use Rattle.word_match.proofs.tsb.is_tsb_keyword_name.Goals as goal
 pub match_in-requires : goal.match_in-requires
 match_in-requires c = search words_spelt
 
-pub returns-in-Word : goal.returns-in-Word
-returns-in-Word c = search tsb_yes
+pub returns-in-Some : goal.returns-in-Some
+returns-in-Some c = search tsb_yes
 
-pub returns-in-Nothing : goal.returns-in-Nothing
-returns-in-Nothing c = search tsb_no
+pub returns-in-None : goal.returns-in-None
+returns-in-None c = search tsb_no
