@@ -1,6 +1,5 @@
 // One step of crunching a body, at any place: for whoever walks over a body without crunching it.
 ghost use Rattle.std.specs.Prelude.{◌≡◌, ◌<◌, length, drop};
-ghost use Rattle.word_tables.specs.WordsHelpers.{SpellsWords};
 ghost use Rattle.body_steps.specs.BraceHelpers.{Spans};
 ghost use Rattle.body_rules.specs.Lexicon.{lexicon};
 ghost use Rattle.body_rules.specs.Steps.{crunch_step};
@@ -9,6 +8,7 @@ use body_rules::{Mode, Move, short};
 use body_steps::string::Span;
 use body_steps::{step, string};
 use word_match::sets::Sets;
+use word_tables::Words;
 
 // Where a walk over a body stands: a place, the mode there, and the span that is known there.
 #[derive(Clone, Copy)]
@@ -37,8 +37,8 @@ pub fn stand_at(text: &[u8], at: usize, mode: Mode) -> Stand
 }
 
 // The step where a walk stands. Over a whole body no byte is looked at for more than one span.
-pub fn step_at(text: &[u8], from: Stand, bytes: &[u8], index: &[u16], sets: Sets) -> Stepped
-    requires { (from.at < length text.now) × Spans text.now from.at from.span × SpellsWords bytes.now index.now }
+pub fn step_at(text: &[u8], from: Stand, words: Words, sets: Sets) -> Stepped
+    requires { (from.at < length text.now) × Spans text.now from.at from.span }
     ensures { (result.step ≡ crunch_step (lexicon sets) from.mode (drop from.at text.now)) × Spans text.now from.at result.span }
 {
     let at = from.at;
@@ -54,7 +54,7 @@ pub fn step_at(text: &[u8], from: Stand, bytes: &[u8], index: &[u16], sets: Sets
     }
     let span = string::span_at(text, at, known);
     Stepped {
-        step: step::step(text, at, span, bytes, index, sets),
+        step: step::step(text, at, span, words, sets),
         span,
     }
 }

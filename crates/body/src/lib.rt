@@ -3,7 +3,6 @@
 
 ghost use Rattle.std.specs.Prelude.{◌≡◌, ◌+◌, ◌≤◌, ◌<◌, min, length, replicate};
 ghost use Rattle.base_lent.specs.Stores.{Room, Put};
-ghost use Rattle.word_tables.specs.WordsHelpers.{SpellsWords};
 ghost use Rattle.body.specs.Body.{prefix_of, written, crunched_body};
 ghost use Rattle.body_rules.specs.Lexicon.{lexicon};
 ghost use Rattle.body.specs.BoundHelpers.{may_repeat};
@@ -13,13 +12,13 @@ use base_ascii::search::Kind;
 use body_rules::{Mode, Move, short};
 use body_steps::{step, string};
 use word_match::sets::Sets;
+use word_tables::Words;
 
 pub mod at;
 pub mod zero;
 
 // The length of a body, or 65,536 where it is that or more.
-pub fn measure_body(text: &[u8], bytes: &[u8], index: &[u16], sets: Sets) -> usize
-    requires { SpellsWords bytes.now index.now }
+pub fn measure_body(text: &[u8], words: Words, sets: Sets) -> usize
     ensures { result ≡ min (length (crunched_body (lexicon sets) text.now)) 65536 }
 {
     let mut span = string::no_span(text);
@@ -37,7 +36,7 @@ pub fn measure_body(text: &[u8], bytes: &[u8], index: &[u16], sets: Sets) -> usi
             }
         } else {
             span = string::span_at(text, at, span);
-            let m = step::step(text, at, span, bytes, index, sets);
+            let m = step::step(text, at, span, words, sets);
             n = longer(n, m);
             if n == 65536 {
                 return n;
@@ -52,12 +51,11 @@ pub fn measure_body(text: &[u8], bytes: &[u8], index: &[u16], sets: Sets) -> usi
 
 // A length that the body does not pass, or 65,536: that of its text, where no } stands behind a *.
 #[tactic(auto, using(crate::proofs::Bound::body_bound))]
-pub fn bound_body(text: &[u8], bytes: &[u8], index: &[u16], sets: Sets) -> usize
-    requires { SpellsWords bytes.now index.now }
+pub fn bound_body(text: &[u8], words: Words, sets: Sets) -> usize
     ensures { (min (length (crunched_body (lexicon sets) text.now)) 65536 ≤ result) × (result ≤ 65536) }
 {
     if may_repeat(text) {
-        return measure_body(text, bytes, index, sets);
+        return measure_body(text, words, sets);
     }
     if text.len() <= 65536 {
         return text.len();
@@ -100,8 +98,8 @@ fn behind_prefix(n: usize, prefixed: bool) -> usize
 
 // Writes a body at the start of a buffer that has room for it, and answers its length. Its loop is that of `measure_body` with a store in the
 // place of a count, by the same law (`Run`): one loop for both would ask at each byte which of the two it serves.
-pub fn write_body(out: &mut [u8], text: &[u8], bytes: &[u8], index: &[u16], sets: Sets) -> usize
-    requires { SpellsWords bytes.now index.now × Room out.old 0 (crunched_body (lexicon sets) text.now) }
+pub fn write_body(out: &mut [u8], text: &[u8], words: Words, sets: Sets) -> usize
+    requires { Room out.old 0 (crunched_body (lexicon sets) text.now) }
     ensures { Put out.old 0 (crunched_body (lexicon sets) text.now) result out.new }
 {
     let mut span = string::no_span(text);
@@ -117,7 +115,7 @@ pub fn write_body(out: &mut [u8], text: &[u8], bytes: &[u8], index: &[u16], sets
             n += 1;
         } else {
             span = string::span_at(text, at, span);
-            let m = step::step(text, at, span, bytes, index, sets);
+            let m = step::step(text, at, span, words, sets);
             n = put_move(out, n, m);
             at += m.used;
             let next = m.mode;

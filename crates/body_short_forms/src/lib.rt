@@ -6,38 +6,35 @@ ghost use Rattle.base_ascii.specs.Search.{front};
 ghost use Rattle.word_tables.specs.Rom.{v2_words};
 ghost use Rattle.word_tables.specs.Tsb.{tsb_words};
 ghost use Rattle.body_short_forms.specs.Forms.{is_small, form_letters, short_form, tsb_there, form_word};
-ghost use Rattle.word_tables.specs.WordsHelpers.{SpellsWords};
 
 use word_match::sets::Sets;
 use word_search::{Match, Test};
-use word_tables::WordList;
+use word_tables::{WordList, Words};
 
 // No V2 word has more letters.
 const LONGEST: usize = 7;
 
 // The V2 word that a short form at the front of the text stands for, if short forms are taken.
-pub fn match_form(text: &[u8], bytes: &[u8], index: &[u16], sets: Sets) -> Option<Match>
-    requires { SpellsWords bytes.now index.now }
+pub fn match_form(text: &[u8], words: Words, sets: Sets) -> Option<Match>
     ensures { result ≡ form_word sets tsb_words v2_words text.now }
 {
     if !sets.forms {
         return None;
     }
-    if tsb_there(text, bytes, index, sets) {
+    if tsb_there(text, words, sets) {
         return None;
     }
-    short_form(text, bytes, index)
+    short_form(text, words)
 }
 
 // Whether a TSB word, live or demoted, stands there.
-fn tsb_there(text: &[u8], bytes: &[u8], index: &[u16], sets: Sets) -> bool
-    requires { SpellsWords bytes.now index.now }
+fn tsb_there(text: &[u8], words: Words, sets: Sets) -> bool
     ensures { result ≡ tsb_there sets tsb_words text.now }
 {
     if !sets.tsb {
         return false;
     }
-    match word_match::match_tsb(text, bytes, index) {
+    match word_match::match_tsb(text, words) {
         Some(Match {
             index: _,
             used: _,
@@ -48,13 +45,12 @@ fn tsb_there(text: &[u8], bytes: &[u8], index: &[u16], sets: Sets) -> bool
 }
 
 // The same, whatever words are in force. No more letters are looked at than the longest word has.
-pub fn short_form(text: &[u8], bytes: &[u8], index: &[u16]) -> Option<Match>
-    requires { SpellsWords bytes.now index.now }
+pub fn short_form(text: &[u8], words: Words) -> Option<Match>
     ensures { result ≡ short_form v2_words text.now }
 {
     let to = at_most(text.len());
     let letters = form_letters(&text[..to]);
-    match word_match::match_in(WordList::V2, Test::Shortens, letters, bytes, index) {
+    match word_match::match_in(WordList::V2, Test::Shortens, letters, words) {
         Some(Match {
             index: place,
             used: _,

@@ -2,7 +2,6 @@
 ghost use Rattle.std.specs.Prelude.{◌≡◌, true, false, ◌<◌, length};
 ghost use Rattle.base_ascii.specs.Bytes.{is_letter};
 ghost use Rattle.word_tables.specs.Tsb.{tsb_words};
-ghost use Rattle.word_tables.specs.WordsHelpers.{SpellsWords};
 ghost use Rattle.word_match.specs.Sets.{live_word};
 ghost use Rattle.body_rules.specs.Lexicon.{lexicon};
 ghost use Rattle.body_rules.specs.Steps.{first, other_step, form_step, plain_step};
@@ -10,49 +9,49 @@ ghost use Rattle.body_rules.specs.Steps.{first, other_step, form_step, plain_ste
 use body_rules::{Mode, Move};
 use word_match::sets::Sets;
 use word_search::Match;
+use word_tables::Words;
 
 // A letter: a TSB word, a V2 word or one of BASIC 3.5, a short form of a V2 word, or the letter.
-pub fn letter_step(rest: &[u8], bytes: &[u8], index: &[u16], sets: Sets) -> Move
-    requires { (0 < length rest.now) × (is_letter (first rest.now) ≡ true) × SpellsWords bytes.now index.now }
+pub fn letter_step(rest: &[u8], words: Words, sets: Sets) -> Move
+    requires { (0 < length rest.now) × (is_letter (first rest.now) ≡ true) }
     ensures { result ≡ plain_step (lexicon sets) rest.now }
 {
-    match live_word(rest, bytes, index, sets) {
+    match live_word(rest, words, sets) {
         Some(Match {
             index: _,
             used,
             token,
         }) => body_rules::token(true, token, Mode::Plain, used),
-        None => match word_match::match_plain(rest, bytes, index, sets) {
+        None => match word_match::match_plain(rest, words, sets) {
             Some(Match {
                 index: _,
                 used,
                 token,
             }) => body_rules::token(false, token, body_rules::opened(token), used),
-            None => form_step(rest, bytes, index, sets),
+            None => form_step(rest, words, sets),
         },
     }
 }
 
 // The live TSB word there. Looking a word up copies the sets, so nothing is looked up where no TSB word is live.
-fn live_word(rest: &[u8], bytes: &[u8], index: &[u16], sets: Sets) -> Option<Match>
-    requires { SpellsWords bytes.now index.now }
+fn live_word(rest: &[u8], words: Words, sets: Sets) -> Option<Match>
     ensures { result ≡ live_word sets tsb_words rest.now }
 {
     if !sets.tsb {
         return None;
     }
-    word_match::match_live(rest, bytes, index, sets)
+    word_match::match_live(rest, words, sets)
 }
 
 // Where no whole word stands: a short form, or the letter.
-fn form_step(rest: &[u8], bytes: &[u8], index: &[u16], sets: Sets) -> Move
-    requires { (0 < length rest.now) × (is_letter (first rest.now) ≡ true) × SpellsWords bytes.now index.now }
+fn form_step(rest: &[u8], words: Words, sets: Sets) -> Move
+    requires { (0 < length rest.now) × (is_letter (first rest.now) ≡ true) }
     ensures { result ≡ form_step (lexicon sets) rest.now }
 {
     if !sets.forms {
         return body_rules::one(base_ascii::upper(rest[0]), Mode::Plain);
     }
-    match body_short_forms::match_form(rest, bytes, index, sets) {
+    match body_short_forms::match_form(rest, words, sets) {
         Some(Match {
             index: _,
             used,

@@ -1,6 +1,5 @@
 // One step of crunching a body, at a byte that does not give one by itself: a word, pi, a letter, or an escape.
 ghost use Rattle.std.specs.Prelude.{◌≡◌, true, ◌<◌, length, get_or, drop};
-ghost use Rattle.word_tables.specs.WordsHelpers.{SpellsWords};
 ghost use Rattle.body_steps.specs.BraceHelpers.{Reaches};
 ghost use Rattle.body_rules.specs.Lexicon.{lexicon};
 ghost use Rattle.body_rules.specs.ShortHelpers.{is_long, long_step};
@@ -9,18 +8,19 @@ use crate::string::Span;
 use crate::{plain, string};
 use body_rules::Move;
 use word_match::sets::Sets;
+use word_tables::Words;
 
 // A step at a place of a text. At a { the span is that of its }.
-pub fn step(text: &[u8], at: usize, span: Span, bytes: &[u8], index: &[u16], sets: Sets) -> Move
-    requires { (at < length text.now) × (is_long (get_or text.now at 0) ≡ true) × Reaches text.now at span × SpellsWords bytes.now index.now }
+pub fn step(text: &[u8], at: usize, span: Span, words: Words, sets: Sets) -> Move
+    requires { (at < length text.now) × (is_long (get_or text.now at 0) ≡ true) × Reaches text.now at span }
     ensures { result ≡ long_step (lexicon sets) (drop at text.now) }
 {
     let b = text[at];
     if b == 0x7B {
-        return string::brace_step(text, at, span, bytes, index);
+        return string::brace_step(text, at, span, words);
     }
     if b == 0xCF {
         return plain::from_pi(&text[at..]);
     }
-    plain::letter_step(&text[at..], bytes, index, sets)
+    plain::letter_step(&text[at..], words, sets)
 }

@@ -1,6 +1,5 @@
 // A step at a { in a string.
 ghost use Rattle.std.specs.Prelude.{◌≡◌, ◌<◌, length, get_or, drop};
-ghost use Rattle.word_tables.specs.WordsHelpers.{SpellsWords};
 ghost use Rattle.body_steps.specs.BraceHelpers.{SpanOf, Spans, Reaches};
 ghost use Rattle.body_rules.specs.Steps.{string_step};
 
@@ -9,6 +8,7 @@ use base_ascii::search::Kind;
 use body_rules::{Mode, Move};
 use escape_bytes::Escape;
 use escapes::Tail;
+use word_tables::Words;
 
 // What the { in front of one } share: a place behind the first of them, the place of the }, or the text's end where none follows, and
 // the tail of the bytes between.
@@ -52,8 +52,8 @@ pub fn span_at(text: &[u8], at: usize, known: Span) -> Span
 }
 
 // A known escape between a { and the first } behind it; otherwise the { is a byte like others.
-pub fn brace_step(text: &[u8], at: usize, span: Span, bytes: &[u8], index: &[u16]) -> Move
-    requires { (at < length text.now) × (get_or text.now at 0 ≡ 0x7B) × SpanOf text.now at span × SpellsWords bytes.now index.now }
+pub fn brace_step(text: &[u8], at: usize, span: Span, words: Words) -> Move
+    requires { (at < length text.now) × (get_or text.now at 0 ≡ 0x7B) × SpanOf text.now at span }
     ensures { result ≡ string_step (drop at text.now) }
 {
     let from = span.from;
@@ -62,7 +62,7 @@ pub fn brace_step(text: &[u8], at: usize, span: Span, bytes: &[u8], index: &[u16
         return body_rules::one(0x7B, Mode::String);
     }
     let tail = span.tail;
-    match escapes::escape_from(&text[from..close], at + 1 - from, tail, bytes, index) {
+    match escapes::escape_from(&text[from..close], at + 1 - from, tail, words) {
         Some(Escape { byte, count }) => Move {
             prefixed: false,
             byte,

@@ -1,16 +1,15 @@
 // A bound of an image's length, found without reading the bodies that have no }.
 ghost use Rattle.std.specs.Prelude.{false};
-ghost use Rattle.word_tables.specs.WordsHelpers.{SpellsWords};
 ghost use Rattle.body_rules.specs.Lexicon.{lexicon};
 ghost use Rattle.crunch_rules.specs.PassesHelpers.{text_image};
 ghost use Rattle.crunch_image.specs.CallHelpers.{FitsIf};
 
 use text_lines::LineRule;
 use word_match::sets::Sets;
+use word_tables::Words;
 
 // Whether every line has its number, and the image surely fits its addresses and the room. Where this says no, the exact length decides.
-pub fn fits(text: &[u8], load: u16, room: usize, bytes: &[u8], index: &[u16], sets: Sets) -> bool
-    requires { SpellsWords bytes.now index.now }
+pub fn fits(text: &[u8], load: u16, room: usize, words: Words, sets: Sets) -> bool
     ensures { FitsIf result room (text_image false (lexicon sets) load text.now) }
 {
     let first = load as usize;
@@ -20,7 +19,7 @@ pub fn fits(text: &[u8], load: u16, room: usize, bytes: &[u8], index: &[u16], se
         let next = text_lines::next_line(text, at, LineRule::AfterCr);
         let begin = next.begin;
         let end = next.end;
-        let behind = crunch_sizes::bound_line(&text[begin..end], address, bytes, index, sets);
+        let behind = crunch_sizes::bound_line(&text[begin..end], address, words, sets);
         if behind > 0xFFFF {
             return false;
         }

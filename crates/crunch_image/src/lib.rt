@@ -3,7 +3,6 @@
 
 ghost use Rattle.std.specs.Prelude.{◌≡◌};
 ghost use Rattle.base_lent.specs.Lent.{into_buffer, room_for, left};
-ghost use Rattle.word_tables.specs.WordsHelpers.{SpellsWords};
 ghost use Rattle.body_rules.specs.Lexicon.{lexicon};
 ghost use Rattle.crunch_rules.specs.Crunched.{crunched};
 ghost use Rattle.crunch_rules.specs.Measured.{line_measured};
@@ -17,7 +16,7 @@ use crunch_rules::{MeasuredLine, Options};
 use guess::resolve;
 use word_match::sets;
 use word_match::sets::Sets;
-use word_tables::spellings;
+use word_tables::{Words, spellings};
 
 mod bound;
 
@@ -29,8 +28,7 @@ pub fn crunch(text: &[u8], options: Options, out: &mut [u8]) -> Result<usize, Re
         out,
         text,
         options,
-        &spellings::WORD_BYTES,
-        &spellings::WORD_INDEX,
+        spellings::words(),
     )
 }
 
@@ -41,8 +39,7 @@ pub fn room(text: &[u8], options: Options) -> Result<usize, Refusal>
     room_with(
         text,
         options,
-        &spellings::WORD_BYTES,
-        &spellings::WORD_INDEX,
+        spellings::words(),
     )
 }
 
@@ -54,17 +51,15 @@ pub fn measured_line(text: &[u8], options: Options, place: usize) -> Result<Opti
         text,
         options,
         place,
-        &spellings::WORD_BYTES,
-        &spellings::WORD_INDEX,
+        spellings::words(),
     )
 }
 
 // The room, and the line below, with the tables lent.
-fn room_with(text: &[u8], options: Options, bytes: &[u8], index: &[u16]) -> Result<usize, Refusal>
-    requires { SpellsWords bytes.now index.now }
+fn room_with(text: &[u8], options: Options, words: Words) -> Result<usize, Refusal>
     ensures { answered result ≡ room_for (crunched options text.now) }
 {
-    let m = measured(text, options, 0, bytes, index);
+    let m = measured(text, options, 0, words);
     let room = m.room;
     room
 }
@@ -73,28 +68,25 @@ fn line_with(
     text: &[u8],
     options: Options,
     place: usize,
-    bytes: &[u8],
-    index: &[u16],
+    words: Words,
 ) -> Result<Option<MeasuredLine>, Refusal>
-    requires { SpellsWords bytes.now index.now }
     ensures { answered result ≡ line_measured options place text.now }
 {
-    let m = measured(text, options, place, bytes, index);
+    let m = measured(text, options, place, words);
     let line = m.line;
     line
 }
 
 // Checks a text and measures it.
-fn measured(text: &[u8], options: Options, place: usize, bytes: &[u8], index: &[u16]) -> Pass
-    requires { SpellsWords bytes.now index.now }
+fn measured(text: &[u8], options: Options, place: usize, words: Words) -> Pass
     ensures { MeasuredAs options place text.now result }
 {
     match text_domain::check_text(text) {
         Ok(()) => {
             let dialect = options.dialect;
-            let guessed = resolve::word_sets(text, dialect, bytes, index);
+            let guessed = resolve::word_sets(text, dialect, words);
             let sets = sets::with_forms(guessed, options.forms);
-            crunch_measure::measure(text, options, place, bytes, index, sets)
+            crunch_measure::measure(text, options, place, words, sets)
         }
         Err(refusal) => crunch_measure::refused(refusal),
     }
@@ -105,18 +97,16 @@ fn crunch_with(
     out: &mut [u8],
     text: &[u8],
     options: Options,
-    bytes: &[u8],
-    index: &[u16],
+    words: Words,
 ) -> Result<usize, Refusal>
-    requires { SpellsWords bytes.now index.now }
     ensures { left result out.new ≡ into_buffer (crunched options text.now) out.old }
 {
     match text_domain::check_text(text) {
         Ok(()) => {
             let dialect = options.dialect;
-            let guessed = resolve::word_sets(text, dialect, bytes, index);
+            let guessed = resolve::word_sets(text, dialect, words);
             let sets = sets::with_forms(guessed, options.forms);
-            into_buffer(out, text, options, bytes, index, sets)
+            into_buffer(out, text, options, words, sets)
         }
         Err(refusal) => Err(refusal),
     }
@@ -128,28 +118,26 @@ fn into_buffer(
     out: &mut [u8],
     text: &[u8],
     options: Options,
-    bytes: &[u8],
-    index: &[u16],
+    words: Words,
     sets: Sets,
 ) -> Result<usize, Refusal>
-    requires { SpellsWords bytes.now index.now }
     ensures { left result out.new ≡ into_buffer (text_image options.profile (lexicon sets) options.load text.now) out.old }
 {
     let load = options.load;
     let profile = options.profile;
     if !profile {
-        if bound::fits(text, load, out.len(), bytes, index, sets) {
-            return Ok(crunch_write::write(out, text, load, bytes, index, sets));
+        if bound::fits(text, load, out.len(), words, sets) {
+            return Ok(crunch_write::write(out, text, load, words, sets));
         }
     }
-    let pass = crunch_measure::measure(text, options, 0, bytes, index, sets);
+    let pass = crunch_measure::measure(text, options, 0, words, sets);
     let room = pass.room;
     match room {
         Ok(needed) => {
             if needed > out.len() {
                 return Err(Refusal::NoRoom { needed });
             }
-            Ok(crunch_write::write(out, text, load, bytes, index, sets))
+            Ok(crunch_write::write(out, text, load, words, sets))
         }
         Err(refusal) => Err(refusal),
     }

@@ -2,7 +2,6 @@
 #![tactic(auto)]
 
 ghost use Rattle.std.specs.Prelude.{◌≡◌};
-ghost use Rattle.word_tables.specs.WordsHelpers.{SpellsWords};
 ghost use Rattle.body_rules.specs.Lexicon.{lexicon};
 ghost use Rattle.crunch_measure.specs.MeasureHelpers.{PassedAs, refused_pass, Span, line_between};
 
@@ -12,6 +11,7 @@ use crunch_sizes::{Sized, Spot};
 use image_readers::Line;
 use text_lines::LineRule;
 use word_match::sets::Sets;
+use word_tables::Words;
 
 // What measuring a text answers: the room that its image needs, and the line at a place of that image.
 #[derive(Clone, Copy)]
@@ -25,11 +25,9 @@ pub fn measure(
     text: &[u8],
     options: Options,
     place: usize,
-    bytes: &[u8],
-    index: &[u16],
+    words: Words,
     sets: Sets,
 ) -> Pass
-    requires { SpellsWords bytes.now index.now }
     ensures { PassedAs options.profile (lexicon sets) options.load place text.now result }
 {
     let profile = options.profile;
@@ -52,7 +50,7 @@ pub fn measure(
             least,
             address,
         };
-        match crunch_sizes::measure_line(&text[begin..end], spot, bytes, index, sets) {
+        match crunch_sizes::measure_line(&text[begin..end], spot, words, sets) {
             Sized::Blank => {}
             Sized::Numbered { number, behind } => {
                 count += 1;

@@ -2,7 +2,6 @@
 #![tactic(auto)]
 
 ghost use Rattle.std.specs.Prelude.{◌≡◌, ◌≤◌};
-ghost use Rattle.word_tables.specs.WordsHelpers.{SpellsWords};
 ghost use Rattle.body_rules.specs.Lexicon.{lexicon};
 ghost use Rattle.crunch_rules.specs.Crunched.{line_under};
 ghost use Rattle.crunch_sizes.specs.SizeHelpers.{SizedAs, sized_at, Bounded};
@@ -11,6 +10,7 @@ use base_refusals::Refusal;
 use body::zero;
 use text_numbers::Numbering;
 use word_match::sets::Sets;
+use word_tables::Words;
 
 // What a text line gives: nothing, a line with the address behind it, or a refusal.
 #[derive(Clone, Copy)]
@@ -32,8 +32,8 @@ pub struct Spot {
 
 // A text line.
 #[tactic(auto, using(crate::proofs::Sizing::sized_plain))]
-pub fn measure_line(line: &[u8], spot: Spot, bytes: &[u8], index: &[u16], sets: Sets) -> Sized
-    requires { SpellsWords bytes.now index.now × (spot.address ≤ 0xFFFF) }
+pub fn measure_line(line: &[u8], spot: Spot, words: Words, sets: Sets) -> Sized
+    requires { (spot.address ≤ 0xFFFF) }
     ensures { SizedAs spot.address (line_under spot.profile (lexicon sets) spot.k spot.least line.now) result }
 {
     let k = spot.k;
@@ -49,12 +49,12 @@ pub fn measure_line(line: &[u8], spot: Spot, bytes: &[u8], index: &[u16], sets: 
             body_from,
             body_to,
         } => {
-            let length = body::measure_body(&line[body_from..body_to], bytes, index, sets);
+            let length = body::measure_body(&line[body_from..body_to], words, sets);
             let profile = spot.profile;
             if !profile {
                 return size_line(spot.address, number, length);
             }
-            let zero = zero::holds_zero(&line[body_from..body_to], bytes, index, sets);
+            let zero = zero::holds_zero(&line[body_from..body_to], words, sets);
             match crunch_profile::allow_line(k, spot.least, number, zero, length) {
                 Ok(()) => size_line(spot.address, number, length),
                 Err(refusal) => Sized::Refused(refusal),
@@ -76,8 +76,8 @@ fn size_line(address: usize, number: u16, length: usize) -> Sized
 }
 
 // An address beyond which the line that a text line gives does not reach; one above FFFF where the text line may be refused.
-pub fn bound_line(line: &[u8], address: usize, bytes: &[u8], index: &[u16], sets: Sets) -> usize
-    requires { SpellsWords bytes.now index.now × (address ≤ 0xFFFF) }
+pub fn bound_line(line: &[u8], address: usize, words: Words, sets: Sets) -> usize
+    requires { (address ≤ 0xFFFF) }
     ensures { Bounded (lexicon sets) address line.now result }
 {
     match text_numbers::number_line(line) {
@@ -89,7 +89,7 @@ pub fn bound_line(line: &[u8], address: usize, bytes: &[u8], index: &[u16], sets
             body_from,
             body_to,
         } => {
-            let length = body::bound_body(&line[body_from..body_to], bytes, index, sets);
+            let length = body::bound_body(&line[body_from..body_to], words, sets);
             address + 5 + length
         }
     }

@@ -4,7 +4,6 @@
 ghost use Rattle.std.specs.Prelude.{◌≡◌, ◌≤◌, false};
 ghost use Rattle.base_lent.specs.Lent.{into_buffer, left};
 ghost use Rattle.base_lent.specs.Stores.{Room, Put, HasRoom};
-ghost use Rattle.word_tables.specs.WordsHelpers.{SpellsWords};
 ghost use Rattle.body_rules.specs.Lexicon.{lexicon};
 ghost use Rattle.image_layout.specs.Layout.{lines_bytes, two_bytes};
 ghost use Rattle.crunch_rules.specs.Crunched.{text_line};
@@ -14,17 +13,17 @@ ghost use Rattle.crunch_write.specs.FrameHelpers.{FrameRoom, Framed};
 use text_lines::LineRule;
 use text_numbers::Numbering;
 use word_match::sets::Sets;
+use word_tables::Words;
 
 // Writes the image, and answers its length.
 pub fn write(
     out: &mut [u8],
     text: &[u8],
     load: u16,
-    bytes: &[u8],
-    index: &[u16],
+    words: Words,
     sets: Sets,
 ) -> usize
-    requires { SpellsWords bytes.now index.now × HasRoom out.old (text_image false (lexicon sets) load text.now) }
+    requires { HasRoom out.old (text_image false (lexicon sets) load text.now) }
     ensures { left (Outcome.Done result) out.new ≡ into_buffer (text_image false (lexicon sets) load text.now) out.old }
 {
     let first = load as usize;
@@ -39,8 +38,7 @@ pub fn write(
             &mut out[to..],
             address,
             &text[begin..end],
-            bytes,
-            index,
+            words,
             sets,
         );
         to += n;
@@ -54,11 +52,10 @@ fn write_line(
     out: &mut [u8],
     address: usize,
     line: &[u8],
-    bytes: &[u8],
-    index: &[u16],
+    words: Words,
     sets: Sets,
 ) -> usize
-    requires { SpellsWords bytes.now index.now × (address ≤ 0xFFFF) × Room out.old 0 (lines_bytes address (given (text_line (lexicon sets) 0 line.now))) }
+    requires { (address ≤ 0xFFFF) × Room out.old 0 (lines_bytes address (given (text_line (lexicon sets) 0 line.now))) }
     ensures { Put out.old 0 (lines_bytes address (given (text_line (lexicon sets) 0 line.now))) result out.new }
 {
     match text_numbers::number_line(line) {
@@ -73,8 +70,7 @@ fn write_line(
             let length = body::write_body(
                 &mut out[4..],
                 &line[body_from..body_to],
-                bytes,
-                index,
+                words,
                 sets,
             );
             put_frame(out, address, number, length)

@@ -1,6 +1,5 @@
 // What decides the dialect of a text, and the words that crunching looks for in it.
 ghost use Rattle.std.specs.Prelude.{◌≡◌, min, length};
-ghost use Rattle.word_tables.specs.WordsHelpers.{SpellsWords};
 ghost use Rattle.word_dialects.specs.declared.Dialect.TheVariants.{Auto};
 ghost use Rattle.guess.specs.Guess.{word_sets};
 ghost use Rattle.body_rules.specs.Lexicon.{lexicon};
@@ -12,7 +11,7 @@ use text_lines::LineRule;
 use word_dialects::Dialect;
 use word_match::sets::Sets;
 use word_search::Match;
-use word_tables::spellings;
+use word_tables::{Words, spellings};
 
 // The first text line, from 1, that proves a text to be TSB; or none does.
 #[derive(Clone, Copy)]
@@ -24,12 +23,11 @@ pub enum Decided {
 pub fn deciding_line(text: &[u8], rule: LineRule) -> Decided
     ensures { result ≡ deciding_line rule text.now }
 {
-    deciding_with(text, rule, &spellings::WORD_BYTES, &spellings::WORD_INDEX)
+    deciding_with(text, rule, spellings::words())
 }
 
 // The same, with the tables lent.
-fn deciding_with(text: &[u8], rule: LineRule, bytes: &[u8], index: &[u16]) -> Decided
-    requires { SpellsWords bytes.now index.now }
+fn deciding_with(text: &[u8], rule: LineRule, words: Words) -> Decided
     ensures { result ≡ deciding_line rule text.now }
 {
     let mut at: usize = 0;
@@ -38,7 +36,7 @@ fn deciding_with(text: &[u8], rule: LineRule, bytes: &[u8], index: &[u16]) -> De
         let line = text_lines::next_line(text, at, rule);
         let end = line.end;
         k += 1;
-        if guess_evidence::line_evidence(&text[at..end], bytes, index) {
+        if guess_evidence::line_evidence(&text[at..end], words) {
             return Decided::ByLine(k);
         }
         at = line.next;
@@ -50,15 +48,14 @@ fn deciding_with(text: &[u8], rule: LineRule, bytes: &[u8], index: &[u16]) -> De
 pub fn tsb_length(text: &[u8]) -> usize
     ensures { result ≡ tsb_length text.now }
 {
-    length_with(text, &spellings::WORD_BYTES, &spellings::WORD_INDEX)
+    length_with(text, spellings::words())
 }
 
 // The same, with the tables lent.
-fn length_with(text: &[u8], bytes: &[u8], index: &[u16]) -> usize
-    requires { SpellsWords bytes.now index.now }
+fn length_with(text: &[u8], words: Words) -> usize
     ensures { result ≡ tsb_length text.now }
 {
-    match word_match::match_tsb(text, bytes, index) {
+    match word_match::match_tsb(text, words) {
         Some(Match {
             index: _,
             used,
@@ -75,8 +72,7 @@ pub fn words_of(text: &[u8]) -> Sets
     resolve::word_sets(
         text,
         Dialect::Auto,
-        &spellings::WORD_BYTES,
-        &spellings::WORD_INDEX,
+        spellings::words(),
     )
 }
 
@@ -84,5 +80,5 @@ pub fn words_of(text: &[u8]) -> Sets
 pub fn body_length(text: &[u8], sets: Sets) -> usize
     ensures { result ≡ min (length (crunched_body (lexicon sets) text.now)) 65536 }
 {
-    body::measure_body(text, &spellings::WORD_BYTES, &spellings::WORD_INDEX, sets)
+    body::measure_body(text, spellings::words(), sets)
 }

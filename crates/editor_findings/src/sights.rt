@@ -1,6 +1,5 @@
 // The steps of a body that an editor is told of, one after the other.
 ghost use Rattle.std.specs.Prelude.{◌≡◌};
-ghost use Rattle.word_tables.specs.WordsHelpers.{SpellsWords};
 ghost use Rattle.body_steps.specs.BraceHelpers.{Spans};
 ghost use Rattle.body_rules.specs.Lexicon.{lexicon};
 ghost use Rattle.editor_findings.specs.Sights.{first_sight};
@@ -11,7 +10,7 @@ use body::at::Stand;
 use body_rules::Mode;
 use editor_steps::Finding;
 use word_match::sets::Sets;
-use word_tables::spellings;
+use word_tables::{Words, spellings};
 
 // A place of a body, and the mode in which it is crunched from there on.
 #[derive(Clone, Copy)]
@@ -56,22 +55,21 @@ pub fn sight_from(text: &[u8], from: Stand, sets: Sets) -> Told
     sight_with(
         text,
         from,
-        &spellings::WORD_BYTES,
-        &spellings::WORD_INDEX,
+        spellings::words(),
         sets,
     )
 }
 
 // The same, with the tables lent.
-fn sight_with(text: &[u8], from: Stand, bytes: &[u8], index: &[u16], sets: Sets) -> Told
-    requires { Spans text.now from.at from.span × SpellsWords bytes.now index.now }
+fn sight_with(text: &[u8], from: Stand, words: Words, sets: Sets) -> Told
+    requires { Spans text.now from.at from.span }
     ensures { Tells (lexicon sets) text.now from result }
 {
     let mut at = from.at;
     let mut mode = from.mode;
     let mut span = from.span;
     while at < text.len() {
-        let taken = at::step_at(text, Stand { at, mode, span }, bytes, index, sets);
+        let taken = at::step_at(text, Stand { at, mode, span }, words, sets);
         let step = taken.step;
         let finding = editor_steps::finding_of(mode, text[at], step);
         let next = step.mode;

@@ -4,7 +4,6 @@
 ghost use Rattle.std.specs.Prelude.{◌≡◌, ◌≤◌, ◌<◌, length, take, drop};
 ghost use Rattle.base_ascii.specs.Bytes.{is_space};
 ghost use Rattle.base_ascii.specs.Search.{past};
-ghost use Rattle.word_tables.specs.WordsHelpers.{SpellsWords};
 ghost use Rattle.escape_bytes.specs.Escape.{escape_of, name_escape};
 ghost use Rattle.escapes.specs.TailHelpers.{TailOf, whole_tail, starred_tail};
 
@@ -12,7 +11,7 @@ use base_ascii::search;
 use base_ascii::search::Kind;
 use escape_bytes::Escape;
 use word_search::Match;
-use word_tables::spellings;
+use word_tables::{Words, spellings};
 
 mod keys;
 
@@ -32,15 +31,14 @@ pub struct Tail {
 pub fn petscii_escape(inside: &[u8]) -> Option<Escape>
     ensures { result ≡ escape_of inside.now }
 {
-    resolve_petscii_escape(inside, &spellings::WORD_BYTES, &spellings::WORD_INDEX)
+    resolve_petscii_escape(inside, spellings::words())
 }
 
 // The same, with the tables lent.
-pub fn resolve_petscii_escape(inside: &[u8], bytes: &[u8], index: &[u16]) -> Option<Escape>
-    requires { SpellsWords bytes.now index.now }
+pub fn resolve_petscii_escape(inside: &[u8], words: Words) -> Option<Escape>
     ensures { result ≡ escape_of inside.now }
 {
-    escape_from(inside, 0, tail_of(inside), bytes, index)
+    escape_from(inside, 0, tail_of(inside), words)
 }
 
 // The tail of a text. The text is read once for it, and not again for any end of it.
@@ -94,14 +92,14 @@ fn starred_tail(text: &[u8], star: usize) -> Tail
 }
 
 // The escape that a text is from a place on, by the text's tail.
-pub fn escape_from(inside: &[u8], at: usize, tail: Tail, bytes: &[u8], index: &[u16]) -> Option<Escape>
-    requires { TailOf inside.now tail × SpellsWords bytes.now index.now }
+pub fn escape_from(inside: &[u8], at: usize, tail: Tail, words: Words) -> Option<Escape>
+    requires { TailOf inside.now tail }
     ensures { result ≡ escape_of (drop at inside.now) }
 {
     if at < tail.star {
-        return resolve_name(part(inside, at, tail.name), tail.count, bytes, index);
+        return resolve_name(part(inside, at, tail.name), tail.count, words);
     }
-    resolve_name(part(inside, at, tail.end), 1, bytes, index)
+    resolve_name(part(inside, at, tail.end), 1, words)
 }
 
 // A text from one place up to another, without the white space in front.
@@ -118,8 +116,7 @@ fn part(text: &[u8], from: usize, to: usize) -> &[u8]
 }
 
 // The escape of a name without its count.
-fn resolve_name(name: &[u8], count: u64, bytes: &[u8], index: &[u16]) -> Option<Escape>
-    requires { SpellsWords bytes.now index.now }
+fn resolve_name(name: &[u8], count: u64, words: Words) -> Option<Escape>
     ensures { result ≡ name_escape name.now count }
 {
     if name.len() == 0 {
@@ -135,7 +132,7 @@ fn resolve_name(name: &[u8], count: u64, bytes: &[u8], index: &[u16]) -> Option<
                 byte: v as u8,
                 count,
             }),
-            None => match word_match::match_escape(name, bytes, index) {
+            None => match word_match::match_escape(name, words) {
                 Some(Match {
                     index: _,
                     used: _,

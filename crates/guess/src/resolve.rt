@@ -1,6 +1,5 @@
 // The dialect of a text, and the TSB words that are live in it.
 ghost use Rattle.std.specs.Prelude.{◌≡◌, ◌≤◌, length};
-ghost use Rattle.word_tables.specs.WordsHelpers.{SpellsWords};
 ghost use Rattle.text_lines.specs.TextLines.{text_lines};
 ghost use Rattle.guess.specs.Guess.{evidence as evidence_of, all_names, guessed_dialect, resolved, word_sets};
 ghost use Rattle.base_refusals.specs.Answer.{answered};
@@ -9,11 +8,10 @@ use base_refusals::Refusal;
 use text_lines::LineRule;
 use word_dialects::Dialect;
 use word_match::sets::Sets;
-use word_tables::spellings;
+use word_tables::{Words, spellings};
 
 // Whether a line of the text proves that it is TSB.
-pub fn text_evidence(text: &[u8], rule: LineRule, bytes: &[u8], index: &[u16]) -> bool
-    requires { SpellsWords bytes.now index.now }
+pub fn text_evidence(text: &[u8], rule: LineRule, words: Words) -> bool
     ensures { result ≡ evidence_of rule text.now }
 {
     let mut at: usize = 0;
@@ -22,7 +20,7 @@ pub fn text_evidence(text: &[u8], rule: LineRule, bytes: &[u8], index: &[u16]) -
         // The blanks in front of a line prove nothing.
         let begin = line.begin;
         let end = line.end;
-        if guess_evidence::line_evidence(&text[begin..end], bytes, index) {
+        if guess_evidence::line_evidence(&text[begin..end], words) {
             return true;
         }
         at = line.next;
@@ -31,15 +29,15 @@ pub fn text_evidence(text: &[u8], rule: LineRule, bytes: &[u8], index: &[u16]) -
 }
 
 // Adds the words that the text uses as variables to those that were found.
-fn text_names(text: &[u8], rule: LineRule, bytes: &[u8], index: &[u16], found: &mut [bool])
-    requires { SpellsWords bytes.now index.now × (123 ≤ length found.old) }
+fn text_names(text: &[u8], rule: LineRule, words: Words, found: &mut [bool])
+    requires { (123 ≤ length found.old) }
     ensures { found.new ≡ all_names (text_lines rule text.now) found.old }
 {
     let mut at: usize = 0;
     while at < text.len() {
         let line = text_lines::next_line(text, at, rule);
         let end = line.end;
-        guess_variables::line_names(&text[at..end], bytes, index, found);
+        guess_variables::line_names(&text[at..end], words, found);
         at = line.next;
     }
 }
@@ -53,8 +51,7 @@ fn guessed(text: &[u8], dialect: Dialect) -> Dialect
             if text_evidence(
                 text,
                 LineRule::AsGiven,
-                &spellings::WORD_BYTES,
-                &spellings::WORD_INDEX,
+                spellings::words(),
             ) {
                 Dialect::Tsb
             } else {
@@ -79,8 +76,7 @@ pub fn resolved_dialect(text: &[u8], dialect: Dialect) -> Result<Dialect, Refusa
 
 // The TSB words that are live when a text is crunched, those that are demoted, and whether the words of BASIC 3.5 are looked for. The guess
 // knows no short forms.
-pub fn word_sets(text: &[u8], dialect: Dialect, bytes: &[u8], index: &[u16]) -> Sets
-    requires { SpellsWords bytes.now index.now }
+pub fn word_sets(text: &[u8], dialect: Dialect, words: Words) -> Sets
     ensures { result ≡ word_sets dialect text.now }
 {
     let basic35 = word_dialects::is_basic35(dialect);
@@ -105,8 +101,8 @@ pub fn word_sets(text: &[u8], dialect: Dialect, bytes: &[u8], index: &[u16]) -> 
             forms: false,
         },
         Dialect::Auto => {
-            if text_evidence(text, LineRule::AfterCr, bytes, index) {
-                text_names(text, LineRule::AfterCr, bytes, index, &mut demoted);
+            if text_evidence(text, LineRule::AfterCr, words) {
+                text_names(text, LineRule::AfterCr, words, &mut demoted);
                 return Sets {
                     tsb: true,
                     demoted,

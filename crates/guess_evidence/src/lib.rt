@@ -4,7 +4,6 @@
 ghost use Rattle.std.specs.Prelude.{◌≡◌, ◌≤◌, ◌<◌, true, false, ◌&&◌, eqb, length, get_or};
 ghost use Rattle.base_ascii.specs.Bytes.{is_letter};
 ghost use Rattle.base_ascii.specs.declared.search.Kind.TheVariants.{White};
-ghost use Rattle.word_tables.specs.WordsHelpers.{SpellsWords};
 ghost use Rattle.guess_evidence.specs.Evidence.{word_proves, statement_step, evidence_step, number_length, line_evidence, list_place, deciding_place, deciding_word};
 ghost use Rattle.guess_places.specs.Places.{is_plain};
 ghost use Rattle.guess_uses.specs.MarkHelpers.{MarksOf};
@@ -15,7 +14,7 @@ use guess_places::place::Place;
 use guess_places::{beginnings, place};
 use guess_uses::{lists, proving};
 use word_search::Match;
-use word_tables::spellings;
+use word_tables::{Words, spellings};
 
 // The first word of a line that proves that a text is TSB.
 #[derive(Clone, Copy)]
@@ -35,11 +34,11 @@ pub enum EvidenceStep {
 }
 
 // Whether a TSB word stands in front of a text, and proves that the text is TSB.
-fn word_proves(place: Place, text: &[u8], marks: &[u8], bytes: &[u8], index: &[u16]) -> bool
-    requires { SpellsWords bytes.now index.now × MarksOf White text.now marks.now }
+fn word_proves(place: Place, text: &[u8], marks: &[u8], words: Words) -> bool
+    requires { MarksOf White text.now marks.now }
     ensures { result ≡ word_proves place text.now }
 {
-    match beginnings::tsb_word(text, bytes, index) {
+    match beginnings::tsb_word(text, words) {
         Some(Match {
             index: _,
             used,
@@ -56,8 +55,8 @@ fn on(used: usize, place: Place) -> EvidenceStep
 }
 
 // A step at a letter outside strings and DATA: only there a word may stand.
-fn letter_step(place: Place, text: &[u8], marks: &[u8], bytes: &[u8], index: &[u16]) -> EvidenceStep
-    requires { SpellsWords bytes.now index.now × (0 < length text.now) × MarksOf White text.now marks.now × (is_letter (get_or text.now 0 0) ≡ true) }
+fn letter_step(place: Place, text: &[u8], marks: &[u8], words: Words) -> EvidenceStep
+    requires { (0 < length text.now) × MarksOf White text.now marks.now × (is_letter (get_or text.now 0 0) ≡ true) }
     ensures { result ≡ statement_step place text.now }
 {
     if beginnings::begins_rem(text) {
@@ -66,7 +65,7 @@ fn letter_step(place: Place, text: &[u8], marks: &[u8], bytes: &[u8], index: &[u
     if beginnings::begins_data(text) {
         return on(4, Place::Data);
     }
-    if word_proves(place, text, marks, bytes, index) {
+    if word_proves(place, text, marks, words) {
         return EvidenceStep::Proved;
     }
     on(1, Place::Within)
@@ -95,14 +94,13 @@ fn statement_step(
     place: Place,
     text: &[u8],
     marks: &[u8],
-    bytes: &[u8],
-    index: &[u16],
+    words: Words,
 ) -> EvidenceStep
-    requires { SpellsWords bytes.now index.now × (0 < length text.now) × MarksOf White text.now marks.now }
+    requires { (0 < length text.now) × MarksOf White text.now marks.now }
     ensures { result ≡ statement_step place text.now }
 {
     if base_ascii::is_letter(text[0]) {
-        return letter_step(place, text, marks, bytes, index);
+        return letter_step(place, text, marks, words);
     }
     other_step(place, text)
 }
@@ -111,14 +109,13 @@ fn evidence_step(
     place: Place,
     text: &[u8],
     marks: &[u8],
-    bytes: &[u8],
-    index: &[u16],
+    words: Words,
 ) -> EvidenceStep
-    requires { SpellsWords bytes.now index.now × (0 < length text.now) × MarksOf White text.now marks.now }
+    requires { (0 < length text.now) × MarksOf White text.now marks.now }
     ensures { result ≡ evidence_step place text.now }
 {
     if place::is_plain(place) {
-        return statement_step(place, text, marks, bytes, index);
+        return statement_step(place, text, marks, words);
     }
     on(1, place::aside(place, text[0]))
 }
@@ -132,11 +129,10 @@ fn number_length(line: &[u8]) -> usize
 }
 
 // The place in the list of the TSB word that a text begins with.
-fn list_place(text: &[u8], bytes: &[u8], index: &[u16]) -> usize
-    requires { SpellsWords bytes.now index.now }
+fn list_place(text: &[u8], words: Words) -> usize
     ensures { result ≡ list_place text.now }
 {
-    match beginnings::tsb_word(text, bytes, index) {
+    match beginnings::tsb_word(text, words) {
         Some(Match {
             index: word,
             used: _,
@@ -157,8 +153,8 @@ fn is_gap(place: Place, b: u8) -> bool
 }
 
 // A space is passed without a step, since no byte is more frequent.
-fn marked_place(line: &[u8], marks: &[u8], bytes: &[u8], index: &[u16]) -> Option<usize>
-    requires { SpellsWords bytes.now index.now × MarksOf White line.now marks.now }
+fn marked_place(line: &[u8], marks: &[u8], words: Words) -> Option<usize>
+    requires { MarksOf White line.now marks.now }
     ensures { result ≡ deciding_place line.now }
 {
     let mut i = number_length(line);
@@ -167,7 +163,7 @@ fn marked_place(line: &[u8], marks: &[u8], bytes: &[u8], index: &[u16]) -> Optio
         if is_gap(place, line[i]) {
             i += 1;
         } else {
-            match evidence_step(place, &line[i..], marks, bytes, index) {
+            match evidence_step(place, &line[i..], marks, words) {
                 EvidenceStep::Proved => {
                     return Some(i);
                 }
@@ -185,30 +181,29 @@ fn marked_place(line: &[u8], marks: &[u8], bytes: &[u8], index: &[u16]) -> Optio
     None
 }
 
-fn long_place(line: &[u8], bytes: &[u8], index: &[u16]) -> Option<usize>
-    requires { SpellsWords bytes.now index.now × (length line.now ≤ 16384) }
+fn long_place(line: &[u8], words: Words) -> Option<usize>
+    requires { (length line.now ≤ 16384) }
     ensures { result ≡ deciding_place line.now }
 {
     let mut marks = [0u8; 2048];
     let mut levels = [0u8; 2048];
     lists::mark_long(line, Kind::White, &mut marks, &mut levels);
-    marked_place(line, &marks, bytes, index)
+    marked_place(line, &marks, words)
 }
 
-fn longest_place(line: &[u8], bytes: &[u8], index: &[u16]) -> Option<usize>
-    requires { SpellsWords bytes.now index.now × (length line.now ≤ 1048576) }
+fn longest_place(line: &[u8], words: Words) -> Option<usize>
+    requires { (length line.now ≤ 1048576) }
     ensures { result ≡ deciding_place line.now }
 {
     let mut marks = [0u8; 131072];
     let mut levels = [0u8; 131072];
     lists::mark_longest(line, Kind::White, &mut marks, &mut levels);
-    marked_place(line, &marks, bytes, index)
+    marked_place(line, &marks, words)
 }
 
 // Where the first word that proves it stands. A short line needs no room for marks, a longer one 4 KB or 256 KB; no text has a line that is
 // longer still.
-fn deciding_place(line: &[u8], bytes: &[u8], index: &[u16]) -> Option<usize>
-    requires { SpellsWords bytes.now index.now }
+fn deciding_place(line: &[u8], words: Words) -> Option<usize>
     ensures { result ≡ deciding_place line.now }
 {
     let n = line.len();
@@ -218,35 +213,33 @@ fn deciding_place(line: &[u8], bytes: &[u8], index: &[u16]) -> Option<usize>
     }
     if n > 256 {
         if n <= 16384 {
-            return long_place(line, bytes, index);
+            return long_place(line, words);
         }
         if n <= 1048576 {
-            return longest_place(line, bytes, index);
+            return longest_place(line, words);
         }
     }
-    marked_place(line, b"", bytes, index)
+    marked_place(line, b"", words)
 }
 
 // Whether a line proves that a text is TSB.
-pub fn line_evidence(line: &[u8], bytes: &[u8], index: &[u16]) -> bool
-    requires { SpellsWords bytes.now index.now }
+pub fn line_evidence(line: &[u8], words: Words) -> bool
     ensures { result ≡ line_evidence line.now }
 {
-    match deciding_place(line, bytes, index) {
+    match deciding_place(line, words) {
         Some(_) => true,
         None => false,
     }
 }
 
 // The word that proves it, with the tables lent.
-fn word_with(line: &[u8], bytes: &[u8], index: &[u16]) -> DecidingWord
-    requires { SpellsWords bytes.now index.now }
+fn word_with(line: &[u8], words: Words) -> DecidingWord
     ensures { result ≡ deciding_word line.now }
 {
-    match deciding_place(line, bytes, index) {
+    match deciding_place(line, words) {
         Some(offset) => DecidingWord::Decides {
             offset,
-            word: list_place(&line[offset..], bytes, index),
+            word: list_place(&line[offset..], words),
         },
         None => DecidingWord::NoneDecides,
     }
@@ -256,5 +249,5 @@ fn word_with(line: &[u8], bytes: &[u8], index: &[u16]) -> DecidingWord
 pub fn deciding_word(line: &[u8]) -> DecidingWord
     ensures { result ≡ deciding_word line.now }
 {
-    word_with(line, &spellings::WORD_BYTES, &spellings::WORD_INDEX)
+    word_with(line, spellings::words())
 }

@@ -4,11 +4,10 @@ ghost use Rattle.word_search.specs.Compare.{begins};
 ghost use Rattle.word_search.specs.Find.{word_in};
 ghost use Rattle.word_search.specs.Spelling.{bytes_of};
 ghost use Rattle.word_tables.specs.Tsb.{tsb_words};
-ghost use Rattle.word_tables.specs.WordsHelpers.{SpellsWords};
 ghost use Rattle.guess_places.specs.PlaceHelpers.{may_second};
 
 use word_search::{Match, Test};
-use word_tables::WordList;
+use word_tables::{WordList, Words};
 
 // A bit for each byte from 20 on that is the second one of a TSB word: !ACEFGHILMNOPRSTUX.
 const SECONDS: u64 = 0x13DF3EA00000002;
@@ -28,8 +27,7 @@ fn may_be_second(b: u8) -> bool
 }
 
 // The TSB word that a text begins with. Each begins with a letter and has a second byte, so that most places are not looked up.
-pub fn tsb_word(text: &[u8], bytes: &[u8], index: &[u16]) -> Option<Match>
-    requires { SpellsWords bytes.now index.now }
+pub fn tsb_word(text: &[u8], words: Words) -> Option<Match>
     ensures { result ≡ word_in tsb_words text.now }
 {
     if text.len() < 2 {
@@ -41,7 +39,7 @@ pub fn tsb_word(text: &[u8], bytes: &[u8], index: &[u16]) -> Option<Match>
     if !may_be_second(text[1]) {
         return None;
     }
-    word_match::match_in(WordList::Tsb, Test::Begins, text, bytes, index)
+    word_match::match_in(WordList::Tsb, Test::Begins, text, words)
 }
 
 // Whether a text begins with REM. Its first byte is asked for first: most places have another.

@@ -4,7 +4,6 @@
 ghost use Rattle.std.specs.Prelude.{◌≡◌, reverse, ◌+◌, ◌≤◌, ◌<◌, true, length, get_or, take, drop};
 ghost use Rattle.base_ascii.specs.Bytes.{is_letter};
 ghost use Rattle.base_ascii.specs.declared.search.Kind.TheVariants.{Space};
-ghost use Rattle.word_tables.specs.WordsHelpers.{SpellsWords};
 ghost use Rattle.guess_variables.specs.Variables.{after_dim, is_name, word_pass, plain_pass, pass_of, line_names};
 ghost use Rattle.guess_uses.specs.MarkHelpers.{MarksOf};
 
@@ -14,6 +13,7 @@ use guess_places::place::Place;
 use guess_places::{beginnings, place};
 use guess_uses::{ahead, lists};
 use word_search::Match;
+use word_tables::Words;
 
 #[derive(Clone, Copy)]
 pub enum Pass {
@@ -59,11 +59,11 @@ fn on(used: usize, place: Place) -> Pass
 }
 
 // A step at a place where a TSB word may stand.
-fn word_pass(line: &[u8], i: usize, marks: &[u8], bytes: &[u8], index: &[u16]) -> Pass
-    requires { SpellsWords bytes.now index.now × (i ≤ length line.now) × MarksOf Space line.now marks.now }
+fn word_pass(line: &[u8], i: usize, marks: &[u8], words: Words) -> Pass
+    requires { (i ≤ length line.now) × MarksOf Space line.now marks.now }
     ensures { result ≡ word_pass (reverse (take i line.now)) (drop i line.now) }
 {
-    match beginnings::tsb_word(&line[i..], bytes, index) {
+    match beginnings::tsb_word(&line[i..], words) {
         Some(Match {
             index: word,
             used,
@@ -79,8 +79,8 @@ fn word_pass(line: &[u8], i: usize, marks: &[u8], bytes: &[u8], index: &[u16]) -
 }
 
 // A step at a letter outside strings and DATA.
-fn letter_pass(line: &[u8], i: usize, marks: &[u8], bytes: &[u8], index: &[u16]) -> Pass
-    requires { SpellsWords bytes.now index.now × (i < length line.now) × MarksOf Space line.now marks.now × (is_letter (get_or line.now i 0) ≡ true) }
+fn letter_pass(line: &[u8], i: usize, marks: &[u8], words: Words) -> Pass
+    requires { (i < length line.now) × MarksOf Space line.now marks.now × (is_letter (get_or line.now i 0) ≡ true) }
     ensures { result ≡ plain_pass (reverse (take i line.now)) (drop i line.now) }
 {
     let text = &line[i..];
@@ -90,17 +90,17 @@ fn letter_pass(line: &[u8], i: usize, marks: &[u8], bytes: &[u8], index: &[u16])
     if beginnings::begins_data(text) {
         return on(4, Place::Data);
     }
-    word_pass(line, i, marks, bytes, index)
+    word_pass(line, i, marks, words)
 }
 
 // A step outside strings and DATA: no word stands but at a letter.
-fn plain_pass(line: &[u8], i: usize, marks: &[u8], bytes: &[u8], index: &[u16]) -> Pass
-    requires { SpellsWords bytes.now index.now × (i < length line.now) × MarksOf Space line.now marks.now }
+fn plain_pass(line: &[u8], i: usize, marks: &[u8], words: Words) -> Pass
+    requires { (i < length line.now) × MarksOf Space line.now marks.now }
     ensures { result ≡ plain_pass (reverse (take i line.now)) (drop i line.now) }
 {
     let b = line[i];
     if base_ascii::is_letter(b) {
-        return letter_pass(line, i, marks, bytes, index);
+        return letter_pass(line, i, marks, words);
     }
     if b == 0x22 {
         return on(1, Place::Quoted);
@@ -108,24 +108,24 @@ fn plain_pass(line: &[u8], i: usize, marks: &[u8], bytes: &[u8], index: &[u16]) 
     on(1, Place::Within)
 }
 
-fn next_pass(line: &[u8], i: usize, place: Place, marks: &[u8], bytes: &[u8], index: &[u16]) -> Pass
-    requires { SpellsWords bytes.now index.now × (i < length line.now) × MarksOf Space line.now marks.now }
+fn next_pass(line: &[u8], i: usize, place: Place, marks: &[u8], words: Words) -> Pass
+    requires { (i < length line.now) × MarksOf Space line.now marks.now }
     ensures { result ≡ pass_of (reverse (take i line.now)) place (drop i line.now) }
 {
     if place::is_plain(place) {
-        return plain_pass(line, i, marks, bytes, index);
+        return plain_pass(line, i, marks, words);
     }
     on(1, place::aside(place, line[i]))
 }
 
-fn marked_names(line: &[u8], marks: &[u8], bytes: &[u8], index: &[u16], found: &mut [bool])
-    requires { SpellsWords bytes.now index.now × MarksOf Space line.now marks.now × (123 ≤ length found.old) }
+fn marked_names(line: &[u8], marks: &[u8], words: Words, found: &mut [bool])
+    requires { MarksOf Space line.now marks.now × (123 ≤ length found.old) }
     ensures { found.new ≡ line_names line.now found.old }
 {
     let mut i: usize = 0;
     let mut place = Place::Within;
     while i < line.len() {
-        match next_pass(line, i, place, marks, bytes, index) {
+        match next_pass(line, i, place, marks, words) {
             Pass::Remark => {
                 return;
             }
@@ -143,41 +143,41 @@ fn marked_names(line: &[u8], marks: &[u8], bytes: &[u8], index: &[u16], found: &
     }
 }
 
-fn long_names(line: &[u8], bytes: &[u8], index: &[u16], found: &mut [bool])
-    requires { SpellsWords bytes.now index.now × (length line.now ≤ 16384) × (123 ≤ length found.old) }
+fn long_names(line: &[u8], words: Words, found: &mut [bool])
+    requires { (length line.now ≤ 16384) × (123 ≤ length found.old) }
     ensures { found.new ≡ line_names line.now found.old }
 {
     let mut marks = [0u8; 2048];
     let mut levels = [0u8; 2048];
     lists::mark_long(line, Kind::Space, &mut marks, &mut levels);
-    marked_names(line, &marks, bytes, index, found);
+    marked_names(line, &marks, words, found);
 }
 
-fn longest_names(line: &[u8], bytes: &[u8], index: &[u16], found: &mut [bool])
-    requires { SpellsWords bytes.now index.now × (length line.now ≤ 1048576) × (123 ≤ length found.old) }
+fn longest_names(line: &[u8], words: Words, found: &mut [bool])
+    requires { (length line.now ≤ 1048576) × (123 ≤ length found.old) }
     ensures { found.new ≡ line_names line.now found.old }
 {
     let mut marks = [0u8; 131072];
     let mut levels = [0u8; 131072];
     lists::mark_longest(line, Kind::Space, &mut marks, &mut levels);
-    marked_names(line, &marks, bytes, index, found);
+    marked_names(line, &marks, words, found);
 }
 
 // Adds the words that the line uses as variables to those that were found. Room for marks as in `guess_evidence`.
-pub fn line_names(line: &[u8], bytes: &[u8], index: &[u16], found: &mut [bool])
-    requires { SpellsWords bytes.now index.now × (123 ≤ length found.old) }
+pub fn line_names(line: &[u8], words: Words, found: &mut [bool])
+    requires { (123 ≤ length found.old) }
     ensures { found.new ≡ line_names line.now found.old }
 {
     let n = line.len();
     if n > 256 {
         if n <= 16384 {
-            long_names(line, bytes, index, found);
+            long_names(line, words, found);
             return;
         }
         if n <= 1048576 {
-            longest_names(line, bytes, index, found);
+            longest_names(line, words, found);
             return;
         }
     }
-    marked_names(line, b"", bytes, index, found);
+    marked_names(line, b"", words, found);
 }

@@ -4,12 +4,11 @@
 // Then, for each of the 256 bytes, the listing of a line that holds the byte alone, and of one that holds a quote and the byte.
 #![tactic(auto)]
 
-ghost use Rattle.word_tables.specs.WordsHelpers.{SpellsWords};
 
 use escape_bytes::Escape;
 use word_match::sets::Sets;
 use word_search::Match;
-use word_tables::spellings;
+use word_tables::{Words, spellings};
 
 // The descriptors of standard input and output.
 const STDIN_FILENO: i32 = 0;
@@ -27,8 +26,7 @@ fn print_code(byte: u8) {
 }
 
 // The token of a word or an operator, or 0.
-fn token_of(text: &[u8], bytes: &[u8], index: &[u16]) -> u8
-    requires { SpellsWords bytes.now index.now }
+fn token_of(text: &[u8], words: Words) -> u8
 {
     let sets = Sets {
         tsb: false,
@@ -36,13 +34,13 @@ fn token_of(text: &[u8], bytes: &[u8], index: &[u16]) -> u8
         basic35: true,
         forms: false,
     };
-    match word_match::match_plain(text, bytes, index, sets) {
+    match word_match::match_plain(text, words, sets) {
         Some(Match {
             index: _,
             used: _,
             token,
         }) => token,
-        None => match word_match::match_operator(text, bytes, index) {
+        None => match word_match::match_operator(text, words) {
             Some(Match {
                 index: _,
                 used: _,
@@ -57,7 +55,7 @@ fn token_of(text: &[u8], bytes: &[u8], index: &[u16]) -> u8
 fn print_word(k: u8) {
     let text_bytes = list_texts::TEXT_BYTES;
     let text = list_texts::word35_at(&text_bytes, &list_texts::TEXT_STARTS, k);
-    print_code(token_of(text, &spellings::WORD_BYTES, &spellings::WORD_INDEX));
+    print_code(token_of(text, spellings::words()));
     io::write_all(STDOUT_FILENO, b"\t");
     io::write_all(STDOUT_FILENO, text);
     io::write_all(STDOUT_FILENO, b"\n");

@@ -11,11 +11,11 @@ ghost use Rattle.word_tables.specs.Tsb.{tsb_words};
 ghost use Rattle.word_tables.specs.Escapes.{escape_names};
 ghost use Rattle.word_tables.specs.Basic35.{basic35_words};
 ghost use Rattle.word_match.specs.Sets.{live_word, plain_word};
-ghost use Rattle.word_tables.specs.WordsHelpers.{SpellsWords, Held, words_of, capitals, initial, groups_of, group_at, word_found};
+ghost use Rattle.word_tables.specs.WordsHelpers.{Held, words_of, capitals, initial, groups_of, group_at, word_found};
 
 use sets::Sets;
 use word_search::{Match, Section, Test};
-use word_tables::{WordList, spellings};
+use word_tables::{WordList, Words, spellings};
 
 // Where the groups of a list begin in the index.
 fn groups_of(list: WordList) -> usize
@@ -66,56 +66,52 @@ fn place_of(index: &[u16], i: usize) -> usize
 }
 
 // Stored word i, as the search of its list answers it.
-fn word_found(bytes: &[u8], index: &[u16], i: usize) -> Option<Match>
-    requires { Held bytes.now index.now i }
-    ensures { result ≡ word_found bytes.now index.now i }
+fn word_found(words: Words, i: usize) -> Option<Match>
+    requires { Held words.entry.bytes.now words.entry.index.now i }
+    ensures { result ≡ word_found words.entry.bytes.now words.entry.index.now i }
 {
-    let word = word_search::word_at(bytes, index, i);
+    let word = word_search::word_at(words.bytes, words.index, i);
     let at = spellings::TOKENS + i;
     Some(Match {
-        index: place_of(index, i),
+        index: place_of(words.index, i),
         used: word.len(),
-        token: bytes[at],
+        token: words.bytes[at],
     })
 }
 
 // The first word of a list that passes the test; its words are stored in capitals.
-pub fn match_in(list: WordList, test: Test, text: &[u8], bytes: &[u8], index: &[u16]) -> Option<Match>
-    requires { SpellsWords bytes.now index.now }
+pub fn match_in(list: WordList, test: Test, text: &[u8], words: Words) -> Option<Match>
     ensures { result ≡ match_in test (capitals (words_of list)) text.now }
 {
-    let group = group_of(list, text, index);
+    let group = group_of(list, text, words.index);
     let to = group.to;
-    let i = word_search::first_passing(test, text, bytes, index, group, 1);
+    let i = word_search::first_passing(test, text, words.bytes, words.index, group, 1);
     if i < to {
-        return word_found(bytes, index, i);
+        return word_found(words, i);
     }
     None
 }
 
 // The V2 word that the text begins with.
-pub fn match_v2(text: &[u8], bytes: &[u8], index: &[u16]) -> Option<Match>
-    requires { SpellsWords bytes.now index.now }
+pub fn match_v2(text: &[u8], words: Words) -> Option<Match>
     ensures { result ≡ word_in v2_words text.now }
 {
-    match_in(WordList::V2, Test::Begins, text, bytes, index)
+    match_in(WordList::V2, Test::Begins, text, words)
 }
 
 // The word of BASIC 3.5 that the text begins with.
-fn match_basic35(text: &[u8], bytes: &[u8], index: &[u16]) -> Option<Match>
-    requires { SpellsWords bytes.now index.now }
+fn match_basic35(text: &[u8], words: Words) -> Option<Match>
     ensures { result ≡ word_in basic35_words text.now }
 {
-    match_in(WordList::Basic35, Test::Begins, text, bytes, index)
+    match_in(WordList::Basic35, Test::Begins, text, words)
 }
 
 // The word that the text begins with: a V2 word, or under BASIC 3.5 one of its own, which stand behind the V2 words in the list of both.
 // No V2 word begins one of these, so the first is the longest.
-pub fn match_plain(text: &[u8], bytes: &[u8], index: &[u16], sets: Sets) -> Option<Match>
-    requires { SpellsWords bytes.now index.now }
+pub fn match_plain(text: &[u8], words: Words, sets: Sets) -> Option<Match>
     ensures { result ≡ plain_word sets v2_words basic35_words text.now }
 {
-    let v2 = match_v2(text, bytes, index);
+    let v2 = match_v2(text, words);
     if !sets.basic35 {
         return v2;
     }
@@ -125,7 +121,7 @@ pub fn match_plain(text: &[u8], bytes: &[u8], index: &[u16], sets: Sets) -> Opti
             used: _,
             token: _,
         }) => v2,
-        None => match match_basic35(text, bytes, index) {
+        None => match match_basic35(text, words) {
             Some(Match {
                 index: place,
                 used,
@@ -141,57 +137,53 @@ pub fn match_plain(text: &[u8], bytes: &[u8], index: &[u16], sets: Sets) -> Opti
 }
 
 // The operator that the text begins with.
-pub fn match_operator(text: &[u8], bytes: &[u8], index: &[u16]) -> Option<Match>
-    requires { SpellsWords bytes.now index.now }
+pub fn match_operator(text: &[u8], words: Words) -> Option<Match>
     ensures { result ≡ word_in operators text.now }
 {
-    match_in(WordList::Operators, Test::Begins, text, bytes, index)
+    match_in(WordList::Operators, Test::Begins, text, words)
 }
 
 // The TSB word that the text begins with.
-pub fn match_tsb(text: &[u8], bytes: &[u8], index: &[u16]) -> Option<Match>
-    requires { SpellsWords bytes.now index.now }
+pub fn match_tsb(text: &[u8], words: Words) -> Option<Match>
     ensures { result ≡ word_in tsb_words text.now }
 {
-    match_in(WordList::Tsb, Test::Begins, text, bytes, index)
+    match_in(WordList::Tsb, Test::Begins, text, words)
 }
 
 // The live TSB word that the text begins with, unless it also begins with a demoted one.
-pub fn match_live(text: &[u8], bytes: &[u8], index: &[u16], sets: Sets) -> Option<Match>
-    requires { SpellsWords bytes.now index.now }
+pub fn match_live(text: &[u8], words: Words, sets: Sets) -> Option<Match>
     ensures { result ≡ live_word sets tsb_words text.now }
 {
     if !sets.tsb {
         return None;
     }
-    let group = group_of(WordList::Tsb, text, index);
+    let group = group_of(WordList::Tsb, text, words.index);
     let to = group.to;
-    let first = word_search::first_passing(Test::Begins, text, bytes, index, group, 1);
+    let first = word_search::first_passing(Test::Begins, text, words.bytes, words.index, group, 1);
     let mut i = first;
     while i < to {
-        let place = place_of(index, i);
+        let place = place_of(words.index, i);
         if sets.demoted[place] {
             return None;
         }
         i = word_search::first_passing(
             Test::Begins,
             text,
-            bytes,
-            index,
+            words.bytes,
+            words.index,
             Section { from: i + 1, to },
             1,
         );
     }
     if first < to {
-        return word_found(bytes, index, first);
+        return word_found(words, first);
     }
     None
 }
 
 // The escape name that the text is.
-pub fn match_escape(name: &[u8], bytes: &[u8], index: &[u16]) -> Option<Match>
-    requires { SpellsWords bytes.now index.now }
+pub fn match_escape(name: &[u8], words: Words) -> Option<Match>
     ensures { result ≡ name_in escape_names name.now }
 {
-    match_in(WordList::Escapes, Test::Alike, name, bytes, index)
+    match_in(WordList::Escapes, Test::Alike, name, words)
 }

@@ -6,6 +6,8 @@
 ghost use Rattle.std.specs.Prelude.{◌≡◌};
 ghost use Rattle.word_tables.specs.StoredHelpers.{word_bytes, word_index};
 
+use crate::Words;
+
 // How many V2 words there are.
 pub const V2_WORDS: usize = 68;
 
@@ -1124,4 +1126,12 @@ pub fn word_index() -> [u16; 1044]
     ensures { result ≡ word_index }
 {
     WORD_INDEX
+}
+
+// The two tables, lent.
+pub fn words() -> Words<'static> {
+    Words {
+        bytes: &WORD_BYTES,
+        index: &WORD_INDEX,
+    }
 }
