@@ -1,6 +1,5 @@
 // The tokens of an image counted: each makes a mark in lent numbers (document 02, No. 12).
 ghost use Rattle.std.specs.Prelude.{◌≡◌, ◌<◌, [], ◌∷◌, length};
-ghost use Rattle.list_texts.specs.TextsHelpers.{SpellsTexts};
 ghost use Rattle.count_tokens.specs.Tokens.{counted_as, tokens_of, tokens_in};
 ghost use Rattle.count_images.specs.Tallies.{tally, added};
 ghost use Rattle.count_images.specs.TallyHelpers.{Raisable, Tallied};
@@ -8,6 +7,7 @@ ghost use Rattle.count_images.specs.TallyHelpers.{Raisable, Tallied};
 use count_totals::TAKEN;
 use image_readers::By;
 use image_units::{Mode, Unit};
+use list_texts::Texts;
 
 // Counts the tokens of an image that reading accepts.
 pub fn count_image(totals: &mut [u64], image: &[u8])
@@ -16,15 +16,14 @@ pub fn count_image(totals: &mut [u64], image: &[u8])
 {
     count_lines(
         totals,
-        &list_texts::TEXT_BYTES,
-        &list_texts::TEXT_STARTS,
+        list_texts::stored_texts(),
         image,
     );
 }
 
 // The same with the texts lent, line by line.
-fn count_lines(totals: &mut [u64], bytes: &[u8], starts: &[u16], image: &[u8])
-    requires { SpellsTexts bytes.now starts.now × Raisable 1048576 totals.old }
+fn count_lines(totals: &mut [u64], texts: Texts, image: &[u8])
+    requires { Raisable 1048576 totals.old }
     ensures { Tallied (tokens_in image.now) totals.old totals.new }
 {
     let mut offset: usize = 2;
@@ -33,7 +32,7 @@ fn count_lines(totals: &mut [u64], bytes: &[u8], starts: &[u16], image: &[u8])
             Ok(Some(line)) => {
                 let from = line.from;
                 let to = line.to;
-                count_body(totals, bytes, starts, &image[from..to]);
+                count_body(totals, texts, &image[from..to]);
                 offset = line.next;
             }
             Ok(None) => {
@@ -48,8 +47,8 @@ fn count_lines(totals: &mut [u64], bytes: &[u8], starts: &[u16], image: &[u8])
 }
 
 // Counts the tokens of a body.
-fn count_body(totals: &mut [u64], bytes: &[u8], starts: &[u16], body: &[u8])
-    requires { SpellsTexts bytes.now starts.now × Raisable (length body.now) totals.old }
+fn count_body(totals: &mut [u64], texts: Texts, body: &[u8])
+    requires { Raisable (length body.now) totals.old }
     ensures { totals.new ≡ added totals.old (tally (tokens_of body.now)) }
 {
     let rules = count_tokens::count_rules();
@@ -58,18 +57,18 @@ fn count_body(totals: &mut [u64], bytes: &[u8], starts: &[u16], body: &[u8])
     while i < body.len() {
         let taken = image_units::unit_at(body, i, mode, rules);
         let unit = taken.unit;
-        count_unit(totals, bytes, starts, unit);
+        count_unit(totals, texts, unit);
         i += taken.used;
         mode = taken.mode;
     }
 }
 
 // Counts a unit as its token, if it has one.
-fn count_unit(totals: &mut [u64], bytes: &[u8], starts: &[u16], unit: Unit)
-    requires { SpellsTexts bytes.now starts.now × Raisable 1 totals.old }
+fn count_unit(totals: &mut [u64], texts: Texts, unit: Unit)
+    requires { Raisable 1 totals.old }
     ensures { totals.new ≡ added totals.old (tally (counted_as unit)) }
 {
-    let k = count_tokens::token_of(bytes, starts, unit) as usize;
+    let k = count_tokens::token_of(texts, unit) as usize;
     if k < TAKEN {
         raise(totals, k);
     }

@@ -2,11 +2,11 @@
 #![tactic(auto)]
 
 ghost use Rattle.std.specs.Prelude.{◌≡◌};
-ghost use Rattle.list_texts.specs.TextsHelpers.{SpellsTexts};
 ghost use Rattle.count_tokens.specs.Tokens.{count_rules, counted_as};
 ghost use Rattle.count_tokens.specs.TokenHelpers.{only};
 
 use image_units::{Rules, Unit};
+use list_texts::Texts;
 
 // What counting heeds.
 pub fn count_rules() -> Rules
@@ -22,8 +22,7 @@ pub fn count_rules() -> Rules
 
 // The token that a unit counts as; FF, which is no token, where it counts as none.
 #[tactic(auto, using(crate::proofs::UnitTokens::pair_token, crate::proofs::UnitTokens::pair_none))]
-pub fn token_of(bytes: &[u8], starts: &[u16], unit: Unit) -> u8
-    requires { SpellsTexts bytes.now starts.now }
+pub fn token_of(texts: Texts, unit: Unit) -> u8
     ensures { only result ≡ counted_as unit }
 {
     match unit {
@@ -31,7 +30,7 @@ pub fn token_of(bytes: &[u8], starts: &[u16], unit: Unit) -> u8
         Unit::Token(b) => b,
         Unit::Token35(_) => 0xFF,
         Unit::Pair(b) => {
-            if list_spelling::tsb_word(bytes, starts, b).len() > 0 {
+            if list_spelling::tsb_word(texts, b).len() > 0 {
                 return list_spelling::tsb_id(b);
             }
             0xFF

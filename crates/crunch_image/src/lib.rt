@@ -28,7 +28,7 @@ pub fn crunch(text: &[u8], options: Options, out: &mut [u8]) -> Result<usize, Re
         out,
         text,
         options,
-        spellings::words(),
+        spellings::stored_words(),
     )
 }
 
@@ -39,7 +39,7 @@ pub fn room(text: &[u8], options: Options) -> Result<usize, Refusal>
     room_with(
         text,
         options,
-        spellings::words(),
+        spellings::stored_words(),
     )
 }
 
@@ -51,7 +51,7 @@ pub fn measured_line(text: &[u8], options: Options, place: usize) -> Result<Opti
         text,
         options,
         place,
-        spellings::words(),
+        spellings::stored_words(),
     )
 }
 

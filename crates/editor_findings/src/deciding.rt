@@ -23,7 +23,7 @@ pub enum Decided {
 pub fn deciding_line(text: &[u8], rule: LineRule) -> Decided
     ensures { result ≡ deciding_line rule text.now }
 {
-    deciding_with(text, rule, spellings::words())
+    deciding_with(text, rule, spellings::stored_words())
 }
 
 // The same, with the tables lent.
@@ -48,7 +48,7 @@ fn deciding_with(text: &[u8], rule: LineRule, words: Words) -> Decided
 pub fn tsb_length(text: &[u8]) -> usize
     ensures { result ≡ tsb_length text.now }
 {
-    length_with(text, spellings::words())
+    length_with(text, spellings::stored_words())
 }
 
 // The same, with the tables lent.
@@ -72,7 +72,7 @@ pub fn words_of(text: &[u8]) -> Sets
     resolve::word_sets(
         text,
         Dialect::Auto,
-        spellings::words(),
+        spellings::stored_words(),
     )
 }
 
@@ -80,5 +80,5 @@ pub fn words_of(text: &[u8]) -> Sets
 pub fn body_length(text: &[u8], sets: Sets) -> usize
     ensures { result ≡ min (length (crunched_body (lexicon sets) text.now)) 65536 }
 {
-    body::measure_body(text, spellings::words(), sets)
+    body::measure_body(text, spellings::stored_words(), sets)
 }

@@ -55,7 +55,7 @@ pub fn sight_from(text: &[u8], from: Stand, sets: Sets) -> Told
     sight_with(
         text,
         from,
-        spellings::words(),
+        spellings::stored_words(),
         sets,
     )
 }

@@ -31,7 +31,7 @@ pub struct Tail {
 pub fn petscii_escape(inside: &[u8]) -> Option<Escape>
     ensures { result ≡ escape_of inside.now }
 {
-    resolve_petscii_escape(inside, spellings::words())
+    resolve_petscii_escape(inside, spellings::stored_words())
 }
 
 // The same, with the tables lent.

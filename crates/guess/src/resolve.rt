@@ -51,7 +51,7 @@ fn guessed(text: &[u8], dialect: Dialect) -> Dialect
             if text_evidence(
                 text,
                 LineRule::AsGiven,
-                spellings::words(),
+                spellings::stored_words(),
             ) {
                 Dialect::Tsb
             } else {

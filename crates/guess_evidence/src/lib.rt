@@ -249,5 +249,5 @@ fn word_with(line: &[u8], words: Words) -> DecidingWord
 pub fn deciding_word(line: &[u8]) -> DecidingWord
     ensures { result ≡ deciding_word line.now }
 {
-    word_with(line, spellings::words())
+    word_with(line, spellings::stored_words())
 }

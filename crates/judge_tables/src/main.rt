@@ -53,9 +53,8 @@ fn token_of(text: &[u8], words: Words) -> u8
 
 // A row: a token, and the word that it is listed as.
 fn print_word(k: u8) {
-    let text_bytes = list_texts::TEXT_BYTES;
-    let text = list_texts::word35_at(&text_bytes, &list_texts::TEXT_STARTS, k);
-    print_code(token_of(text, spellings::words()));
+    let text = list_texts::word35_at(list_texts::stored_texts(), k);
+    print_code(token_of(text, spellings::stored_words()));
     io::write_all(STDOUT_FILENO, b"\t");
     io::write_all(STDOUT_FILENO, text);
     io::write_all(STDOUT_FILENO, b"\n");

@@ -3,7 +3,6 @@
 
 ghost use Rattle.std.specs.Prelude.{◌≡◌, ◌/◌, ◌≤◌, length};
 ghost use Rattle.base_lent.specs.Lent.{into_buffer, room_for, left};
-ghost use Rattle.list_texts.specs.TextsHelpers.{SpellsTexts};
 ghost use Rattle.base_lent.specs.Stores.{HasRoom};
 ghost use Rattle.list_image.specs.Listing.{listing, listing_by, listing_under};
 ghost use Rattle.base_refusals.specs.Answer.{answered};
@@ -12,6 +11,7 @@ use base_refusals::Refusal;
 use image_readers::By;
 use image_units::Rules;
 use list_options::ListOptions;
+use list_texts::Texts;
 
 // Stores the listing of an image at the start of a buffer, as the original lists it, and answers how long it is.
 pub fn list(image: &[u8], out: &mut [u8]) -> Result<usize, Refusal>
@@ -34,8 +34,7 @@ pub fn list_under(image: &[u8], options: ListOptions, out: &mut [u8]) -> Result<
     let by = options.by;
     list_with(
         out,
-        &list_texts::TEXT_BYTES,
-        &list_texts::TEXT_STARTS,
+        list_texts::stored_texts(),
         by,
         list_options::rules_under(options),
         image,
@@ -48,8 +47,7 @@ pub fn room_under(image: &[u8], options: ListOptions) -> Result<usize, Refusal>
 {
     let by = options.by;
     measure(
-        &list_texts::TEXT_BYTES,
-        &list_texts::TEXT_STARTS,
+        list_texts::stored_texts(),
         by,
         list_options::rules_under(options),
         image,
@@ -59,36 +57,33 @@ pub fn room_under(image: &[u8], options: ListOptions) -> Result<usize, Refusal>
 // Where the room holds nine bytes for each byte of the image, which no listing exceeds, nothing is measured.
 fn list_with(
     out: &mut [u8],
-    bytes: &[u8],
-    starts: &[u16],
+    texts: Texts,
     by: By,
     rules: Rules,
     image: &[u8],
 ) -> Result<usize, Refusal>
-    requires { SpellsTexts bytes.now starts.now }
     ensures { left result out.new ≡ into_buffer (listing_by by rules image.now) out.old }
 {
     if image.len() <= out.len() / 9 {
-        return list_checked(out, bytes, starts, by, rules, image);
+        return list_checked(out, texts, by, rules, image);
     }
-    list_measured(out, bytes, starts, by, rules, image)
+    list_measured(out, texts, by, rules, image)
 }
 
 // The same in a buffer that holds any listing of an image of this length: a refused image is known before a byte is stored.
 fn list_checked(
     out: &mut [u8],
-    bytes: &[u8],
-    starts: &[u16],
+    texts: Texts,
     by: By,
     rules: Rules,
     image: &[u8],
 ) -> Result<usize, Refusal>
-    requires { SpellsTexts bytes.now starts.now × (length image.now ≤ length out.old / 9) }
+    requires { (length image.now ≤ length out.old / 9) }
     ensures { left result out.new ≡ into_buffer (listing_by by rules image.now) out.old }
 {
     match image_readers::check_by(image, by) {
         Ok(_) => {
-            Ok(write(out, bytes, starts, by, rules, image))
+            Ok(write(out, texts, by, rules, image))
         }
         Err(refusal) => Err(refusal),
     }
@@ -97,28 +92,25 @@ fn list_checked(
 // The same in any buffer: what is measured decides.
 fn list_measured(
     out: &mut [u8],
-    bytes: &[u8],
-    starts: &[u16],
+    texts: Texts,
     by: By,
     rules: Rules,
     image: &[u8],
 ) -> Result<usize, Refusal>
-    requires { SpellsTexts bytes.now starts.now }
     ensures { left result out.new ≡ into_buffer (listing_by by rules image.now) out.old }
 {
-    match measure(bytes, starts, by, rules, image) {
+    match measure(texts, by, rules, image) {
         Ok(needed) => {
             if needed > out.len() {
                 return Err(Refusal::NoRoom { needed });
             }
-            Ok(write(out, bytes, starts, by, rules, image))
+            Ok(write(out, texts, by, rules, image))
         }
         Err(refusal) => Err(refusal),
     }
 }
 
-fn measure(bytes: &[u8], starts: &[u16], by: By, rules: Rules, image: &[u8]) -> Result<usize, Refusal>
-    requires { SpellsTexts bytes.now starts.now }
+fn measure(texts: Texts, by: By, rules: Rules, image: &[u8]) -> Result<usize, Refusal>
     ensures { answered result ≡ room_for (listing_by by rules image.now) }
 {
     let mut offset: usize = 2;
@@ -128,7 +120,7 @@ fn measure(bytes: &[u8], starts: &[u16], by: By, rules: Rules, image: &[u8]) -> 
             Ok(Some(line)) => {
                 let from = line.from;
                 let to = line.to;
-                n += list_lines::measure_line(bytes, starts, rules, line.number, &image[from..to]);
+                n += list_lines::measure_line(texts, rules, line.number, &image[from..to]);
                 offset = line.next;
             }
             Ok(None) => {
@@ -142,8 +134,8 @@ fn measure(bytes: &[u8], starts: &[u16], by: By, rules: Rules, image: &[u8]) -> 
 }
 
 // Stores the listing of an image that has one, in a buffer that has the room.
-fn write(out: &mut [u8], bytes: &[u8], starts: &[u16], by: By, rules: Rules, image: &[u8]) -> usize
-    requires { SpellsTexts bytes.now starts.now × HasRoom out.old (listing_by by rules image.now) }
+fn write(out: &mut [u8], texts: Texts, by: By, rules: Rules, image: &[u8]) -> usize
+    requires { HasRoom out.old (listing_by by rules image.now) }
     ensures { left (Outcome.Done result) out.new ≡ into_buffer (listing_by by rules image.now) out.old }
 {
     let mut offset: usize = 2;
@@ -154,7 +146,7 @@ fn write(out: &mut [u8], bytes: &[u8], starts: &[u16], by: By, rules: Rules, ima
                 let from = line.from;
                 let to = line.to;
                 let behind = list_lines::put_head(out, at, line.number);
-                at = list_lines::put_rest(out, behind, bytes, starts, rules, &image[from..to]);
+                at = list_lines::put_rest(out, behind, texts, rules, &image[from..to]);
                 offset = line.next;
             }
             Ok(None) => {

@@ -3,17 +3,17 @@
 
 ghost use Rattle.std.specs.Prelude.{◌≡◌, ◌≤◌, length};
 ghost use Rattle.base_lent.specs.Stores.{Room, Put};
-ghost use Rattle.list_texts.specs.TextsHelpers.{SpellsTexts};
 ghost use Rattle.list_lines.specs.Body.{body_listing};
 ghost use Rattle.list_lines.specs.LineHelpers.{head_listing, rest_listing, LineLength};
 
 use image_units::{Mode, Rules};
+use list_texts::Texts;
 
 pub mod decimal;
 
 // How long the listing of a body is.
-pub fn measure_body(bytes: &[u8], starts: &[u16], rules: Rules, body: &[u8]) -> usize
-    requires { SpellsTexts bytes.now starts.now × (length body.now ≤ 1048576) }
+pub fn measure_body(texts: Texts, rules: Rules, body: &[u8]) -> usize
+    requires { (length body.now ≤ 1048576) }
     ensures { result ≡ length (body_listing rules body.now) }
 {
     let mut i: usize = 0;
@@ -26,7 +26,7 @@ pub fn measure_body(bytes: &[u8], starts: &[u16], rules: Rules, body: &[u8]) -> 
         } else {
             let taken = image_units::unit_at(body, i, mode, rules);
             let unit = taken.unit;
-            n += list_spelling::unit_length(bytes, starts, unit);
+            n += list_spelling::unit_length(texts, unit);
             i += taken.used;
             mode = taken.mode;
         }
@@ -39,12 +39,11 @@ pub fn measure_body(bytes: &[u8], starts: &[u16], rules: Rules, body: &[u8]) -> 
 pub fn put_body(
     out: &mut [u8],
     at: usize,
-    bytes: &[u8],
-    starts: &[u16],
+    texts: Texts,
     rules: Rules,
     body: &[u8],
 ) -> usize
-    requires { SpellsTexts bytes.now starts.now × (length body.now ≤ 1048576) × Room out.old at (body_listing rules body.now) }
+    requires { (length body.now ≤ 1048576) × Room out.old at (body_listing rules body.now) }
     ensures { Put out.old at (body_listing rules body.now) result out.new }
 {
     let mut i: usize = 0;
@@ -59,7 +58,7 @@ pub fn put_body(
         } else {
             let taken = image_units::unit_at(body, i, mode, rules);
             let unit = taken.unit;
-            to = list_spelling::put_unit(out, to, bytes, starts, unit);
+            to = list_spelling::put_unit(out, to, texts, unit);
             i += taken.used;
             mode = taken.mode;
         }
@@ -68,11 +67,11 @@ pub fn put_body(
 }
 
 // How long the listing of a line is.
-pub fn measure_line(bytes: &[u8], starts: &[u16], rules: Rules, number: u16, body: &[u8]) -> usize
-    requires { SpellsTexts bytes.now starts.now × (length body.now ≤ 1048576) }
+pub fn measure_line(texts: Texts, rules: Rules, number: u16, body: &[u8]) -> usize
+    requires { (length body.now ≤ 1048576) }
     ensures { LineLength rules number body.now result }
 {
-    decimal::places(number) + measure_body(bytes, starts, rules, body) + 2
+    decimal::places(number) + measure_body(texts, rules, body) + 2
 }
 
 // Stores a line's number and the space from a place on, and answers the place behind them.
@@ -89,15 +88,14 @@ pub fn put_head(out: &mut [u8], at: usize, number: u16) -> usize
 pub fn put_rest(
     out: &mut [u8],
     at: usize,
-    bytes: &[u8],
-    starts: &[u16],
+    texts: Texts,
     rules: Rules,
     body: &[u8],
 ) -> usize
-    requires { SpellsTexts bytes.now starts.now × (length body.now ≤ 1048576) × Room out.old at (rest_listing rules body.now) }
+    requires { (length body.now ≤ 1048576) × Room out.old at (rest_listing rules body.now) }
     ensures { Put out.old at (rest_listing rules body.now) result out.new }
 {
-    let to = put_body(out, at, bytes, starts, rules, body);
+    let to = put_body(out, at, texts, rules, body);
     out[to] = 0x0A;
     to + 1
 }

@@ -4,12 +4,13 @@
 ghost use Rattle.std.specs.Prelude.{◌≡◌, ◌+◌, ◌≤◌, length, take, drop};
 ghost use Rattle.std.proofs.lemmas.List.Edits.{sets};
 ghost use Rattle.base_lent.specs.Stores.{Room, Put};
-ghost use Rattle.list_texts.specs.TextsHelpers.{or_digits, SpellsTexts};
+ghost use Rattle.list_texts.specs.TextsHelpers.{or_digits};
 ghost use Rattle.word_tables.specs.Tsb.{tsb_id, tsb_text};
 ghost use Rattle.list_spelling.specs.ItselfHelpers.{lists_as_itself};
 ghost use Rattle.list_spelling.specs.Pieces.{unknown_pair, unit_text};
 
 use image_units::Unit;
+use list_texts::Texts;
 
 // Whether a byte is listed as itself in every mode, and changes none.
 pub fn lists_as_itself(b: u8) -> bool
@@ -23,16 +24,15 @@ pub fn lists_as_itself(b: u8) -> bool
 }
 
 // How long a unit's text is.
-pub fn unit_length(bytes: &[u8], starts: &[u16], unit: Unit) -> usize
-    requires { SpellsTexts bytes.now starts.now }
+pub fn unit_length(texts: Texts, unit: Unit) -> usize
     ensures { result ≡ length (unit_text unit) }
 {
     match unit {
         Unit::Char(b) => list_bytes::byte_to_string(b).len,
-        Unit::Token(b) => token_length(list_texts::word_at(bytes, starts, b), b),
-        Unit::Token35(b) => token_length(list_texts::word35_at(bytes, starts, b), b),
+        Unit::Token(b) => token_length(list_texts::word_at(texts, b), b),
+        Unit::Token35(b) => token_length(list_texts::word35_at(texts, b), b),
         Unit::Pair(b) => {
-            let n = tsb_word(bytes, starts, b).len();
+            let n = tsb_word(texts, b).len();
             if n > 0 {
                 return n;
             }
@@ -58,8 +58,8 @@ fn token_length(word: &[u8], b: u8) -> usize
 }
 
 // Stores a unit's text from a place on, and answers the place behind it.
-pub fn put_unit(out: &mut [u8], at: usize, bytes: &[u8], starts: &[u16], unit: Unit) -> usize
-    requires { SpellsTexts bytes.now starts.now × Room out.old at (unit_text unit) }
+pub fn put_unit(out: &mut [u8], at: usize, texts: Texts, unit: Unit) -> usize
+    requires { Room out.old at (unit_text unit) }
     ensures { Put out.old at (unit_text unit) result out.new }
 {
     match unit {
@@ -69,10 +69,10 @@ pub fn put_unit(out: &mut [u8], at: usize, bytes: &[u8], starts: &[u16], unit: U
             let held = text.bytes;
             put(out, at, &held[..n])
         }
-        Unit::Token(b) => put_token(out, at, list_texts::word_at(bytes, starts, b), b),
-        Unit::Token35(b) => put_token(out, at, list_texts::word35_at(bytes, starts, b), b),
+        Unit::Token(b) => put_token(out, at, list_texts::word_at(texts, b), b),
+        Unit::Token35(b) => put_token(out, at, list_texts::word35_at(texts, b), b),
         Unit::Pair(b) => {
-            let word = tsb_word(bytes, starts, b);
+            let word = tsb_word(texts, b);
             if word.len() > 0 {
                 return put(out, at, word);
             }
@@ -163,15 +163,14 @@ fn copy(out: &mut [u8], at: usize, text: &[u8]) -> usize
 }
 
 // The TSB word of 64 and the byte behind it; empty where there is none.
-pub fn tsb_word<'a>(bytes: &'a [u8], starts: &[u16], b: u8) -> &'a [u8]
-    requires { SpellsTexts bytes.now starts.now }
+pub fn tsb_word<'a>(texts: Texts<'a>, b: u8) -> &'a [u8]
     ensures { result.now ≡ tsb_text b }
 {
     let id = tsb_id(b);
     if id >= 0x80 {
-        return &bytes[..0];
+        return &texts.bytes[..0];
     }
-    list_texts::word_at(bytes, starts, id)
+    list_texts::word_at(texts, id)
 }
 
 // The byte that a TSB word is listed under: B1, B2 and B3 are read as 3E, 3D and 3C.

@@ -3,7 +3,6 @@
 
 ghost use Rattle.std.specs.Prelude.{◌≡◌, ◌&&◌, ◌-◌, ◌≤◌, length, leb, ltb};
 ghost use Rattle.std.proofs.lemmas.List.Edits.{sets};
-ghost use Rattle.list_texts.specs.TextsHelpers.{SpellsTexts};
 ghost use Rattle.list_spelling.specs.ItselfHelpers.{lists_as_itself};
 ghost use Rattle.list_spelling.specs.Pieces.{unit_text};
 ghost use Rattle.list_options.specs.Modes.{rules_under};
@@ -13,6 +12,7 @@ ghost use Rattle.list_stretches.specs.StretchHelpers.{run_at, RunPut, StretchPut
 use image_units::{Mode, Rules, Unit};
 use list_lines::decimal;
 use list_options::ListOptions;
+use list_texts::Texts;
 
 // What is left of a line: all of it, its body from a place on and the line's end, or nothing.
 #[derive(Clone, Copy)]
@@ -44,8 +44,7 @@ pub fn list_stretch(body: &[u8], options: ListOptions, place: Place, out: &mut [
 {
     put_stretch(
         out,
-        &list_texts::TEXT_BYTES,
-        &list_texts::TEXT_STARTS,
+        list_texts::stored_texts(),
         list_options::rules_under(options),
         body,
         place,
@@ -54,13 +53,11 @@ pub fn list_stretch(body: &[u8], options: ListOptions, place: Place, out: &mut [
 
 fn put_stretch(
     out: &mut [u8],
-    bytes: &[u8],
-    starts: &[u16],
+    texts: Texts,
     rules: Rules,
     body: &[u8],
     place: Place,
 ) -> Stretch
-    requires { SpellsTexts bytes.now starts.now }
     ensures { StretchPut (stretch_of rules body.now (length out.old) place) out.old 0 result out.new }
 {
     match place {
@@ -75,11 +72,11 @@ fn put_stretch(
                 at: 0,
                 mode: Mode::Plain,
             };
-            put_body_stretch(out, bytes, starts, rules, body, spot)
+            put_body_stretch(out, texts, rules, body, spot)
         }
         Place::Body { at, mode } => {
             let spot = Spot { to: 0, at, mode };
-            put_body_stretch(out, bytes, starts, rules, body, spot)
+            put_body_stretch(out, texts, rules, body, spot)
         }
         Place::Over => Stretch { length: 0, place },
     }
@@ -88,16 +85,15 @@ fn put_stretch(
 // What a buffer holds of a body and the line's end from a spot on.
 fn put_body_stretch(
     out: &mut [u8],
-    bytes: &[u8],
-    starts: &[u16],
+    texts: Texts,
     rules: Rules,
     body: &[u8],
     spot: Spot,
 ) -> Stretch
-    requires { SpellsTexts bytes.now starts.now × (spot.to ≤ length out.old) }
+    requires { (spot.to ≤ length out.old) }
     ensures { StretchPut (body_stretch rules body.now (length out.old - spot.to) spot.at spot.mode) out.old spot.to result out.new }
 {
-    let behind = put_run(out, bytes, starts, rules, body, spot);
+    let behind = put_run(out, texts, rules, body, spot);
     let to = behind.to;
     let at = behind.at;
     let mode = behind.mode;
@@ -118,13 +114,12 @@ fn put_body_stretch(
 // What a buffer holds of the units of a body from a spot on. A loop of its own beside `put_body`, which has room for the whole body and asks for none.
 fn put_run(
     out: &mut [u8],
-    bytes: &[u8],
-    starts: &[u16],
+    texts: Texts,
     rules: Rules,
     body: &[u8],
     spot: Spot,
 ) -> Spot
-    requires { SpellsTexts bytes.now starts.now × (spot.to ≤ length out.old) }
+    requires { (spot.to ≤ length out.old) }
     ensures { RunPut (run_at rules body.now out.old spot) out.old spot result out.new }
 {
     let mut to = spot.to;
@@ -140,10 +135,10 @@ fn put_run(
         } else {
             let taken = image_units::unit_at(body, at, mode, rules);
             let unit = taken.unit;
-            if !fits(bytes, starts, unit, room) {
+            if !fits(texts, unit, room) {
                 return Spot { to, at, mode };
             }
-            to = list_spelling::put_unit(out, to, bytes, starts, unit);
+            to = list_spelling::put_unit(out, to, texts, unit);
             at += taken.used;
             mode = taken.mode;
         }
@@ -162,12 +157,11 @@ fn holds_itself(room: usize, b: u8) -> bool
 }
 
 // Whether a room holds a unit's text: nine bytes hold any.
-fn fits(bytes: &[u8], starts: &[u16], unit: Unit, room: usize) -> bool
-    requires { SpellsTexts bytes.now starts.now }
+fn fits(texts: Texts, unit: Unit, room: usize) -> bool
     ensures { result ≡ leb (length (unit_text unit)) room }
 {
     if room >= 9 {
         return true;
     }
-    list_spelling::unit_length(bytes, starts, unit) <= room
+    list_spelling::unit_length(texts, unit) <= room
 }

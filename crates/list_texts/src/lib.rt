@@ -332,23 +332,37 @@ pub const TEXT_STARTS: [u16; 307] = [
     1066,
 ];
 
-// The word of a byte, with the run lent; empty where it has none.
-pub fn word_at<'a>(bytes: &'a [u8], starts: &[u16], k: u8) -> &'a [u8]
-    requires { SpellsTexts bytes.now starts.now }
+// The words that a listing writes, as one run of bytes with a start for each: the run spells them.
+#[derive(Clone, Copy)]
+pub struct Texts<'a> {
+    pub bytes: &'a [u8],
+    pub starts: &'a [u16],
+    ghost spelt: { SpellsTexts bytes.now starts.now },
+}
+
+// The run, lent.
+pub fn stored_texts() -> Texts<'static> {
+    Texts {
+        bytes: &TEXT_BYTES,
+        starts: &TEXT_STARTS,
+    }
+}
+
+// The word of a byte; empty where it has none.
+pub fn word_at<'a>(texts: Texts<'a>, k: u8) -> &'a [u8]
     ensures { result.now ≡ listed_word k }
 {
-    word_search::word_at(bytes, starts, k as usize)
+    word_search::word_at(texts.bytes, texts.starts, k as usize)
 }
 
 // The word of a byte under BASIC 3.5.
-pub fn word35_at<'a>(bytes: &'a [u8], starts: &[u16], k: u8) -> &'a [u8]
-    requires { SpellsTexts bytes.now starts.now }
+pub fn word35_at<'a>(texts: Texts<'a>, k: u8) -> &'a [u8]
     ensures { result.now ≡ listed_word35 k }
 {
     if !base_ascii::between(0xCC, 0xFD, k) {
-        return word_at(bytes, starts, k);
+        return word_at(texts, k);
     }
-    word_search::word_at(bytes, starts, base_ascii::wide(k) + 52)
+    word_search::word_at(texts.bytes, texts.starts, base_ascii::wide(k) + 52)
 }
 
 // The two digits of a byte in braces.
@@ -368,5 +382,5 @@ pub fn is_text_of(k: u8, text: &[u8]) -> bool
         let held = digits(k);
         return word_search::same(&held, text);
     }
-    word_search::same(word_at(&TEXT_BYTES, &TEXT_STARTS, k), text)
+    word_search::same(word_at(stored_texts(), k), text)
 }

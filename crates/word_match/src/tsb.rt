@@ -9,5 +9,5 @@ use word_tables::{WordList, spellings};
 pub fn is_tsb_keyword_name(word: &[u8]) -> bool
     ensures { result ≡ is_tsb_word word.now }
 {
-    crate::match_in(WordList::Tsb, Test::Same, word, spellings::words()).is_some()
+    crate::match_in(WordList::Tsb, Test::Same, word, spellings::stored_words()).is_some()
 }

@@ -1129,7 +1129,7 @@ pub fn word_index() -> [u16; 1044]
 }
 
 // The two tables, lent.
-pub fn words() -> Words<'static> {
+pub fn stored_words() -> Words<'static> {
     Words {
         bytes: &WORD_BYTES,
         index: &WORD_INDEX,
