@@ -43,4 +43,8 @@ trim_stands s = end_take is_space (past is_space s)
 pub ascii_all : (s : List ℕ) → list_all (λ b. nat_lt b 0x80) s ≡ is_ascii s
 unfolding is_ascii
 ascii_all [] = refl
-ascii_all (b ∷ s) = ap (λ (r : Bool). ltb b 0x80 && r) (ascii_all s)
+ascii_all (b ∷ s) = go (nat_lt b 0x80) (ascii_all s)
+  where
+    go : (r : Bool) → list_all (λ x. nat_lt x 0x80) s ≡ is_ascii s → (r && list_all (λ x. nat_lt x 0x80) s) ≡ elim r [ true ↦ is_ascii s | false ↦ false ]
+    go true e = e
+    go false e = refl

@@ -77,3 +77,7 @@ module _ {A : Type 0} where
 
   pub told_back : {r x : Result A Refusal} {a : Answer A} → r ≡ x → answered r ≡ a → a ≡ answered x
   told_back d e = sym (told d e)
+
+-- a result that holds a value, which is known to be another
+pub inner : {A E : Type 0} {r : Result A E} {f a : A} → r ≡ Ok f → f ≡ a → r ≡ Ok a
+inner is e = is ∙ ap Ok e
