@@ -5,11 +5,11 @@ use mathlib.Core.Path.{◌≡◌, refl, sym, ap, ◌∙◌}
 use mathlib.Core.Bool.{Bool, true, false, ◌&&◌, false≢true}
 use mathlib.Core.List.{List, [], ◌∷◌, map}
 use lib.Dec.{T, eqb}
+use lib.Pointwise.{pointwise}
 use borrow.Author.Tests.{eq-eqb, eqb-true}
 use Rattle.word_search.specs.Compare.{same, member}
 use Rattle.word_search.specs.Find.{Entry, first_that, same_in}
-use Rattle.word_search.specs.declared.Match.{Match}
-use Rattle.word_search.specs.declared.Match.TheVariants.{Word, Nothing}
+use Rattle.std.specs.Prelude.{Some, is_some}
 use Rattle.word_search.proofs.Search.{and_left, and_right}
 
 pub same_refl : (w : List ℕ) → same w w ≡ true
@@ -28,34 +28,33 @@ same_eq (x ∷ w) (y ∷ t) q = go (eqb x y) refl q (same_eq w t)
     go true e g f = let head : x ≡ y = eqb-true _ _ e in let tail : w ≡ t = f g in cc
     go false e g f = absurd (false≢true g)
 
--- a test that holds of equals, and of equals alone, is sameness
-pub same_is : (w t : List ℕ) (r : Bool) → (r ≡ true → w ≡ t) × (w ≡ t → r ≡ true) → r ≡ same w t
-same_is w t true q = sym (ap (same w) (sym (q.0 refl)) ∙ same_refl w)
-same_is w t false q = go (same w t) refl
+-- the comparison of two lists, item by item
+pub same_pointwise : (w t : List ℕ) → pointwise eqb w t ≡ same w t
+unfolding same
+same_pointwise [] [] = refl
+same_pointwise [] (y ∷ t) = refl
+same_pointwise (x ∷ w) [] = refl
+same_pointwise (x ∷ w) (y ∷ t) = go (eqb x y) (same_pointwise w t)
   where
-    go : (b : Bool) → same w t ≡ b → false ≡ same w t
-    go true e = absurd (false≢true (q.1 (same_eq w t e)))
-    go false e = sym e
-
--- a word is found just where the text is one of the words
-abbrev pub is_found : Option Match → Bool
-is_found (Word index used token) = true
-is_found Nothing = false
+    go : (b : Bool) → pointwise eqb w t ≡ same w t → (b && pointwise eqb w t) ≡ elim b [ true ↦ same w t | false ↦ false ]
+    go true e = e
+    go false e = refl
 
 abbrev pub spellings : List Entry → List (List ℕ)
 spellings = map (λ e. e.word)
 
-found_member : (t : List ℕ) (es : List Entry) (k : ℕ) → is_found (first_that (λ i w. same w t) es k) ≡ member t (spellings es)
+found_member : (t : List ℕ) (es : List Entry) (k : ℕ) → is_some (first_that (λ i w. same w t) es k) ≡ member t (spellings es)
 unfolding first_that member
 found_member t [] k = refl
 found_member t (e ∷ es) k = go (same e.word t) (found_member t es (suc k))
   where
-    go : (b : Bool) → is_found (first_that (λ i w. same w t) es (suc k)) ≡ member t (spellings es)
-        → is_found (elim b [ true ↦ Word k (lib.ListN.length e.word) e.token | false ↦ first_that (λ i w. same w t) es (suc k) ]) ≡ elim b [ true ↦ true | false ↦ member t (spellings es) ]
+    go : (b : Bool) → is_some (first_that (λ i w. same w t) es (suc k)) ≡ member t (spellings es)
+        → is_some (elim b [ true ↦ Some (record { index = k; used = lib.ListN.length e.word; token = e.token }) | false ↦ first_that (λ i w. same w t) es (suc k) ]) ≡ elim b [ true ↦ true | false ↦ member t (spellings es) ]
     go true h = refl
     go false h = h
 
-pub same_member : (t : List ℕ) (es : List Entry) → is_found (same_in es t) ≡ member t (spellings es)
+-- a word is found just where the text is one of the words
+pub same_member : (t : List ℕ) (es : List Entry) → is_some (same_in es t) ≡ member t (spellings es)
 unfolding same_in
 same_member t es = found_member t es 0
 
