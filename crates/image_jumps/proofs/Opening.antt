@@ -1,6 +1,7 @@
 -- What opens a list: GOTO, GOSUB, THEN; and GO, spaces, TO.
 -- Assumes nothing.
 use Prim.Native.Nat.{ℕ, ◌+◌, ◌-◌, ◌≤◌, ◌<◌}
+use mathlib.Core.Logic.{◌⊎◌, inl, inr}
 use mathlib.Core.Path.{◌≡◌, refl, sym, ap, ◌∙◌, subst}
 use mathlib.Core.List.{List, [], ◌∷◌, ◌++◌}
 use native.Mathlib.Omega.{arith}
@@ -97,20 +98,25 @@ module _ (body : List ℕ) (i : ℕ) (h : i < length body) where
           gives = token_opens l r ∙ ap (λ (ts : List ℕ). targets_from None ts ++ jumps_from Plain (drop (i + 1) body)) e;
         }
 
-    pub opens_goto : get_or body i 0 ≡ 0x89 → Begins body i mode (i + 1)
+    opens_goto : get_or body i 0 ≡ 0x89 → Begins body i mode (i + 1)
     unfolding list_behind
     opens_goto e = opens_here (omega arith) (λ q. omega arith) (simp (eq-eqb _ _ e))
 
-    pub opens_gosub : get_or body i 0 ≡ 0x8D → Begins body i mode (i + 1)
+    opens_gosub : get_or body i 0 ≡ 0x8D → Begins body i mode (i + 1)
     unfolding list_behind
     opens_gosub e = let n : get_or body i 0 ≡ 0x89 → ⊥ = λ q. omega arith in opens_here (omega arith) (λ q. omega arith) (simp (ne_eqb _ _ n, eq-eqb _ _ e))
 
-    pub opens_then : get_or body i 0 ≡ 0xA7 → Begins body i mode (i + 1)
+    opens_then : get_or body i 0 ≡ 0xA7 → Begins body i mode (i + 1)
     unfolding list_behind
     opens_then e =
         let n : get_or body i 0 ≡ 0x89 → ⊥ = λ q. omega arith in
         let m : get_or body i 0 ≡ 0x8D → ⊥ = λ q. omega arith in
         opens_here (omega arith) (λ q. omega arith) (simp (ne_eqb _ _ n, ne_eqb _ _ m, eq-eqb _ _ e))
+
+    pub opens_at_once : (get_or body i 0 ≡ 0x89) ⊎ ((get_or body i 0 ≡ 0x8D) ⊎ (get_or body i 0 ≡ 0xA7)) → Begins body i mode (i + 1)
+    opens_at_once (inl e) = opens_goto e
+    opens_at_once (inr (inl e)) = opens_gosub e
+    opens_at_once (inr (inr e)) = opens_then e
 
   -- GO
   module _ (e : get_or body i 0 ≡ 0xCB) where
@@ -144,21 +150,13 @@ module _ (body : List ℕ) (i : ℕ) (h : i < length body) where
 pub opens_in : (body : List ℕ) (i : ℕ) {mode x : Mode} (r : Option ℕ) → mode ≡ x → Opens body i x r → Opens body i mode r
 opens_in body i r e k = rw e k
 
-pub opens_quoted : (body : List ℕ) (i : ℕ) {mode : Mode} → mode ≡ Quoted → targets_from None (opened_list mode (get_or body i 0) (drop (i + 1) body)) ≡ []
+pub opens_elsewhere : (mode : Mode) (b : ℕ) (s : List ℕ) → (mode ≡ Plain → ⊥) → targets_from None (opened_list mode b s) ≡ []
 unfolding opened_list
-opens_quoted body i e = rw e (targets_none None)
-
-pub opens_remark : (body : List ℕ) (i : ℕ) {mode : Mode} → mode ≡ Remark → targets_from None (opened_list mode (get_or body i 0) (drop (i + 1) body)) ≡ []
-unfolding opened_list
-opens_remark body i e = rw e (targets_none None)
-
-pub opens_data : (body : List ℕ) (i : ℕ) {mode : Mode} → mode ≡ Data → targets_from None (opened_list mode (get_or body i 0) (drop (i + 1) body)) ≡ []
-unfolding opened_list
-opens_data body i e = rw e (targets_none None)
-
-pub opens_quoted_data : (body : List ℕ) (i : ℕ) {mode : Mode} → mode ≡ QuotedData → targets_from None (opened_list mode (get_or body i 0) (drop (i + 1) body)) ≡ []
-unfolding opened_list
-opens_quoted_data body i e = rw e (targets_none None)
+opens_elsewhere Plain b s n = absurd (n refl)
+opens_elsewhere Quoted b s n = targets_none None
+opens_elsewhere Remark b s n = targets_none None
+opens_elsewhere Data b s n = targets_none None
+opens_elsewhere QuotedData b s n = targets_none None
 
 -- what is known once a list was looked for
 module _ (body : List ℕ) (i : ℕ) (mode : Mode) {r : Option ℕ} where

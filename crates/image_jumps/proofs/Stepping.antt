@@ -1,6 +1,7 @@
 -- The steps over a body: one byte of a list, one unit of the text, and the loop over them.
 -- Assumes nothing.
-use Prim.Native.Nat.{ℕ, ◌+◌, ◌-◌, ◌*◌, ◌≤◌, ◌<◌}
+use Prim.Native.Nat.{ℕ, ◌+◌, ◌-◌, ◌*◌, ◌≤◌, ◌<◌, min}
+use Rattle.std.specs.Option.{unwrap_or}
 use mathlib.Core.Path.{◌≡◌, refl, sym, ap, ◌∙◌}
 use mathlib.Core.Bool.{Bool, true, false, cond}
 use mathlib.Core.List.{List, [], ◌∷◌, ◌++◌, map, map-append, append-nil}
@@ -29,15 +30,11 @@ use Rattle.std.specs.Prelude.{Option, Some, None}
 
 -- ---- a digit
 
-pub digit_first : {part : Option ℕ} (d : ℕ) → part ≡ None → d < 256 → Some d ≡ low_part (with_digit part d)
-digit_first d e h = rw e (ap Some (omega arith))
-
-module _ {part : Option ℕ} {v : ℕ} (d : ℕ) (e : part ≡ Some v) where
-  pub digit_cut : 6553 < v → Some 65536 ≡ low_part (with_digit part d)
-  digit_cut h = rw e (ap Some (omega arith))
-
-  pub digit_more : {n : ℕ} → n ≡ low (v * 10 + d) → Some n ≡ low_part (with_digit part d)
-  digit_more is = rw e (ap Some is)
+-- a digit more, where no number that 64 bits cannot hold is read
+pub digit_more : (part : Option ℕ) (d : ℕ) {v t a n : ℕ} → d < 256 → v ≡ unwrap_or part 0 → t ≡ min (v * 10) 18446744073709551615 → a ≡ min (t + d) 18446744073709551615 → n ≡ low a
+    → Some n ≡ low_part (with_digit part d)
+digit_more None d h v t a n = ap Some (omega arith)
+digit_more (Some u) d h v t a n = ap Some (omega arith)
 
 pub digit_low : (b : ℕ) {r : Bool} → r ≡ is_digit b → r ≡ true → 48 ≤ b
 digit_low b e t = (between_in 48 57 b (sym e ∙ t)).0
@@ -245,8 +242,12 @@ module _ (body : List ℕ) (c : Cursor) (h : length body ≤ c.at) where
       ∙ ap (λ (x : List ℕ). cut (jump_told c.part []) ++ cut x) (jumps_none c.mode)
       ∙ append-nil (cut (jump_told c.part [])) ∙ low_told c.part []
 
-  pub last_empty : c.listed ≡ true → c.part ≡ None → left_of body c ≡ []
-  last_empty e f = last_list e ∙ ap (λ (p : Option ℕ). jump_told (low_part p) []) f
+  pub last_none : c.part ≡ None → left_of body c ≡ []
+  last_none f = go c.listed refl
+    where
+      go : (t : Bool) → c.listed ≡ t → left_of body c ≡ []
+      go false e = last_text e
+      go true e = last_list e ∙ ap (λ (p : Option ℕ). jump_told (low_part p) []) f
 
   pub last_worth : c.listed ≡ true → {target t : ℕ} → c.part ≡ Some target → t ≡ low target
       → JumpsTo body c t (record { at = c.at; mode = c.mode; listed = false; part = None })

@@ -19,7 +19,7 @@ use Rattle.image_units.specs.Units.{mode_behind, unit_at}
 use Rattle.image_units.proofs.Walking.{unit_takes}
 use Rattle.image_jumps.specs.Jumps.{targets_from, opened_list, heeded, jumps_on, jumps_from}
 use Rattle.image_jumps.proofs.Targets.{targets_none}
-use Rattle.std.specs.Prelude.{Option, Some, None}
+use Rattle.std.specs.Prelude.{None}
 
 nearer : Nearer (λ (x : Mode × List ℕ). length x.1) (λ f x. jumps_on f x.0 x.1)
 nearer x f g alike = go x.1 alike
