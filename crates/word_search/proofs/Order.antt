@@ -17,7 +17,7 @@ use Rattle.word_search.specs.Compare.{begins}
 use Rattle.word_search.specs.Find.{Entry, first_that, word_in}
 use Rattle.word_search.specs.Order.{begins_none, ordered, word_at, Longest}
 use Rattle.word_search.specs.declared.Match.{Match}
-use Rattle.word_search.specs.declared.Match.TheVariants.{Word, Nothing}
+use Rattle.std.specs.Prelude.{Option, Some, None}
 use Rattle.word_search.proofs.Search.{and_left, and_right}
 
 not_T : (b : Bool) → T (not b) → b ≡ false
@@ -69,22 +69,24 @@ first_cons : (p : List ℕ → Bool) (e : Entry) (es : List Entry) (i : ℕ) →
 first_cons p e es i g f zero l = g
 first_cons p e es i g f (suc j) l = f j (le_of_suc-le-suc l)
 
-module _ (p : List ℕ → Bool) (k len tok : ℕ) where
-  pub found : (es : List Entry) (n : ℕ) → first_that (λ i w. p w) es n ≡ Word k len tok → Found p es n k len
+module _ (p : List ℕ → Bool) (m : Match) where
+  pub found : (es : List Entry) (n : ℕ) → first_that (λ i w. p w) es n ≡ Some m → Found p es n m.index m.used
   unfolding first_that
   found [] n q = let z : ◌≡◌ {A = ℕ} 0 1 = cc in absurd (omega arith)
   found (e ∷ es) n q = go (p e.word) refl q (found es (suc n))
     where
-      go : (b : Bool) → p e.word ≡ b → elim b [ true ↦ Word n (length e.word) e.token | false ↦ first_that (λ i w. p w) es (suc n) ] ≡ Word k len tok
-          → (first_that (λ i w. p w) es (suc n) ≡ Word k len tok → Found p es (suc n) k len) → Found p (e ∷ es) n k len
-      go true g h r = record {
-        at = 0;
-        place = let z : n ≡ k = cc in omega arith;
-        within = omega arith;
-        passes = g;
-        size = cc;
-        first = λ j l. absurd (not-suc-le-zero l);
-      }
+      go : (b : Bool) → p e.word ≡ b → ◌≡◌ {A = Option Match} (elim b [ true ↦ Some (record { index = n; used = length e.word; token = e.token }) | false ↦ first_that (λ i w. p w) es (suc n) ]) (Some m)
+          → (first_that (λ i w. p w) es (suc n) ≡ Some m → Found p es (suc n) m.index m.used) → Found p (e ∷ es) n m.index m.used
+      go true g h r =
+          let here : ◌≡◌ {A = Match} (record { index = n; used = length e.word; token = e.token }) m = cc in
+          record {
+            at = 0;
+            place = let z : n ≡ m.index = ap (λ (x : Match). x.index) here in omega arith;
+            within = omega arith;
+            passes = g;
+            size = ap (λ (x : Match). x.used) here;
+            first = λ j l. absurd (not-suc-le-zero l);
+          }
       go false g h r =
           let f = r h in
           record {
@@ -96,22 +98,22 @@ module _ (p : List ℕ → Bool) (k len tok : ℕ) where
             first = first_cons p e es f.at g f.first;
           }
 
-module _ (es : List Entry) (o : T (ordered es)) (t : List ℕ) (k len tok : ℕ) (m : first_that (λ i w. begins w t) es 0 ≡ Word k len tok) where
-  pub longest : (j : ℕ) → j < length es → begins (word_at es j) t ≡ true → length (word_at es j) ≤ len
-  longest j h g = go (found (λ w. begins w t) k len tok es 0 m)
+module _ (es : List Entry) (o : T (ordered es)) (t : List ℕ) {m : Match} (told : first_that (λ i w. begins w t) es 0 ≡ Some m) where
+  pub longest : (j : ℕ) → j < length es → begins (word_at es j) t ≡ true → length (word_at es j) ≤ m.used
+  longest j h g = go (found (λ w. begins w t) m es 0 told)
     where
-      go : Found (λ w. begins w t) es 0 k len → length (word_at es j) ≤ len
+      go : Found (λ w. begins w t) es 0 m.index m.used → length (word_at es j) ≤ m.used
       go f = behind (dec_lt f.at j)
         where
-          short : f.at < j → Dec (length (word_at es f.at) ≤ length (word_at es j)) → length (word_at es j) ≤ len
+          short : f.at < j → Dec (length (word_at es f.at) ≤ length (word_at es j)) → length (word_at es j) ≤ m.used
           short l (yes b) = absurd (false≢true (sym (ordered_at es o f.at j l h) ∙ begins_both _ _ t f.passes g b))
           short l (no n) = omega (arith, f.size, n)
 
-          same : j ≤ f.at → (j ≡ f.at) ⊎ (j < f.at) → length (word_at es j) ≤ len
+          same : j ≤ f.at → (j ≡ f.at) ⊎ (j < f.at) → length (word_at es j) ≤ m.used
           same l (inl e) = le_of_eq (ap (λ (i : ℕ). length (word_at es i)) e ∙ f.size)
           same l (inr b) = absurd (false≢true (sym (f.first j b) ∙ g))
 
-          behind : Dec (f.at < j) → length (word_at es j) ≤ len
+          behind : Dec (f.at < j) → length (word_at es j) ≤ m.used
           behind (yes l) = short l (dec_le _ _)
           behind (no n) = let l : j ≤ f.at = omega arith in same l (eq-or-lt_of_le l)
 
@@ -121,5 +123,5 @@ unfolding word_in
 longest_in es o t = go (first_that (λ i w. begins w t) es 0) refl
   where
     go : (m : Option Match) → first_that (λ i w. begins w t) es 0 ≡ m → Longest es t m
-    go (Word k len tok) q = longest es o t k len tok q
-    go Nothing q = tt
+    go (Some m) q = longest es o t q
+    go None q = tt

@@ -9,7 +9,7 @@ use borrow.Author.Tests.{eq-eqb, eqb-true}
 use Rattle.word_search.specs.Compare.{same, member}
 use Rattle.word_search.specs.Find.{Entry, first_that, same_in}
 use Rattle.word_search.specs.declared.Match.{Match}
-use Rattle.word_search.specs.declared.Match.TheVariants.{Word, Nothing}
+use Rattle.std.specs.Prelude.{Option, Some, None}
 use Rattle.word_search.proofs.Search.{and_left, and_right}
 
 pub same_refl : (w : List ℕ) → same w w ≡ true
@@ -39,8 +39,8 @@ same_is w t false q = go (same w t) refl
 
 -- a word is found just where the text is one of the words
 abbrev pub is_found : Option Match → Bool
-is_found (Word index used token) = true
-is_found Nothing = false
+is_found (Some m) = true
+is_found None = false
 
 abbrev pub spellings : List Entry → List (List ℕ)
 spellings = map (λ e. e.word)
@@ -51,7 +51,7 @@ found_member t [] k = refl
 found_member t (e ∷ es) k = go (same e.word t) (found_member t es (suc k))
   where
     go : (b : Bool) → is_found (first_that (λ i w. same w t) es (suc k)) ≡ member t (spellings es)
-        → is_found (elim b [ true ↦ Word k (lib.ListN.length e.word) e.token | false ↦ first_that (λ i w. same w t) es (suc k) ]) ≡ elim b [ true ↦ true | false ↦ member t (spellings es) ]
+        → is_found (elim b [ true ↦ Some (record { index = k; used = lib.ListN.length e.word; token = e.token }) | false ↦ first_that (λ i w. same w t) es (suc k) ]) ≡ elim b [ true ↦ true | false ↦ member t (spellings es) ]
     go true h = refl
     go false h = h
 
