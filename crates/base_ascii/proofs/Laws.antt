@@ -1,19 +1,18 @@
 -- Trimming, and the test whether each byte is below 80.
 -- Assumes nothing.
-use Prim.Native.Nat.{ℕ, ◌+◌, ◌-◌, ◌≤◌, ◌<◌}
-use mathlib.Core.Path.{◌≡◌, refl, sym, ap, ◌∙◌}
+use Prim.Native.Nat.{ℕ, ◌+◌, ◌-◌, ◌≤◌}
+use mathlib.Core.Path.{◌≡◌, refl, ap, ◌∙◌}
 use mathlib.Core.Bool.{Bool, true, false, ◌&&◌}
 use mathlib.Core.List.{List, [], ◌∷◌}
 use native.Mathlib.Omega.{arith}
-use lib.ListN.{length, get_or, take, drop, drop_of_length-le, length-drop}
-use borrow.Author.Tests.{lt-ltb, le-ltb}
+use lib.ListN.{length, take, drop, length-drop}
 use lib.Dec.{ltb}
 use Rattle.std.specs.Prelude.{nat_lt}
 use Rattle.std.specs.List.{list_all}
 use Rattle.base_ascii.specs.Bytes.{is_space, is_ascii}
 use Rattle.base_ascii.specs.Search.{front, past, past_end}
 use Rattle.base_ascii.specs.Trim.{trim}
-use Rattle.base_ascii.proofs.Searching.{here, tail, front_le, front_more, end_le, end_take}
+use Rattle.base_ascii.proofs.Searching.{tail, front_le, front_more, end_le, end_take}
 
 -- ---- both ends
 

@@ -21,14 +21,14 @@ use Rattle.std.specs.List.{prefix_len}
 pub by_kind : (b : ℕ) {kind k : Kind} {r : Bool} → kind ≡ k → r ≡ of_kind k b → r ≡ of_kind kind b
 by_kind b e q = rw e q
 
-pub starts_none : (b : ℕ) (s : List ℕ) → length s ≡ 0 → false ≡ starts_with b s
+pub starts_none : (b : ℕ) (s : List ℕ) → length s ≤ 0 → false ≡ starts_with b s
 unfolding starts_with
 starts_none b [] h = refl
 starts_none b (c ∷ s) h = absurd (omega arith)
 
-pub starts_some : (b : ℕ) (s : List ℕ) → (length s ≡ 0 → ⊥) → eqb (get_or s 0 0) b ≡ starts_with b s
+pub starts_some : (b : ℕ) (s : List ℕ) → 0 < length s → eqb (get_or s 0 0) b ≡ starts_with b s
 unfolding starts_with
-starts_some b [] h = absurd (h refl)
+starts_some b [] h = absurd (omega arith)
 starts_some b (c ∷ s) h = refl
 
 -- where a first byte is told, there is one

@@ -26,23 +26,14 @@ pub fn wide16(n: u16) -> usize
 pub fn between(low: u8, high: u8, b: u8) -> bool
     ensures { result ≡ between_of low high b }
 {
-    if b < low {
-        return false;
-    }
-    b <= high
+    low <= b && b <= high
 }
 
 // a to z become A to Z.
 pub fn upper(b: u8) -> u8
     ensures { result ≡ upper_of b }
 {
-    if b < 97 {
-        return b;
-    }
-    if b > 122 {
-        return b;
-    }
-    b - 32
+    if between(97, 122, b) { b - 32 } else { b }
 }
 
 pub fn is_digit(b: u8) -> bool
@@ -61,10 +52,7 @@ pub fn is_letter(b: u8) -> bool
 pub fn is_space(b: u8) -> bool
     ensures { result ≡ is_space b }
 {
-    if b == 32 {
-        return true;
-    }
-    between(9, 13, b)
+    b == 32 || between(9, 13, b)
 }
 
 // Whether each byte is below 80.

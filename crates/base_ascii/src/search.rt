@@ -22,37 +22,19 @@ pub enum Kind {
 fn is_white(b: u8) -> bool
     ensures { result ≡ is_white b }
 {
-    if b == 0x20 {
-        return true;
-    }
-    if crate::between(0x09, 0x0A, b) {
-        return true;
-    }
-    crate::between(0x0C, 0x0D, b)
+    b == 0x20 || crate::between(0x09, 0x0A, b) || crate::between(0x0C, 0x0D, b)
 }
 
 fn is_blank(b: u8) -> bool
     ensures { result ≡ is_blank b }
 {
-    if b == 0x20 {
-        return true;
-    }
-    if b == 0x09 {
-        return true;
-    }
-    b == 0x0C
+    matches!(b, 0x09 | 0x0C | 0x20)
 }
 
 fn is_mark(b: u8) -> bool
     ensures { result ≡ is_mark b }
 {
-    if b == b' ' {
-        return true;
-    }
-    if b == b'-' {
-        return true;
-    }
-    b == b'_'
+    matches!(b, b' ' | b'-' | b'_')
 }
 
 // Whether a byte is of a kind.
@@ -73,10 +55,7 @@ pub fn is_kind(b: u8, kind: Kind) -> bool
 pub fn starts_with(s: &[u8], b: u8) -> bool
     ensures { result ≡ starts_with b s.now }
 {
-    if s.len() == 0 {
-        return false;
-    }
-    s[0] == b
+    0 < s.len() && s[0] == b
 }
 
 // How many bytes in front are of the kind.

@@ -1,17 +1,15 @@
 -- A result stored in a lent buffer, or not: the three cases of `into_buffer` (specs/Lent.antt).
 -- Assumes nothing.
 use Prim.Native.Nat.{ℕ, ◌≤◌, ◌<◌}
-use mathlib.Core.Path.{◌≡◌, sym, ap, ◌∙◌}
+use mathlib.Core.Path.{◌≡◌, ap}
 use mathlib.Core.List.{List}
 use native.Mathlib.Omega.{arith}
 use lib.ListN.{length}
 use borrow.Author.Tests.{le-leb, lt-leb}
-use Rattle.base_refusals.specs.Answer.{Answer, done, refused, answered}
+use Rattle.base_refusals.specs.Answer.{Answer, done, refused}
 use Rattle.base_refusals.specs.Numbers.{Numbered, no_room}
 use Rattle.base_lent.specs.Lent.{Lent, into_buffer, room_for}
 use Rattle.base_lent.specs.Stores.{Put, HasRoom}
-use Rattle.std.specs.Prelude.{Result}
-use Rattle.base_refusals.specs.declared.Refusal.{Refusal}
 
 module _ (buffer : List ℕ) where
   pub has_room : (a : Answer (List ℕ)) {n : ℕ} → done n ≡ room_for a → n ≤ length buffer → HasRoom buffer a

@@ -1,7 +1,7 @@
 -- Two results that meet one promise are the same, and so are the buffers that they leave.
 -- Assumes nothing.
 use Prim.Native.Nat.{ℕ}
-use mathlib.Core.Path.{◌≡◌, refl, sym, ap, ◌∙◌}
+use mathlib.Core.Path.{◌≡◌, sym, ap, ◌∙◌}
 use mathlib.Core.List.{List}
 use Rattle.base_refusals.proofs.Tight.{answered_tight}
 use Rattle.base_lent.specs.Lent.{Lent, left}

@@ -5,7 +5,8 @@ use mathlib.Core.Path.{◌≡◌, refl}
 use mathlib.Core.List.{List}
 use native.Mathlib.Omega.{arith}
 use native.Mathlib.Numerals.{add-one}
-use lib.ListN.{get_or}
+use lib.ListN.{length, get_or, take}
+use Rattle.std.proofs.lemmas.List.{length-take-le, get_or-take}
 use Rattle.count_totals.specs.TokenTotals.{sum_below, tokens_sum}
 
 sum_more : (n d : ℕ) (f : ℕ → ℕ) → sum_below n f ≤ sum_below (d + n) f
@@ -30,18 +31,31 @@ pub summed_start : (t : List ℕ) (most : ℕ) → Summed t most 0 0
 unfolding sum_below
 summed_start t most = record { within = omega arith; is = refl; low = omega arith }
 
-module _ {t : List ℕ} {most k sum : ℕ} (s : Summed t most k sum) where
-  pub summed_turn : k < 0xCC → get_or t k 0 ≤ most - sum → Summed t most (k + 1) (sum + get_or t k 0)
-  summed_turn h l = record { within = omega arith; is = omega (arith, s.is, sum_next k (λ j. get_or t j 0)); low = omega (arith, s.low) }
+module _ {t : List ℕ} {most k sum : ℕ} (long : length t ≡ 206) (s : Summed t most k sum) where
+  -- the counts stand in front
+  counts_long : length (take 0xCC t) ≡ 0xCC
+  counts_long = length-take-le 0xCC t (omega arith)
 
-  pub summed_over : k < 0xCC → most - sum < get_or t k 0 → most + 1 ≡ min (tokens_sum t) (most + 1)
+  count_is : k < length (take 0xCC t) → get_or (take 0xCC t) k 0 ≡ get_or t k 0
+  count_is h = get_or-take 0xCC t k 0 (omega (arith, counts_long))
+
+  pub summed_turn : k < length (take 0xCC t) → get_or (take 0xCC t) k 0 ≤ most - sum → Summed t most (k + 1) (sum + get_or (take 0xCC t) k 0)
+  summed_turn h l =
+      rw (count_is h)
+      (record {
+        within = omega (arith, counts_long);
+        is = omega (arith, s.is, sum_next k (λ j. get_or t j 0));
+        low = omega (arith, s.low, count_is h);
+      })
+
+  pub summed_over : k < length (take 0xCC t) → most - sum < get_or (take 0xCC t) k 0 → most + 1 ≡ min (tokens_sum t) (most + 1)
   unfolding tokens_sum
   summed_over h l =
-      let up : k + 1 ≤ 0xCC = omega arith in
-      omega (arith, s.is, s.low, sum_next k (λ j. get_or t j 0), sum_up (λ j. get_or t j 0) up)
+      let up : k + 1 ≤ 0xCC = omega (arith, counts_long) in
+      omega (arith, s.is, s.low, count_is h, sum_next k (λ j. get_or t j 0), sum_up (λ j. get_or t j 0) up)
 
-  pub summed_end : 0xCC ≤ k → sum ≡ min (tokens_sum t) (most + 1)
+  pub summed_end : length (take 0xCC t) ≤ k → sum ≡ min (tokens_sum t) (most + 1)
   unfolding tokens_sum
   summed_end h =
-      let e : k ≡ 0xCC = omega (arith, s.within) in
+      let e : k ≡ 0xCC = omega (arith, s.within, counts_long) in
       omega (arith, rw e at s.is, s.low)

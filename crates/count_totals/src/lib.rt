@@ -24,17 +24,10 @@ pub const MOST_IMAGES: u64 = 1000;
 pub fn are_totals(totals: &[u64]) -> bool
     ensures { result ≡ is_totals totals.now }
 {
-    if totals.len() != LENGTH {
+    if totals.len() != LENGTH || totals[TAKEN] > MOST_IMAGES || totals[REFUSED] > totals[TAKEN] {
         return false;
     }
-    let taken = totals[TAKEN];
-    if taken > MOST_IMAGES {
-        return false;
-    }
-    if totals[REFUSED] > taken {
-        return false;
-    }
-    let most = LONGEST * taken;
+    let most = LONGEST * totals[TAKEN];
     sum_up_to(totals, most) <= most
 }
 
@@ -43,9 +36,10 @@ pub fn tokens(totals: &[u64]) -> u64
     ensures { result ≡ tokens_counted totals.now }
 {
     if are_totals(totals) {
-        return sum_up_to(totals, LONGEST * MOST_IMAGES);
+        sum_up_to(totals, LONGEST * MOST_IMAGES)
+    } else {
+        0
     }
-    0
 }
 
 // The share of a token in all tokens counted, in thousandths, rounded down; 0 where none is counted, and of what is no token.
@@ -53,11 +47,8 @@ pub fn share(totals: &[u64], token: u8) -> u64
     ensures { result ≡ share_of totals.now token }
 {
     let sum = tokens(totals);
-    if sum == 0 {
-        return 0;
-    }
-    let k = token as usize;
-    if k >= TAKEN {
+    let k = usize::from(token);
+    if sum == 0 || k >= TAKEN {
         return 0;
     }
     1000 * totals[k] / sum
@@ -68,15 +59,12 @@ fn sum_up_to(totals: &[u64], most: u64) -> u64
     requires { (length totals.now ≡ 206) × (most ≤ 1048576000) }
     ensures { result ≡ min (tokens_sum totals.now) (most + 1) }
 {
-    let mut k: usize = 0;
     let mut sum: u64 = 0;
-    while k < TAKEN {
-        let count = totals[k];
-        if count > most - sum {
+    for count in &totals[..TAKEN] {
+        if *count > most - sum {
             return most + 1;
         }
-        sum += count;
-        k += 1;
+        sum += *count;
     }
     sum
 }

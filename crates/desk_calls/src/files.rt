@@ -40,15 +40,18 @@ fn put_letters(out: &mut [u8], at: usize, b: u8) -> usize {
 // A plain name for any other, behind what stands in a buffer, which is full where it has no room.
 fn put_plain(out: &mut [u8], from: usize, name: &[u8]) -> usize {
     let mut at = from;
-    let mut i: usize = 0;
-    while i < name.len() {
+    for (i, b) in name.iter().enumerate() {
         if i % 100 == 0 {
             at = put(out, at, b'/');
         }
-        at = put_letters(out, at, name[i]);
-        i += 1;
+        at = put_letters(out, at, *b);
     }
     put(out, at, b'.')
+}
+
+// A name that the library can give a file.
+fn plain(name: &[u8]) -> io::Result<&str> {
+    str::from_utf8(name).or(Err(Error::from(ErrorKind::InvalidFilename)))
 }
 
 // The path of a link, whose folder is told by a variable.
@@ -59,17 +62,14 @@ fn link_path(rt: &HostRuntime, name: &[u8], room: &mut [u8]) -> io::Result<usize
     }
 }
 
-// The path that stands for a name, at the start of a buffer.
+// The path that stands for a name, at the start of a buffer; as much of it as has room.
 fn path(rt: &HostRuntime, name: &[u8], room: &mut [u8]) -> io::Result<usize> {
     if !is_plain(name) {
         return link_path(rt, name, room);
     }
-    let mut i: usize = 0;
-    while i < name.len() {
-        put(room, i, name[i]);
-        i += 1;
-    }
-    Ok(i)
+    let fits = name.len().min(room.len());
+    room[..fits].copy_from_slice(&name[..fits]);
+    Ok(name.len())
 }
 
 // What stands at the start of a buffer, which has to be longer: what fills it may have been cut.
@@ -77,10 +77,7 @@ fn text_of(room: &[u8], length: usize) -> io::Result<&str> {
     if length >= room.len() {
         return Err(too_long());
     }
-    match str::from_utf8(&room[..length]) {
-        Ok(text) => Ok(text),
-        Err(_) => Err(Error::from(ErrorKind::InvalidFilename)),
-    }
+    plain(&room[..length])
 }
 
 fn open(rt: &HostRuntime, name: &[u8], how: &OpenOptions) -> io::Result<File> {
@@ -111,15 +108,9 @@ pub fn open_append(rt: &HostRuntime, name: &[u8]) -> io::Result<File> {
 
 // Both names have to be plain: what a link leads to would keep its own.
 pub fn rename(rt: &HostRuntime, from: &[u8], to: &[u8]) -> io::Result<()> {
-    match (str::from_utf8(from), str::from_utf8(to)) {
-        (Ok(from), Ok(to)) => fs::rename(rt, from, to),
-        (_, _) => Err(Error::from(ErrorKind::InvalidFilename)),
-    }
+    fs::rename(rt, plain(from)?, plain(to)?)
 }
 
 pub fn remove(rt: &HostRuntime, name: &[u8]) -> io::Result<()> {
-    match str::from_utf8(name) {
-        Ok(name) => fs::remove_file(rt, name),
-        Err(_) => Err(Error::from(ErrorKind::InvalidFilename)),
-    }
+    fs::remove_file(rt, plain(name)?)
 }

@@ -8,28 +8,19 @@ use std::io::{Cursor, Error, Write};
 fn before_number(words: &[u8]) -> usize
     ensures { result ≤ length words.now }
 {
-    let mut end = words.len();
-    while end > 0 {
-        end -= 1;
-        if words[end] == b'(' {
-            return without_space(end);
-        }
+    match words.iter().rposition(|b| *b == b'(') {
+        Some(mark) => mark.saturating_sub(1),
+        None => words.len(),
     }
-    words.len()
-}
-
-fn without_space(end: usize) -> usize
-    ensures { result ≤ end }
-{
-    if end > 0 { end - 1 } else { 0 }
 }
 
 fn words_end(why: Error, words: &[u8]) -> usize
     ensures { result ≤ length words.now }
 {
-    match why.raw_os_error() {
-        Some(_) => before_number(words),
-        None => words.len(),
+    if why.raw_os_error().is_some() {
+        before_number(words)
+    } else {
+        words.len()
     }
 }
 
@@ -42,7 +33,7 @@ fn written(why: Error, room: &mut [u8]) -> usize
         return 0;
     }
     let end = to.position() as usize;
-    if end <= room.len() { end } else { room.len() }
+    end.min(room.len())
 }
 
 // The same, without the number that the library puts behind them.

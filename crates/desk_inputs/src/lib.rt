@@ -5,67 +5,39 @@
 ghost use Rattle.std.specs.Prelude.{◌≤◌};
 ghost use Rattle.desk_inputs.specs.CountedHelpers.{PartWithin, InputWithin, input_count};
 
-use std::io::{Error, Read};
+use std::io::{Read, Result};
 
-// What filling a buffer came to.
-#[derive(Clone, Copy)]
-pub enum Part {
-    Whole,
-    // The input ended behind this many bytes, fewer than the buffer has.
-    Cut(usize),
-    // Why it could not be read.
-    Failed(Error),
-}
-
-// What reading a whole input came to.
-#[derive(Clone, Copy)]
-pub enum Input {
-    // The input is this many bytes, which stand at the buffer's start.
-    All(usize),
-    // The buffer is full, and the input goes on. One byte of what follows has been read, and is lost.
-    Longer,
-    // Why it could not be read.
-    Failed(Error),
-}
-
-// Fills buf. For an empty buffer nothing is read.
-pub fn read_part<R: Read>(from: &mut R, buf: &mut [u8]) -> Part
+// Fills buf; where the input ended before it was full, behind how many bytes. For an empty buffer nothing is read.
+pub fn read_part<R: Read>(from: &mut R, buf: &mut [u8]) -> Result<Option<usize>>
     ensures { PartWithin result buf.new }
 {
     let mut done: usize = 0;
     while done < buf.len() {
-        match from.read(&mut buf[done..]) {
-            Ok(more) => {
-                if more == 0 {
-                    return Part::Cut(done);
-                }
-                done += more;
-            }
-            Err(why) => return Part::Failed(why),
+        let more = from.read(&mut buf[done..])?;
+        if more == 0 {
+            return Ok(Some(done));
         }
+        done += more;
     }
-    Part::Whole
+    Ok(None)
 }
 
-// Reads up to the end of the input.
-pub fn read_input<R: Read>(from: &mut R, buf: &mut [u8]) -> Input
+// Reads up to the end of the input: how many bytes it is, which stand at the buffer's start. Nothing where it is longer than the buffer, which is
+// full then: one byte of what follows has been read, and is lost.
+pub fn read_input<R: Read>(from: &mut R, buf: &mut [u8]) -> Result<Option<usize>>
     ensures { InputWithin result buf.new }
 {
-    match read_part(from, buf) {
-        Part::Whole => ending(from, buf.len()),
-        Part::Cut(count) => Input::All(count),
-        Part::Failed(why) => Input::Failed(why),
+    match read_part(from, buf)? {
+        Some(count) => Ok(Some(count)),
+        None => ending(from, buf.len()),
     }
 }
 
 // A full buffer of count bytes holds the whole input if nothing follows.
-fn ending<R: Read>(from: &mut R, count: usize) -> Input
+fn ending<R: Read>(from: &mut R, count: usize) -> Result<Option<usize>>
     ensures { input_count result ≤ count }
 {
     let mut spare = [0u8; 1];
-    match read_part(from, &mut spare) {
-        Part::Whole => Input::Longer,
-        Part::Cut(_) => Input::All(count),
-        Part::Failed(why) => Input::Failed(why),
-    }
+    let end = read_part(from, &mut spare)?;
+    Ok(end.map(|_| count))
 }

@@ -9,7 +9,7 @@ use native.Mathlib.Nat.{max_comm}
 use native.Mathlib.Omega.{arith}
 use lib.Dec.{leb}
 use lib.ListN.{get_or}
-use borrow.Author.Tests.{leb-true, leb-false, le-leb, lt-leb}
+use borrow.Author.Tests.{leb-true, leb-false}
 use Rattle.desk_status.specs.declared.Status.{Status}
 use Rattle.desk_status.specs.declared.Status.TheVariants.{Done, Refused, Misused, Failed}
 use Rattle.desk_status.specs.Status.{number, worst}
@@ -51,11 +51,3 @@ number_small Done = omega arith
 number_small Refused = omega arith
 number_small Misused = omega arith
 number_small Failed = omega arith
-
--- the worse of two, from a test of their numbers
-module _ (a b : Status) {m n : ℕ} where
-  pub worst_second : m ≤ n → m ≡ number a → n ≡ number b → b ≡ worst a b
-  worst_second h p q = let k : number a ≤ number b = omega arith in simp (le-leb _ _ k)
-
-  pub worst_first : n < m → m ≡ number a → n ≡ number b → a ≡ worst a b
-  worst_first h p q = let k : number b < number a = omega arith in simp (lt-leb _ _ k)

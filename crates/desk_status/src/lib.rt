@@ -8,50 +8,35 @@ ghost use Rattle.desk_status.specs.Status.{is_done, number as status_number, wor
 // Where the status goes.
 const STATUS_FILENO: i32 = 3;
 
-#[derive(Clone, Copy)]
+// Each with the number that ./moldthatch ends with: of two the greater is the worse.
+#[derive(Clone, Copy, PartialEq, Eq, PartialOrd, Ord)]
 pub enum Status {
-    Done,
+    Done = 0,
     // Something was refused, or is not fit.
-    Refused,
+    Refused = 1,
     // The words of the command ask for nothing that there is.
-    Misused,
+    Misused = 2,
     // Something could not be read or written.
-    Failed,
+    Failed = 3,
 }
 
-// The number that ./moldthatch ends with.
 fn number(status: Status) -> u8
     ensures { result ≡ status_number status }
 {
-    match status {
-        Status::Done => 0,
-        Status::Refused => 1,
-        Status::Misused => 2,
-        Status::Failed => 3,
-    }
+    status as u8
 }
 
 pub fn is_done(status: Status) -> bool
     ensures { result ≡ is_done status }
 {
-    match status {
-        Status::Done => true,
-        Status::Refused => false,
-        Status::Misused => false,
-        Status::Failed => false,
-    }
+    status == Status::Done
 }
 
 // The worse of two, which is what both together come to.
-#[tactic(auto, using(crate::proofs::Laws::worst_second, crate::proofs::Laws::worst_first))]
 pub fn worse(first: Status, second: Status) -> Status
     ensures { result ≡ worst first second }
 {
-    if number(first) <= number(second) {
-        second
-    } else {
-        first
-    }
+    first.max(second)
 }
 
 // What a command comes to that was to write something first.

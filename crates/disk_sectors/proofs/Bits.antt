@@ -1,58 +1,64 @@
 -- Bits of a byte: one that is 0 leaves room for its power, one that is 1 holds it; and a byte with a bit changed.
 -- Assumes nothing.
-use Prim.Native.Nat.{ℕ, zero, suc, ◌+◌, ◌-◌, ◌/◌, ◌%◌, ◌^◌, ◌≤◌, ◌<◌}
-use mathlib.Core.Path.{◌≡◌, ap}
-use mathlib.Core.Bool.{Bool, true, false}
+use Prim.Native.Nat.{ℕ, zero, suc, ◌+◌, ◌-◌, ◌*◌, ◌/◌, ◌%◌, ◌^◌, ◌≤◌, ◌<◌}
+use mathlib.Core.Path.{◌≡◌, refl}
+use mathlib.Core.Bool.{Bool, true, false, cond}
 use mathlib.Core.List.{List}
 use lib.Dec.{eqb}
 use lib.ListN.{get_or, set}
-use borrow.Author.Tests.{le-ltb, lt-ltb, eq-eqb, ne_eqb}
+use lib.Bits.{bit_and, bit_or, or_add_and}
+use lib.Count.{ones_step}
+use lib.Count.{ones as digits}
+use Rattle.std.proofs.lemmas.Nat.Bits.{and_pow}
+use Rattle.std.proofs.lemmas.Nat.{and-not, and_comm}
+use borrow.Author.Tests.{le-ltb, lt-ltb}
 use native.Mathlib.Omega.{arith}
-use mir.Val.{Fits}
-use mir.Syntax.{w8}
 use Rattle.disk_rules.specs.Places.{track_of, sector_of}
 use Rattle.disk_rules.specs.Map.{bit_of, ones, with_bit, map_at, bit_at, is_free, marked}
 
-pub bit_room : (b k : ℕ) → k < 8 → b < 256 → bit_of b k < 1 → b + 2 ^ k < 256
-unfolding bit_of
-bit_room b zero h g e = omega arith
-bit_room b (suc zero) h g e = omega arith
-bit_room b (suc (suc zero)) h g e = omega arith
-bit_room b (suc (suc (suc zero))) h g e = omega arith
-bit_room b (suc (suc (suc (suc zero)))) h g e = omega arith
-bit_room b (suc (suc (suc (suc (suc zero))))) h g e = omega arith
-bit_room b (suc (suc (suc (suc (suc (suc zero)))))) h g e = omega arith
-bit_room b (suc (suc (suc (suc (suc (suc (suc zero))))))) h g e = omega arith
-bit_room b (suc (suc (suc (suc (suc (suc (suc (suc k)))))))) h g e = absurd (omega arith)
+pub power_below : (k : ℕ) → k < 8 → 2 ^ k < 256
+power_below zero h = omega arith
+power_below (suc zero) h = omega arith
+power_below (suc (suc zero)) h = omega arith
+power_below (suc (suc (suc zero))) h = omega arith
+power_below (suc (suc (suc (suc zero)))) h = omega arith
+power_below (suc (suc (suc (suc (suc zero))))) h = omega arith
+power_below (suc (suc (suc (suc (suc (suc zero)))))) h = omega arith
+power_below (suc (suc (suc (suc (suc (suc (suc zero))))))) h = omega arith
+power_below (suc (suc (suc (suc (suc (suc (suc (suc k)))))))) h = absurd (omega arith)
 
-pub bit_held : (b k : ℕ) → k < 8 → 1 ≤ bit_of b k → 2 ^ k ≤ b
-unfolding bit_of
-bit_held b zero h e = omega arith
-bit_held b (suc zero) h e = omega arith
-bit_held b (suc (suc zero)) h e = omega arith
-bit_held b (suc (suc (suc zero))) h e = omega arith
-bit_held b (suc (suc (suc (suc zero)))) h e = omega arith
-bit_held b (suc (suc (suc (suc (suc zero))))) h e = omega arith
-bit_held b (suc (suc (suc (suc (suc (suc zero)))))) h e = omega arith
-bit_held b (suc (suc (suc (suc (suc (suc (suc zero))))))) h e = omega arith
-bit_held b (suc (suc (suc (suc (suc (suc (suc (suc k)))))))) h e = absurd (omega arith)
+-- the power that the code shifts to
+shifted : (k : ℕ) → k < 8 → 1 * 2 ^ k % 256 ≡ 2 ^ k
+shifted k h = let p : 2 ^ k < 256 = power_below k h in omega arith
 
-module _ (b k : ℕ) {r : ℕ} {one : Bool} where
-  pub made_one : {p : ℕ} → r ≡ bit_of b k → r < 1 → p ≡ 2 ^ k → one ≡ true → b + p ≡ with_bit b k one
-  unfolding with_bit
-  made_one e h f g = let z : bit_of b k ≡ 1 → ⊥ = λ i. omega arith in rw (f, g) (simp (ne_eqb (bit_of b k) 1 z))
+-- a number that has the bit d of weight p, and with it made 1 or 0
+one_of : (d b p x : ℕ) → d < 2 → x + d * p ≡ b + p → x ≡ cond (eqb d 1) b (b + p)
+one_of zero b p x h e = omega arith
+one_of (suc zero) b p x h e = omega arith
+one_of (suc (suc d)) b p x h e = absurd (omega arith)
 
-  pub kept_one : r ≡ bit_of b k → r ≤ 1 → 1 ≤ r → one ≡ true → b ≡ with_bit b k one
-  unfolding with_bit
-  kept_one e h i g = let z : bit_of b k ≡ 1 = omega arith in rw g (simp (eq-eqb (bit_of b k) 1 z))
+zero_of : (d b p x : ℕ) → d < 2 → x + d * p ≡ b → x ≡ cond (eqb d 1) (b - p) b
+zero_of zero b p x h e = omega arith
+zero_of (suc zero) b p x h e = omega arith
+zero_of (suc (suc d)) b p x h e = absurd (omega arith)
 
-  pub kept_zero : r ≡ bit_of b k → r < 1 → one ≡ false → b ≡ with_bit b k one
-  unfolding with_bit
-  kept_zero e h g = let z : bit_of b k ≡ 1 → ⊥ = λ i. omega arith in rw g (simp (ne_eqb (bit_of b k) 1 z))
+module _ (b k : ℕ) (below : k < 8) where
+  pub made_one : bit_or b (1 * 2 ^ k % 256) ≡ with_bit b k true
+  unfolding with_bit bit_of
+  made_one =
+      let d : bit_of b k < 2 = omega arith in
+      let s : bit_or b (2 ^ k) + bit_of b k * 2 ^ k ≡ b + 2 ^ k = rw and_pow at (or_add_and b (2 ^ k)) in
+      rw (shifted k below) (one_of (bit_of b k) _ _ _ d s)
 
-  pub made_zero : {p : ℕ} → r ≡ bit_of b k → r ≤ 1 → 1 ≤ r → p ≡ 2 ^ k → one ≡ false → b - p ≡ with_bit b k one
-  unfolding with_bit
-  made_zero e h i f g = let z : bit_of b k ≡ 1 = omega arith in rw (f, g) (simp (eq-eqb (bit_of b k) 1 z))
+  pub made_zero : b < 256 → bit_and b (255 - 1 * 2 ^ k % 256) ≡ with_bit b k false
+  unfolding with_bit bit_of
+  made_zero h =
+      let p : 2 ^ k < 256 = power_below k below in
+      let d : bit_of b k < 2 = omega arith in
+      let n : bit_and (255 - 2 ^ k) b + bit_and (2 ^ k) b ≡ b = and-not 8 (2 ^ k) b p h in
+      let m : bit_and b (255 - 2 ^ k) + bit_of b k * 2 ^ k ≡ b =
+      rw (← and_pow b k, and_comm b (255 - 2 ^ k), and_comm b (2 ^ k)) n in
+      rw (shifted k below) (zero_of (bit_of b k) _ _ _ d m)
 
 module _ (d : List ℕ) (n : ℕ) where
   pub free_on : {b t s : ℕ} → b ≡ bit_at d t s → t ≡ track_of n → s ≡ sector_of n → n < 357 → eqb b 1 ≡ is_free d n
@@ -77,11 +83,24 @@ module _ (d : List ℕ) (n : ℕ) where
   unfolding marked
   mark_made free e f g i j k = rw (i, j, k, g, e, f)
 
-pub bit_fits : (b k : ℕ) {r p : ℕ} → k < 8 → Fits w8 b → r ≡ bit_of b k → r < 1 → p ≡ 2 ^ k → Fits w8 (b + p)
-bit_fits b k h f e g i = let j : b + 2 ^ k < 256 = bit_room b k h (omega arith) (omega arith) in record { fits = omega arith }
-
-pub bit_holds : (b k : ℕ) {r p : ℕ} → k < 8 → r ≡ bit_of b k → 1 ≤ r → p ≡ 2 ^ k → p ≤ b
-bit_holds b k h e g i = let j : 2 ^ k ≤ b = bit_held b k h (omega arith) in omega arith
-
-pub power_at : (k i : ℕ) → i ≤ k → k < i + 1 → 2 ^ i ≡ 2 ^ k
-power_at k i h g = let e : i ≡ k = omega arith in ap (λ (x : ℕ). 2 ^ x) e
+-- std's count of a byte's ones is that of its eight bits
+pub ones_counted : (b : ℕ) → b < 256 → (digits b ≡ ones b) × (digits b ≤ 8)
+unfolding ones digits
+ones_counted b h =
+    let z : b / 2 / 2 / 2 / 2 / 2 / 2 / 2 / 2 ≡ 0 = omega arith in
+    let e : digits (b / 2 / 2 / 2 / 2 / 2 / 2 / 2 / 2) ≡ 0 = rw z refl in
+    let s : (n : ℕ) → digits n ≡ n % 2 + digits (n / 2) = ones_step in
+    let d : digits b ≡ ones b =
+    omega (
+      arith,
+      s b,
+      s (b / 2),
+      s (b / 2 / 2),
+      s (b / 2 / 2 / 2),
+      s (b / 2 / 2 / 2 / 2),
+      s (b / 2 / 2 / 2 / 2 / 2),
+      s (b / 2 / 2 / 2 / 2 / 2 / 2),
+      s (b / 2 / 2 / 2 / 2 / 2 / 2 / 2),
+    )
+    in
+    (d, omega arith)

@@ -11,16 +11,12 @@ use disk_rules::Link;
 pub fn sectors_on(track: usize) -> usize
     ensures { (result ≡ sectors_on track) × (result ≤ 21) }
 {
-    if track < 18 {
-        return 21;
+    match track {
+        0..18 => 21,
+        18..25 => 19,
+        25..31 => 18,
+        _ => 17,
     }
-    if track < 25 {
-        return 19;
-    }
-    if track < 31 {
-        return 18;
-    }
-    17
 }
 
 // How many sectors stand before a track's first.
@@ -28,16 +24,12 @@ pub fn sectors_before(track: usize) -> usize
     requires { (1 ≤ track) × (track ≤ 35) }
     ensures { (result ≡ sectors_before track) × (result ≤ 666) }
 {
-    if track < 18 {
-        return 21 * (track - 1);
+    match track {
+        0..18 => 21 * (track - 1),
+        18..25 => 357 + 19 * (track - 18),
+        25..31 => 490 + 18 * (track - 25),
+        _ => 598 + 17 * (track - 31),
     }
-    if track < 25 {
-        return 357 + 19 * (track - 18);
-    }
-    if track < 31 {
-        return 490 + 18 * (track - 25);
-    }
-    598 + 17 * (track - 31)
 }
 
 // The track of a sector.
@@ -45,16 +37,12 @@ pub fn track_of(n: usize) -> usize
     requires { n < 683 }
     ensures { (result ≡ track_of n) × (1 ≤ result) × (result ≤ 35) }
 {
-    if n < 357 {
-        return 1 + n / 21;
+    match n {
+        0..357 => 1 + n / 21,
+        357..490 => 18 + (n - 357) / 19,
+        490..598 => 25 + (n - 490) / 18,
+        _ => 31 + (n - 598) / 17,
     }
-    if n < 490 {
-        return 18 + (n - 357) / 19;
-    }
-    if n < 598 {
-        return 25 + (n - 490) / 18;
-    }
-    31 + (n - 598) / 17
 }
 
 // Which of its track's sectors a sector is.
@@ -62,34 +50,29 @@ pub fn sector_of(n: usize) -> usize
     requires { n < 683 }
     ensures { (result ≡ sector_in n) × (result ≤ 20) }
 {
-    if n < 357 {
-        return n % 21;
+    match n {
+        0..357 => n % 21,
+        357..490 => (n - 357) % 19,
+        490..598 => (n - 490) % 18,
+        _ => (n - 598) % 17,
     }
-    if n < 490 {
-        return (n - 357) % 19;
-    }
-    if n < 598 {
-        return (n - 490) % 18;
-    }
-    (n - 598) % 17
 }
 
 // What a track and a sector link to.
 fn link_to(track: u8, sector: u8) -> Link
     ensures { result ≡ link_of track sector }
 {
-    if track < 1 {
-        return Link::Last(sector);
+    let t = usize::from(track);
+    let s = usize::from(sector);
+    if track == 0 {
+        Link::Last(sector)
+    } else if t > 35 {
+        Link::Astray
+    } else if s >= sectors_on(t) {
+        Link::Astray
+    } else {
+        Link::To(sectors_before(t) + s)
     }
-    let t = track as usize;
-    if t > 35 {
-        return Link::Astray;
-    }
-    let s = sector as usize;
-    if s >= sectors_on(t) {
-        return Link::Astray;
-    }
-    Link::To(sectors_before(t) + s)
 }
 
 // The link in the two bytes at an offset.
@@ -100,64 +83,28 @@ pub fn link_at(disk: &[u8], at: usize) -> Link
     link_to(disk[at], disk[at + 1])
 }
 
-// Two to a power.
-fn power(k: usize) -> u8
-    requires { k < 8 }
-    ensures { (result ≡ 2 ^ k) × (1 ≤ result) }
-{
-    if k < 1 {
-        return 1;
-    }
-    if k < 2 {
-        return 2;
-    }
-    if k < 3 {
-        return 4;
-    }
-    if k < 4 {
-        return 8;
-    }
-    if k < 5 {
-        return 16;
-    }
-    if k < 6 {
-        return 32;
-    }
-    if k < 7 {
-        return 64;
-    }
-    128
-}
-
 fn bit(byte: u8, k: usize) -> u8
     requires { k < 8 }
     ensures { (result ≡ bit_of byte k) × (result ≤ 1) }
 {
-    byte / power(k) % 2
+    (byte >> k) & 1
 }
 
 fn ones(byte: u8) -> u8
     ensures { (result ≡ ones_of byte) × (result ≤ 8) }
 {
-    let low = byte % 2 + byte / 2 % 2 + byte / 4 % 2 + byte / 8 % 2;
-    low + byte / 16 % 2 + byte / 32 % 2 + byte / 64 % 2 + byte / 128 % 2
+    byte.count_ones() as u8
 }
 
 fn with_bit(byte: u8, k: usize, one: bool) -> u8
     requires { k < 8 }
     ensures { result ≡ with_bit byte k one }
 {
-    let now = bit(byte, k);
     if one {
-        if now < 1 {
-            return byte + power(k);
-        }
-        return byte;
+        byte | (1 << k)
+    } else {
+        byte & !(1 << k)
     }
-    if now < 1 {
-        return byte;
-    }
-    byte - power(k)
 }
 
 // The map's bit of the sector s of a track.
@@ -173,14 +120,10 @@ pub fn is_free(disk: &[u8], n: usize) -> bool
     requires { (length disk.now ≡ 174848) × (n < 683) }
     ensures { result ≡ is_free_on disk.now n }
 {
-    let free = bit_at(disk, track_of(n), sector_of(n)) == 1;
-    if n < 357 {
-        return free;
+    match n {
+        357..=375 => false,
+        _ => bit_at(disk, track_of(n), sector_of(n)) == 1,
     }
-    if n <= 375 {
-        return false;
-    }
-    free
 }
 
 // Marks a sector free, or used, and counts its track anew.

@@ -16,7 +16,7 @@ use Rattle.base_ascii.proofs.Searching.{end_whole}
 use Rattle.escape_numbers.specs.Numbers.{digit_of, number_after, number_of, unsigned, count_of}
 use Rattle.escape_numbers.specs.NumbersHelpers.{last_from, last_of, countable}
 use Rattle.escape_numbers.proofs.Numbering.{digit_letter, digit_none}
-use Rattle.std.specs.Prelude.{None}
+use Rattle.std.specs.Prelude.{Option, None}
 
 -- ---- the last byte
 
@@ -53,7 +53,7 @@ unended limit n b [] e = rw (number_after, le-ltb _ _ (no_digit b e))
 unended limit n b (c ∷ s) e = go (ltb (digit_of b) 10) (unended limit (n * 10 + digit_of b) c s e)
   where
     go : (r : Bool) → number_after 10 limit (n * 10 + digit_of b) (c ∷ s) ≡ None
-        → elim r [ true ↦ number_after 10 limit (n * 10 + digit_of b) (c ∷ s) | false ↦ None ] ≡ None
+        → ◌≡◌ {A = Option ℕ} (elim r [ true ↦ number_after 10 limit (n * 10 + digit_of b) (c ∷ s) | false ↦ None ]) None
     go true m = m
     go false m = refl
 
@@ -106,19 +106,19 @@ uncounted t u k =
 
 -- ---- the test of the last byte
 
-pub countable_empty : (t : List ℕ) → length t ≡ 0 → false ≡ countable t
+pub countable_empty : (t : List ℕ) → length t ≤ 0 → false ≡ countable t
 unfolding countable last_of between
-countable_empty [] e = refl
-countable_empty (b ∷ t) e = absurd (omega arith)
+countable_empty [] h = refl
+countable_empty (b ∷ t) h = absurd (omega arith)
 
-module _ (t : List ℕ) {d : Bool} where
-  is_digit_lem : d ≡ is_digit (get_or t (length t - 1) 0) → d ≡ is_digit (last_of t)
-  is_digit_lem p = p ∙ ap is_digit (last_is t)
+module _ (t : List ℕ) {b : ℕ} (e : b ≡ get_or t (length t - 1) 0) {d : Bool} where
+  last_digit : d ≡ is_digit b → is_digit (last_of t) ≡ d
+  last_digit p = sym (p ∙ ap is_digit (e ∙ last_is t))
 
-  pub countable_digit : d ≡ true → d ≡ is_digit (get_or t (length t - 1) 0) → true ≡ countable t
+  pub countable_digit : d ≡ true → d ≡ is_digit b → d ≡ countable t
   unfolding countable
-  countable_digit e p = rw (sym (is_digit_lem p) ∙ e)
+  countable_digit f p = rw (last_digit p ∙ f) f
 
-  pub countable_space : {r : Bool} → r ≡ is_space (get_or t (length t - 1) 0) → d ≡ false → d ≡ is_digit (get_or t (length t - 1) 0) → r ≡ countable t
+  pub countable_space : {r : Bool} → r ≡ is_space b → d ≡ false → d ≡ is_digit b → r ≡ countable t
   unfolding countable
-  countable_space q e p = rw (sym (is_digit_lem p) ∙ e) (q ∙ ap is_space (last_is t))
+  countable_space q f p = rw (last_digit p ∙ f) (q ∙ ap is_space (e ∙ last_is t))

@@ -44,7 +44,7 @@ over base limit p (b ∷ s) n h =
     go (ltb (digit_of b) base) (over base limit p s (n * base + digit_of b) (omega (arith, le-mul_of_pos_right n p)))
   where
     go : (r : Bool) → number_after base limit (n * base + digit_of b) s ≡ None
-        → elim r [ true ↦ number_after base limit (n * base + digit_of b) s | false ↦ None ] ≡ None
+        → ◌≡◌ {A = Option ℕ} (elim r [ true ↦ number_after base limit (n * base + digit_of b) s | false ↦ None ]) None
     go true e = e
     go false e = refl
 
@@ -125,7 +125,7 @@ decimal_byte s f e = record { fits = omega (arith, number_within 10 255 s (sym f
 
 -- ---- a $ in front
 
-pub hex_empty : (s : List ℕ) → length s ≡ 0 → None ≡ hex_of s
+pub hex_empty : (s : List ℕ) → length s < 1 → None ≡ hex_of s
 unfolding hex_of
 hex_empty [] h = refl
 hex_empty (b ∷ s) h = absurd (omega arith)
@@ -135,9 +135,9 @@ unfolding hex_of
 hex_other [] h = refl
 hex_other (b ∷ s) h = rw (hex_of, ne_eqb b 36 h)
 
-pub hex_digits_lem : (s : List ℕ) {r : (Option ℕ)} → r ≡ number_of 16 255 (take (length s - 1) (drop 1 s)) → get_or s 0 0 ≡ 36 → (length s ≡ 0 → ⊥) → r ≡ hex_of s
+pub hex_digits_lem : (s : List ℕ) {r : (Option ℕ)} → r ≡ number_of 16 255 (take (length s - 1) (drop 1 s)) → get_or s 0 0 ≡ 36 → 1 ≤ length s → r ≡ hex_of s
 unfolding hex_of
-hex_digits_lem [] e h l = absurd (l refl)
+hex_digits_lem [] e h l = absurd (omega arith)
 hex_digits_lem (b ∷ s) e h l = rw (hex_of, eq-eqb b 36 h) (e ∙ ap (number_of 16 255) (tail (b ∷ s) 1))
 
 hex_within : (s : List ℕ) {v : ℕ} → Some v ≡ hex_of s → v ≤ 255
@@ -154,7 +154,7 @@ hex_byte_lem s f e = record { fits = omega (arith, hex_within s (sym f ∙ e)) }
 
 -- ---- a + in front
 
-pub plus_empty : (s : List ℕ) → length s ≡ 0 → s ≡ unsigned s
+pub plus_empty : (s : List ℕ) → length s < 1 → s ≡ unsigned s
 unfolding unsigned
 plus_empty [] h = refl
 plus_empty (b ∷ s) h = absurd (omega arith)
@@ -164,9 +164,9 @@ unfolding unsigned
 plus_other [] h = refl
 plus_other (b ∷ s) h = rw (unsigned, ne_eqb b 43 h)
 
-pub plus_left_out : (s : List ℕ) → get_or s 0 0 ≡ 43 → (length s ≡ 0 → ⊥) → take (length s - 1) (drop 1 s) ≡ unsigned s
+pub plus_left_out : (s : List ℕ) → get_or s 0 0 ≡ 43 → 1 ≤ length s → take (length s - 1) (drop 1 s) ≡ unsigned s
 unfolding unsigned
-plus_left_out [] h l = absurd (l refl)
+plus_left_out [] h l = absurd (omega arith)
 plus_left_out (b ∷ s) h l = rw (unsigned, eq-eqb b 43 h) (tail (b ∷ s) 1)
 
 -- ---- a count

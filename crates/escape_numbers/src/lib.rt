@@ -10,10 +10,10 @@ fn digit_of(b: u8) -> u64
     ensures { result ≡ digit_of b }
 {
     if base_ascii::is_digit(b) {
-        return (b - 48) as u64;
+        return u64::from(b - b'0');
     }
     if base_ascii::is_letter(b) {
-        return (base_ascii::upper(b) - 55) as u64;
+        return u64::from(base_ascii::upper(b) - 55);
     }
     36
 }
@@ -23,13 +23,12 @@ pub fn number_in(s: &[u8], base: u64, limit: u64) -> Option<u64>
     requires { (0 < base) × (base ≤ limit) }
     ensures { result ≡ number_of base limit s.now }
 {
-    if s.len() == 0 {
+    if s.is_empty() {
         return None;
     }
     let mut n: u64 = 0;
-    let mut i: usize = 0;
-    while i < s.len() {
-        let d = digit_of(s[i]);
+    for b in s {
+        let d = digit_of(*b);
         if base <= d {
             return None;
         }
@@ -37,7 +36,6 @@ pub fn number_in(s: &[u8], base: u64, limit: u64) -> Option<u64>
             return None;
         }
         n = n * base + d;
-        i += 1;
     }
     Some(n)
 }
@@ -46,43 +44,35 @@ pub fn number_in(s: &[u8], base: u64, limit: u64) -> Option<u64>
 pub fn hex_number(s: &[u8]) -> Option<u64>
     ensures { result ≡ hex_of s.now }
 {
-    if s.len() == 0 {
-        return None;
+    match s {
+        [b'$', digits @ ..] => number_in(digits, 16, 255),
+        _ => None,
     }
-    if s[0] != b'$' {
-        return None;
-    }
-    number_in(&s[1..], 16, 255)
 }
 
 // A leading + is left out.
 fn without_plus(s: &[u8]) -> &[u8]
     ensures { result.now ≡ unsigned s.now }
 {
-    if s.len() == 0 {
-        return s;
+    match s {
+        [b'+', digits @ ..] => digits,
+        _ => s,
     }
-    if s[0] == b'+' { &s[1..] } else { s }
 }
 
 // The count that a text is.
 pub fn count_of(s: &[u8]) -> Option<u64>
     ensures { result ≡ count_of s.now }
 {
-    number_in(without_plus(s), 10, 0xFFFF_FFFF_FFFF_FFFF)
+    number_in(without_plus(s), 10, u64::MAX)
 }
 
 // Whether a count can stand at the end of a text: only where the last byte is a digit or white space.
 pub fn may_end_in_count(text: &[u8]) -> bool
     ensures { result ≡ countable text.now }
 {
-    let n = text.len();
-    if n == 0 {
-        return false;
+    match text.last() {
+        Some(last) => base_ascii::is_digit(*last) || base_ascii::is_space(*last),
+        None => false,
     }
-    let last = text[n - 1];
-    if base_ascii::is_digit(last) {
-        return true;
-    }
-    base_ascii::is_space(last)
 }

@@ -1,39 +1,25 @@
 -- The search for the first 00, and the end of a body.
 -- Assumes nothing.
-use Prim.Native.Nat.{ℕ, suc, ◌+◌, ◌-◌, ◌≤◌, ◌<◌}
-use mathlib.Core.Path.{◌≡◌, ap, ◌∙◌}
-use mathlib.Core.Bool.{Bool, true, false}
+use Prim.Native.Nat.{ℕ, suc, ◌+◌, ◌-◌, ◌≤◌}
+use mathlib.Core.Path.{◌≡◌, refl, ap, ◌∙◌}
+use mathlib.Core.Bool.{Bool, true, false, not, cond}
 use mathlib.Core.List.{List, [], ◌∷◌}
-use native.Mathlib.Numerals.{add-one}
 use native.Mathlib.Omega.{arith}
-use lib.ListN.{length, get_or, take, drop, drop_of_length-le, length-drop}
-use lib.Seq.{drop-cons, take_all}
+use lib.ListN.{length, take, drop, length-drop}
+use lib.Seq.{take_all}
 use lib.Dec.{eqb}
-use borrow.Author.Tests.{eq-eqb, ne_eqb}
+use Rattle.std.specs.List.{prefix_len}
 use Rattle.image_bytes.specs.ImageBytes.{before_zero, body_end}
 
--- i bytes passed, none of them 00
-pub record NoZeroYet (s : List ℕ) (i : ℕ) : Type 0 where
-  pub within : i ≤ length s
-  pub gives : i + before_zero (drop i s) ≡ before_zero s
-
-pub passed_none : (s : List ℕ) → NoZeroYet s 0
-passed_none s = record { within = omega arith; gives = omega arith }
-
-module _ {s : List ℕ} {i : ℕ} (k : NoZeroYet s i) where
-  pub passed_end : length s ≤ i → i ≡ before_zero s
-  unfolding before_zero
-  passed_end h = let e : before_zero (drop i s) ≡ 0 = rw (drop_of_length-le s h) in omega arith
-
-  pub passed_zero : i < length s → get_or s i 0 ≡ 0 → i ≡ before_zero s
-  unfolding before_zero
-  passed_zero h z = let e : before_zero (drop i s) ≡ 0 = rw (drop-cons s i 0 h, eq-eqb _ _ z, before_zero) in omega arith
-
-  pub passed_turn : i < length s → (get_or s i 0 ≡ 0 → ⊥) → NoZeroYet s (i + 1)
-  unfolding before_zero
-  passed_turn h z =
-      let e : before_zero (drop i s) ≡ suc (before_zero (drop (i + 1) s)) = rw (add-one, drop-cons s i 0 h, ne_eqb _ _ z, before_zero) in
-      record { within = omega arith; gives = omega arith }
+-- the bytes in front that are not 00
+pub zero_counted : (s : List ℕ) → prefix_len (λ b. not (eqb b 0)) s ≡ before_zero s
+unfolding before_zero
+zero_counted [] = refl
+zero_counted (b ∷ s) = go (eqb b 0) (zero_counted s)
+  where
+    go : (r : Bool) → prefix_len (λ b. not (eqb b 0)) s ≡ before_zero s → cond (not r) (1 + prefix_len (λ b. not (eqb b 0)) s) 0 ≡ elim r [ true ↦ 0 | false ↦ suc (before_zero s) ]
+    go true e = refl
+    go false e = omega (arith, e)
 
 -- the first 00 stands within the bytes, or at their end where there is none
 before_within : (s : List ℕ) → before_zero s ≤ length s

@@ -10,8 +10,8 @@ pub fn address_at(image: &[u8], offset: usize) -> usize
     requires { (offset + 4 ≤ length image.now) × (length image.now ≤ 1048576) }
     ensures { result ≡ address_at image.now offset }
 {
-    let sum = low_first_at(image, 0) as usize + offset;
-    if sum < 2 { 0 } else { sum - 2 }
+    let sum = usize::from(low_first_at(image, 0)) + offset;
+    sum.saturating_sub(2)
 }
 
 // The offset that the link at an offset leads to; 0, which ends no line, where the link lies below the load address.
@@ -19,9 +19,8 @@ pub fn target_at(image: &[u8], offset: usize) -> usize
     requires { offset + 2 ≤ length image.now }
     ensures { result ≡ target_at image.now offset }
 {
-    let behind = 2 + low_first_at(image, offset) as usize;
-    let load = low_first_at(image, 0) as usize;
-    if behind < load { 0 } else { behind - load }
+    let behind = 2 + usize::from(low_first_at(image, offset));
+    behind.saturating_sub(usize::from(low_first_at(image, 0)))
 }
 
 // The offset of the first 00 behind the link and number at an offset, or the image's end.
@@ -37,14 +36,7 @@ pub fn body_end(image: &[u8], offset: usize) -> usize
 pub fn before_zero(bytes: &[u8]) -> usize
     ensures { result ≡ before_zero bytes.now }
 {
-    let mut i: usize = 0;
-    while i < bytes.len() {
-        if bytes[i] == 0 {
-            return i;
-        }
-        i += 1;
-    }
-    i
+    bytes.iter().take_while(|b| **b != 0).count()
 }
 
 // The number in two bytes at an offset, low byte first.
@@ -58,5 +50,5 @@ pub fn low_first_at(image: &[u8], offset: usize) -> u16
 pub fn low_first(low: u8, high: u8) -> u16
     ensures { result ≡ low + 256 * high }
 {
-    (low as u16) + 256 * (high as u16)
+    u16::from_le_bytes([low, high])
 }

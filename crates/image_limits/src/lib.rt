@@ -34,29 +34,20 @@ pub fn is_too_high(machine: Limits, number: u16) -> bool
 pub fn is_not_ascending(least: usize, number: u16) -> bool
     ensures { result ≡ is_not_ascending least number }
 {
-    (number as usize) < least
+    usize::from(number) < least
 }
 
 // Whether a body of so many bytes is none, or is too long.
 pub fn is_bad_length(machine: Limits, length: usize) -> bool
     ensures { result ≡ is_bad_length machine length }
 {
-    if length < 1 {
-        return true;
-    }
-    length > machine.longest
+    length < 1 || length > machine.longest
 }
 
 // Whether an image of so many bytes, its load address among them, lies in BASIC memory.
 pub fn is_in_basic_memory(machine: Limits, load: u16, length: usize) -> bool
     ensures { result ≡ in_basic_memory machine load length }
 {
-    if load < machine.first {
-        return false;
-    }
-    let end = machine.last as usize + 3;
-    if length > end {
-        return false;
-    }
-    load as usize + length <= end
+    let end = usize::from(machine.last) + 3;
+    load >= machine.first && length <= end && usize::from(load) + length <= end
 }

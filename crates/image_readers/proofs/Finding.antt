@@ -1,20 +1,18 @@
 -- What both readers' steps share: the two refusals that come first, and what is known of what was found.
 -- Assumes nothing.
 use Prim.Native.Nat.{ℕ, ◌≤◌, ◌<◌}
-use mathlib.Core.Path.{◌≡◌, refl, sym, ap, ◌∙◌, subst}
+use mathlib.Core.Path.{◌≡◌, refl, subst}
 use mathlib.Core.Bool.{Bool, true, false, cond}
 use mathlib.Core.List.{List}
 use native.Mathlib.Omega.{arith}
 use lib.ListN.{length}
 use lib.Dec.{ltb}
 use borrow.Author.Tests.{le-ltb, lt-ltb, ltb-false}
-use Rattle.base_refusals.specs.Answer.{Answer, done, refused, answered}
+use Rattle.base_refusals.specs.Answer.{Answer, done, refused}
 use Rattle.base_refusals.specs.Numbers.{image_too_long, too_short}
 use Rattle.image_readers.specs.declared.Line.{Line}
 use Rattle.image_readers.specs.Image.{sized}
-use Rattle.image_readers.specs.declared.Overview.{Overview}
-use Rattle.std.specs.Prelude.{Option, Some, None, Result}
-use Rattle.base_refusals.specs.declared.Refusal.{Refusal}
+use Rattle.std.specs.Prelude.{Option, Some, None}
 
 -- ---- the length is checked first
 

@@ -2,14 +2,14 @@
 -- step, so of both readers.
 -- Assumes nothing.
 use Prim.Native.Nat.{ℕ}
-use mathlib.Core.Path.{◌≡◌, refl, sym, ap, ◌∙◌}
+use mathlib.Core.Path.{◌≡◌, sym, ◌∙◌}
 use mathlib.Core.List.{List}
-use Rattle.base_refusals.specs.Answer.{Answer, done, refused, answered}
+use Rattle.base_refusals.specs.Answer.{answered}
 use Rattle.base_refusals.proofs.Tight.{answered_tight}
 use Rattle.image_readers.specs.Lines.{Reader, overview}
 use Rattle.image_readers.specs.declared.Overview.{Overview}
 use Rattle.image_readers.specs.Bodies.{body_at}
-use Rattle.std.specs.Prelude.{Option, Some, None, Result, Ok, Err}
+use Rattle.std.specs.Prelude.{Option, Result}
 use Rattle.base_refusals.specs.declared.Refusal.{Refusal}
 use Rattle.image_readers.specs.declared.Line.{Line}
 

@@ -51,21 +51,12 @@ pub fn check_by(image: &[u8], by: By) -> Result<Overview, Refusal>
 {
     let mut offset: usize = 2;
     let mut lines: usize = 0;
-    loop {
-        match step_by(image, offset, by) {
-            Ok(Some(line)) => {
-                offset = line.next;
-                lines += 1;
-            }
-            Ok(None) => {
-                let load = low_first_at(image, 0);
-                return Ok(Overview { load, lines });
-            }
-            Err(refusal) => {
-                return Err(refusal);
-            }
-        }
+    while let Some(line) = step_by(image, offset, by)? {
+        offset = line.next;
+        lines += 1;
     }
+    let load = low_first_at(image, 0);
+    Ok(Overview { load, lines })
 }
 
 // The line at an offset, any offset; none where the image ends.
@@ -83,13 +74,8 @@ pub fn body_by(image: &[u8], offset: usize, by: By) -> &[u8]
     ensures { result.now ≡ body_at (step_by by) image.now offset }
 {
     match step_by(image, offset, by) {
-        Ok(Some(line)) => {
-            let from = line.from;
-            let to = line.to;
-            &image[from..to]
-        }
-        Ok(None) => &image[..0],
-        Err(_) => &image[..0],
+        Ok(Some(line)) => &image[line.from..line.to],
+        Ok(None) | Err(_) => &[],
     }
 }
 

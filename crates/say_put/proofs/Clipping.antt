@@ -1,15 +1,15 @@
 -- Laws of texts stored as far as they fit: one behind another, and what is still owed.
 -- Assumes nothing.
-use Prim.Native.Nat.{ℕ, suc, ◌+◌, ◌≤◌, ◌<◌, min}
+use Prim.Native.Nat.{ℕ, suc, ◌+◌, ◌-◌, ◌≤◌, ◌<◌, min}
 use mathlib.Core.Path.{◌≡◌, refl, sym, ap, ◌∙◌}
 use mathlib.Core.Bool.{Bool, true, false}
-use mathlib.Core.List.{List, [], ◌∷◌, ◌++◌}
-use native.Mathlib.Numerals.{add-one}
+use mathlib.Core.List.{List, [], ◌∷◌, ◌++◌, append_assoc}
 use native.Mathlib.Omega.{arith}
 use lib.Dec.{leb}
-use lib.ListN.{length, get_or, set, drop, length-set, length-append, drop_of_length-le}
-use lib.Seq.{sets, length-sets, set_out, drop-cons}
+use lib.ListN.{length, take, drop, length-append, drop_of_length-le, take-append-drop}
+use lib.Seq.{sets, sets-eq, length-sets, set_out, length-take-le, drop-drop}
 use borrow.Author.Tests.{leb-true, leb-false}
+use borrow.Rule.Slice.PartMut.{put_mid}
 use Rattle.base_lent.proofs.Storing.{sets_append}
 use Rattle.say_put.specs.Clipped.{Clipped}
 
@@ -70,32 +70,31 @@ module _ {buffer : List ℕ} {at : ℕ} {text out : List ℕ} {to : ℕ} {rest :
   pub owes_none : Owes buffer at text out to rest → rest ≡ [] → Clipped buffer at text to out
   owes_none o e = o.gives to out (clip_as (sym e) (clip_none o.within))
 
--- ---- the loop that stores a text
+-- ---- a text copied, as much of it as fits
 
--- i bytes of a text are stored, and all of them had room
-pub record Copied (text : List ℕ) (at : ℕ) (buffer out : List ℕ) (i to : ℕ) : Type 0 where
-  pub within : to ≤ length out
-  pub place : to ≡ at + i
-  pub few : i ≤ length text
-  pub sized : length out ≡ length buffer
-  pub gives : sets out to (drop i text) ≡ sets buffer at text
+copied : (d t : List ℕ) (at : ℕ) {c : ℕ} {part : List ℕ} → c ≡ length t → at + c ≤ length d → part ≡ t → put_mid at ((at + c) - at) d part ≡ sets d at t
+copied d t at {c} {part} size h e =
+    let k : (at + c) - at ≡ length t = omega arith in
+    rw (k, e)
+    (ap (λ (s : List ℕ). take at d ++ (t ++ s)) (drop-drop (length t) at d) ∙ sym (sets-eq t d at (omega arith) ∙ append_assoc (take at d) t (drop (at + length t) d)))
 
-pub copied_start : {text : List ℕ} {at : ℕ} {buffer : List ℕ} → at ≤ length buffer → Copied text at buffer buffer 0 at
-copied_start h = record { within = h; place = omega arith; few = omega arith; sized = refl; gives = refl }
+pub clip_copied : (d text : List ℕ) (at : ℕ) {c : ℕ} {part : List ℕ} → at ≤ length d → c ≡ min (length text) (length d - at) → part ≡ take c text
+    → Clipped d at text (at + c) (put_mid at ((at + c) - at) d part)
+clip_copied d text at {c} {part} h m e =
+    let size : c ≡ length (take c text) = sym (length-take-le c text (omega arith)) in
+    record { ends = omega arith; stored = copied d (take c text) at size (omega arith) e ∙ sym whole }
+  where
+    rest : sets (sets d at (take c text)) (at + c) (drop c text) ≡ sets d at (take c text)
+    rest = go (leb (length text) c) refl
+      where
+        go : (b : Bool) → leb (length text) c ≡ b → sets (sets d at (take c text)) (at + c) (drop c text) ≡ sets d at (take c text)
+        go true t = rw (drop_of_length-le text (leb-true _ _ t))
+        go false t =
+            let more : c < length text = leb-false _ _ t in
+            sets_out (sets d at (take c text)) (at + c) (drop c text) (omega (arith, length-sets d at (take c text)))
 
-module _ {text : List ℕ} {at : ℕ} {buffer out : List ℕ} {i to : ℕ} (k : Copied text at buffer out i to) where
-  pub copied_turn : i < length text → to < length out → Copied text at buffer (set out to (get_or text i 0)) (i + 1) (to + 1)
-  copied_turn h room =
-      record {
-        within = omega (arith, length-set out to (get_or text i 0));
-        place = omega (arith, k.place);
-        few = omega arith;
-        sized = length-set out to (get_or text i 0) ∙ k.sized;
-        gives = rw (add-one, add-one) (rw (drop-cons text i 0 h) at k.gives);
-      }
-
-  pub copied_full : length out ≤ to → Clipped buffer at text to out
-  copied_full h = record { ends = omega (arith, k.place, k.few, k.within, k.sized); stored = sym (sets_out out to (drop i text) h) ∙ k.gives }
-
-  pub copied_end : length text ≤ i → Clipped buffer at text to out
-  copied_end h = record { ends = omega (arith, k.place, k.few, k.within, k.sized); stored = rw (drop_of_length-le text h) at k.gives }
+    whole : sets d at text ≡ sets d at (take c text)
+    whole =
+        let size : length (take c text) ≡ c = length-take-le c text (omega arith) in
+        ap (sets d at) (sym (take-append-drop c text)) ∙ sets_append d at (take c text) (drop c text)
+        ∙ ap (λ (n : ℕ). sets (sets d at (take c text)) (at + n) (drop c text)) size ∙ rest

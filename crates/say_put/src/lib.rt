@@ -16,24 +16,16 @@ pub fn put_text(out: &mut [u8], at: usize, text: &[u8]) -> usize
     requires { at ≤ length out.old }
     ensures { Clipped out.old at text.now result out.new }
 {
-    let mut i: usize = 0;
-    let mut to = at;
-    while i < text.len() {
-        if to >= out.len() {
-            return to;
-        }
-        out[to] = text[i];
-        to += 1;
-        i += 1;
-    }
-    to
+    let count = text.len().min(out.len() - at);
+    out[at..at + count].copy_from_slice(&text[..count]);
+    at + count
 }
 
 fn digit(n: usize) -> u8
     requires { n < 10 }
     ensures { result ≡ 48 + n }
 {
-    48 + n as u8
+    b'0' + n as u8
 }
 
 // Puts a number's digits at the end of an array, and answers where they begin.
@@ -41,10 +33,8 @@ fn decimal(n: usize, digits: &mut [u8]) -> usize
     requires { 20 ≡ length digits.old }
     ensures { Spelt (decimal n) result digits.new }
 {
-    let mut i: usize = 20;
     let mut rest = n;
-    while i > 1 {
-        i -= 1;
+    for i in (1..20).rev() {
         digits[i] = digit(rest % 10);
         if rest < 10 {
             return i;
@@ -76,25 +66,21 @@ pub fn fill(
     requires { at ≤ length out.old }
     ensures { Clipped out.old at (filled row.now first second third) result out.new }
 {
-    let mut i: usize = 0;
     let mut to = at;
     let mut value = first;
     let mut later = second;
     let mut last = third;
-    while i < row.len() {
-        let b = row[i];
-        if b == 0x0A {
+    for b in row {
+        if *b == b'\n' {
             return to;
         }
-        if b == 0x23 {
+        if *b == b'#' {
             to = put_decimal(out, to, value);
             value = later;
             later = last;
             last = 0;
-            i += 1;
         } else {
-            to = put_text(out, to, &[b]);
-            i += 1;
+            to = put_text(out, to, &[*b]);
         }
     }
     to

@@ -6,29 +6,11 @@ use mathlib.Core.Bool.{Bool, true, false}
 use mathlib.Core.List.{List, [], ◌∷◌, ◌++◌}
 use native.Mathlib.Numerals.{add-one}
 use native.Mathlib.Omega.{arith}
-use lib.Dec.{eqb}
 use lib.ListN.{length, get_or, drop, drop_of_length-le}
 use lib.Seq.{drop-cons}
-use borrow.Author.Tests.{lt-ltb, le-ltb}
 use Rattle.say_put.specs.Clipped.{Clipped}
 use Rattle.say_put.proofs.Clipping.{Owes, owes_all, owes_less, owes_none, clip_as, clip_both}
 use Rattle.say_shown.specs.Shown.{is_control, capital_digit, shown_byte, shown, shown_line}
-
-pub control_low : {b : ℕ} → b < 0x20 → true ≡ is_control b
-unfolding is_control
-control_low h = rw (lt-ltb _ _ h)
-
-pub control_high : {b : ℕ} → 0x20 ≤ b → eqb b 0x7F ≡ is_control b
-unfolding is_control
-control_high h = rw (le-ltb _ _ h)
-
-pub digit_low : {n : ℕ} → n < 10 → 48 + n ≡ capital_digit n
-unfolding capital_digit
-digit_low h = rw (lt-ltb _ _ h)
-
-pub digit_high : {n : ℕ} → 10 ≤ n → 55 + n ≡ capital_digit n
-unfolding capital_digit
-digit_high h = rw (le-ltb _ _ h)
 
 module _ {buffer : List ℕ} {at behind : ℕ} {after : List ℕ} (b : ℕ) {high low : ℕ} where
   pub shows_control : {r : Bool} → r ≡ true → r ≡ is_control b → high ≡ capital_digit (b / 16) → low ≡ capital_digit (b % 16)

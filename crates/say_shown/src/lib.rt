@@ -8,23 +8,19 @@ ghost use Rattle.say_shown.specs.Shown.{is_control, capital_digit, shown_byte, s
 
 use say_put::put_text;
 
+#[tactic(auto, unfolding(crate::specs::Shown::is_control))]
 fn is_control(b: u8) -> bool
     ensures { result ≡ is_control b }
 {
-    if b < 0x20 {
-        return true;
-    }
-    b == 0x7F
+    b < 0x20 || b == 0x7F
 }
 
+#[tactic(auto, unfolding(crate::specs::Shown::capital_digit))]
 fn digit(n: u8) -> u8
     requires { n < 16 }
     ensures { result ≡ capital_digit n }
 {
-    if n < 10 {
-        return 48 + n;
-    }
-    55 + n
+    if n < 10 { b'0' + n } else { b'A' - 10 + n }
 }
 
 fn put_byte(out: &mut [u8], at: usize, b: u8) -> usize
@@ -44,11 +40,9 @@ pub fn put_shown(out: &mut [u8], at: usize, text: &[u8]) -> usize
     requires { at ≤ length out.old }
     ensures { Clipped out.old at (shown text.now) result out.new }
 {
-    let mut i: usize = 0;
     let mut to = at;
-    while i < text.len() {
-        to = put_byte(out, to, text[i]);
-        i += 1;
+    for b in text {
+        to = put_byte(out, to, *b);
     }
     to
 }

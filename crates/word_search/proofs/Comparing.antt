@@ -10,6 +10,8 @@ use native.Mathlib.Omega.{arith}
 use lib.Dec.{T, eqb, ltb}
 use lib.ListN.{length, get_or, take, drop, drop_of_length-le, length-map}
 use lib.Seq.{drop-cons}
+use Rattle.std.specs.Prelude.{zip}
+use Rattle.std.specs.List.{list_all}
 use borrow.Author.Tests.{eq-eqb, ne_eqb, eqb-true, lt-leb, lt-ltb, le-ltb}
 use Rattle.base_ascii.specs.Bytes.{between, upper}
 use Rattle.base_ascii.proofs.Ranges.{between_in}
@@ -20,20 +22,38 @@ use Rattle.word_search.specs.RunHelpers.{raised, Ready}
 use Rattle.word_search.proofs.Search.{and_left, and_right}
 use Rattle.word_search.proofs.Sameness.{T_true}
 
+-- a word that is no longer than the text begins it just where their letters agree, pair by pair; a longer one begins it never
+pub begins_zip : (w t : List ℕ) → length w ≤ length t → list_all (λ p. eqb (upper p.0) (upper p.1)) (zip w t) ≡ begins w t
+unfolding begins
+begins_zip [] t h = refl
+begins_zip (x ∷ w) [] h = absurd (omega arith)
+begins_zip (x ∷ w) (y ∷ t) h = go (eqb (upper x) (upper y)) (begins_zip w t (le_of_suc-le-suc h))
+  where
+    go : (b : Bool) → list_all (λ p. eqb (upper p.0) (upper p.1)) (zip w t) ≡ begins w t → (b && list_all (λ p. eqb (upper p.0) (upper p.1)) (zip w t)) ≡ elim b [ true ↦ begins w t | false ↦ false ]
+    go true e = e
+    go false e = refl
+
+pub begins_long : (w t : List ℕ) → length t < length w → false ≡ begins w t
+unfolding begins
+begins_long [] t h = absurd (omega arith)
+begins_long (x ∷ w) [] h = refl
+begins_long (x ∷ w) (y ∷ t) h = go (eqb (upper x) (upper y)) (begins_long w t (le_of_suc-le-suc h))
+  where
+    go : (b : Bool) → false ≡ begins w t → false ≡ elim b [ true ↦ begins w t | false ↦ false ]
+    go true e = e
+    go false e = refl
+
 -- what is left of the word begins what is left of the text just where the whole does
 pub record Compared (w t : List ℕ) (i : ℕ) : Type 0 where
   pub within : i ≤ length w
   pub gives : begins (drop i w) (drop i t) ≡ begins w t
 
-pub compared_start : (w t : List ℕ) → Compared w t 0
-compared_start w t = record { within = omega arith; gives = refl }
-
 module _ {w t : List ℕ} {i : ℕ} where
-  pub compared_end : length w ≤ i → Compared w t i → true ≡ begins w t
+  compared_end : length w ≤ i → Compared w t i → true ≡ begins w t
   unfolding begins
   compared_end h k = rw (drop_of_length-le w h) at k.gives
 
-  pub compared_short : length t ≤ i → i < length w → Compared w t i → false ≡ begins w t
+  compared_short : length t ≤ i → i < length w → Compared w t i → false ≡ begins w t
   unfolding begins
   compared_short l h k = rw (drop-cons w i 0 h, drop_of_length-le t l) at k.gives
 
@@ -48,14 +68,6 @@ module _ {w t : List ℕ} {i : ℕ} where
   differ n l h k =
       let s : begins (drop i w) (drop i t) ≡ false = rw (drop-cons w i 0 h, drop-cons t i 0 l, ne_eqb _ _ n, begins) in
       sym s ∙ k.gives
-
-  -- both bytes are raised
-  module _ {a b : ℕ} where
-    pub compared_turn : a ≡ b → b ≡ upper (get_or t i 0) → a ≡ upper (get_or w i 0) → i < length t → i < length w → Compared w t i → Compared w t (i + 1)
-    compared_turn e q p = agree (sym p ∙ e ∙ q)
-
-    pub compared_other : (a ≡ b → ⊥) → b ≡ upper (get_or t i 0) → a ≡ upper (get_or w i 0) → i < length t → i < length w → Compared w t i → false ≡ begins w t
-    compared_other n q p = differ (λ e. n (p ∙ e ∙ sym q))
 
 -- ---- a word in capitals
 

@@ -5,6 +5,7 @@ use mathlib.Core.Path.{◌≡◌, refl, sym, ap, ◌∙◌}
 use mathlib.Core.Bool.{Bool, true, false, ◌&&◌, false≢true}
 use mathlib.Core.List.{List, [], ◌∷◌, map}
 use lib.Dec.{T, eqb}
+use lib.Pointwise.{pointwise}
 use borrow.Author.Tests.{eq-eqb, eqb-true}
 use Rattle.word_search.specs.Compare.{same, member}
 use Rattle.word_search.specs.Find.{Entry, first_that, same_in}
@@ -28,14 +29,17 @@ same_eq (x ∷ w) (y ∷ t) q = go (eqb x y) refl q (same_eq w t)
     go true e g f = let head : x ≡ y = eqb-true _ _ e in let tail : w ≡ t = f g in cc
     go false e g f = absurd (false≢true g)
 
--- a test that holds of equals, and of equals alone, is sameness
-pub same_is : (w t : List ℕ) (r : Bool) → (r ≡ true → w ≡ t) × (w ≡ t → r ≡ true) → r ≡ same w t
-same_is w t true q = sym (ap (same w) (sym (q.0 refl)) ∙ same_refl w)
-same_is w t false q = go (same w t) refl
+-- the comparison of two lists, item by item
+pub same_pointwise : (w t : List ℕ) → pointwise eqb w t ≡ same w t
+unfolding same
+same_pointwise [] [] = refl
+same_pointwise [] (y ∷ t) = refl
+same_pointwise (x ∷ w) [] = refl
+same_pointwise (x ∷ w) (y ∷ t) = go (eqb x y) (same_pointwise w t)
   where
-    go : (b : Bool) → same w t ≡ b → false ≡ same w t
-    go true e = absurd (false≢true (q.1 (same_eq w t e)))
-    go false e = sym e
+    go : (b : Bool) → pointwise eqb w t ≡ same w t → (b && pointwise eqb w t) ≡ elim b [ true ↦ same w t | false ↦ false ]
+    go true e = e
+    go false e = refl
 
 -- a word is found just where the text is one of the words
 abbrev pub is_found : Option Match → Bool

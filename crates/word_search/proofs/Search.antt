@@ -98,8 +98,8 @@ module _ {t b s : List ℕ} {section : Section} {n : ℕ} where
     pub sought_ready : {x : List ℕ} → x ≡ word_of b s i → i < section.to → Sought p section.from section.to i → Stored t b s section n → Ready x t n
     sought_ready e h k st = rw e (st.ready _ k.up h)
 
-pub sought_end : {p : ℕ → Bool} {from to i : ℕ} → to ≤ i → Sought p from to i → i ≡ first_from p from (to - from)
-sought_end h k = sym (first_none _ _ _ h) ∙ k.gives
+pub sought_end : {p : ℕ → Bool} {from to i : ℕ} → to ≤ i → Sought p from to i → to ≡ first_from p from (to - from)
+sought_end {to} {i} h k = let e : to ≡ i = omega arith in e ∙ sym (first_none _ _ _ h) ∙ k.gives
 
 module _ (test : Test) (text b s : List ℕ) {x : List ℕ} {r : Bool} {from to i : ℕ} where
   pub sought_found : r ≡ true → r ≡ passes test x text → x ≡ word_of b s i → i < to → Sought (passes_at test text b s) from to i → i ≡ first_from (passes_at test text b s) from (to - from)

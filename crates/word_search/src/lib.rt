@@ -37,49 +37,32 @@ pub enum Test {
 pub fn begins(word: &[u8], text: &[u8]) -> bool
     ensures { result ≡ begins_of word.now text.now }
 {
-    let mut i: usize = 0;
-    while i < word.len() {
-        if text.len() <= i {
-            return false;
-        }
-        let a = base_ascii::upper(word[i]);
-        let b = base_ascii::upper(text[i]);
-        if a != b {
-            return false;
-        }
-        i += 1;
-    }
-    true
+    word.len() <= text.len()
+        && word
+            .iter()
+            .zip(text)
+            .all(|(a, b)| base_ascii::upper(*a) == base_ascii::upper(*b))
 }
 
 // Whether the text is the word, without regard to case.
 pub fn alike(word: &[u8], text: &[u8]) -> bool
     ensures { result ≡ alike_of word.now text.now }
 {
-    if word.len() != text.len() {
-        return false;
-    }
-    begins(word, text)
+    word.len() == text.len() && begins(word, text)
 }
 
 // Whether the text is the word, case and all.
 pub fn same(word: &[u8], text: &[u8]) -> bool
     ensures { result ≡ same_of word.now text.now }
 {
-    check::same(word, text)
+    word == text
 }
 
 // Whether the text is a beginning of the word, one byte or more, and the word is longer.
 fn shortens(word: &[u8], text: &[u8]) -> bool
     ensures { result ≡ shortens_of word.now text.now }
 {
-    if text.len() == 0 {
-        return false;
-    }
-    if word.len() <= text.len() {
-        return false;
-    }
-    begins(text, word)
+    !text.is_empty() && text.len() < word.len() && begins(text, word)
 }
 
 // Whether the text begins with a word that is stored in capitals, where so many bytes of the two are known to agree. The lengths are not
@@ -88,15 +71,10 @@ fn goes_on(word: &[u8], text: &[u8], known: usize) -> bool
     requires { Ready word.now text.now known }
     ensures { result ≡ begins_of word.now text.now }
 {
-    let mut i = known;
-    while i < word.len() {
-        if i >= text.len() {
+    for i in known..word.len() {
+        if i >= text.len() || word[i] != base_ascii::upper(text[i]) {
             return false;
         }
-        if word[i] != base_ascii::upper(text[i]) {
-            return false;
-        }
-        i += 1;
     }
     true
 }
@@ -108,12 +86,7 @@ fn passes(test: Test, word: &[u8], text: &[u8], known: usize) -> bool
 {
     match test {
         Test::Begins => goes_on(word, text, known),
-        Test::Alike => {
-            if word.len() != text.len() {
-                return false;
-            }
-            goes_on(word, text, known)
-        }
+        Test::Alike => word.len() == text.len() && goes_on(word, text, known),
         Test::Same => same(word, text),
         Test::Shortens => shortens(word, text),
     }
@@ -124,8 +97,8 @@ pub fn word_at<'a>(bytes: &'a [u8], starts: &[u16], k: usize) -> &'a [u8]
     requires { Lies bytes.now starts.now k }
     ensures { result.now ≡ word_of bytes.now starts.now k }
 {
-    let from = base_ascii::wide16(starts[k]);
-    let to = base_ascii::wide16(starts[k + 1]);
+    let from = usize::from(starts[k]);
+    let to = usize::from(starts[k + 1]);
     &bytes[from..to]
 }
 
@@ -141,13 +114,10 @@ pub fn first_passing(
     requires { Stored text.now bytes.now starts.now section known }
     ensures { result ≡ first_from (passes_at test text.now bytes.now starts.now) section.from (section.to - section.from) }
 {
-    let to = section.to;
-    let mut i = section.from;
-    while i < to {
+    for i in section.from..section.to {
         if passes(test, word_at(bytes, starts, i), text, known) {
             return i;
         }
-        i += 1;
     }
-    i
+    section.to
 }

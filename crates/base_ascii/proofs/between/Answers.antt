@@ -1,13 +1,13 @@
 -- `base_ascii::between` meets its contract: the test that was passed says which case holds.
 -- Assumes nothing.
-use borrow.Author.Tests.{lt-leb, le-leb}
+use borrow.Author.Tests.{le-leb, lt-leb}
 use Rattle.base_ascii.specs.Bytes.{between}
 use Rattle.base_ascii.proofs.between.Goals as goal
 
-pub returns-then-b-low : goal.returns-then-b-low
+pub returns-then-low-b : goal.returns-then-low-b
 unfolding between
-returns-then-b-low c = simp (lt-leb _ _ c.if-b-low.true)
+returns-then-low-b c = simp (le-leb _ _ c.if-low-b.true)
 
-pub returns : goal.returns
+pub returns-else-low-b : goal.returns-else-low-b
 unfolding between
-returns c = simp (le-leb _ _ c.if-b-low.false)
+returns-else-low-b c = simp (lt-leb _ _ c.if-low-b.false)

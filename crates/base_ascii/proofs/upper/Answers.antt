@@ -1,17 +1,19 @@
--- `base_ascii::upper` meets its contract: the tests that were passed say which case holds.
+-- `base_ascii::upper` meets its contract.
 -- Assumes nothing.
-use borrow.Author.Tests.{le-leb, lt-leb}
+use mathlib.Core.Path.{◌≡◌, sym, ◌∙◌}
+use mathlib.Core.Bool.{true, false}
+use native.Mathlib.Omega.{arith}
 use Rattle.base_ascii.specs.Bytes.{between, upper}
+use Rattle.base_ascii.proofs.Ranges.{between_in}
 use Rattle.base_ascii.proofs.upper.Goals as goal
 
-pub returns-then-b-lt97 : goal.returns-then-b-lt97
-unfolding upper between
-returns-then-b-lt97 c = simp (lt-leb _ _ c.if-b-lt97.true)
+pub overflow_sub-result : goal.overflow_sub-result
+overflow_sub-result c = omega (arith, (between_in 97 122 c.args.b (sym c.between.ensures ∙ c.if-between.true)).0)
 
-pub returns-then-b-gt122 : goal.returns-then-b-gt122
-unfolding upper between
-returns-then-b-gt122 c = simp (le-leb _ _ c.if-b-lt97.false, lt-leb _ _ c.if-b-gt122.true)
+pub returns-then-between : goal.returns-then-between
+unfolding upper
+returns-then-between c = let small : between 97 122 c.args.b ≡ true = sym c.between.ensures ∙ c.if-between.true in rw small
 
-pub returns : goal.returns
-unfolding upper between
-returns c = simp (le-leb _ _ c.if-b-lt97.false, le-leb _ _ c.if-b-gt122.false)
+pub returns-else-between : goal.returns-else-between
+unfolding upper
+returns-else-between c = let other : between 97 122 c.args.b ≡ false = sym c.between.ensures ∙ c.if-between.false in rw other

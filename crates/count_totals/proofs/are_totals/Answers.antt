@@ -2,15 +2,15 @@
 -- Assumes nothing.
 use Rattle.count_totals.proofs.Bounds.{not_long, too_many, more_refused, sum_decides}
 use Rattle.count_totals.proofs.are_totals.Goals as goal
+use Rattle.count_totals.proofs.are_totals.Goals.{then-totals-ne-LENGTH-via-then-totals-ne-LENGTH, then-totals-ne-LENGTH-via-else-totals-ne-LENGTH+then-totals-gt-MOST_IMAGES, then-totals-ne-LENGTH-via-else-totals-ne-LENGTH+else-totals-gt-MOST_IMAGES+then-totals}
 
 pub returns-then-totals-ne-LENGTH : goal.returns-then-totals-ne-LENGTH
-returns-then-totals-ne-LENGTH c = search (not_long, c.if-totals-ne-LENGTH.true)
-
-pub returns-then-taken-gt-MOST_IMAGES : goal.returns-then-taken-gt-MOST_IMAGES
-returns-then-taken-gt-MOST_IMAGES c = search too_many
-
-pub returns-then-totals-taken : goal.returns-then-totals-taken
-returns-then-totals-taken c = search more_refused
+returns-then-totals-ne-LENGTH c =
+    elim c.then-totals-ne-LENGTH.branch [
+      | then-totals-ne-LENGTH-via-then-totals-ne-LENGTH w ↦ search (not_long, w.if-totals-ne-LENGTH.true)
+      | then-totals-ne-LENGTH-via-else-totals-ne-LENGTH+then-totals-gt-MOST_IMAGES w ↦ search too_many
+      | then-totals-ne-LENGTH-via-else-totals-ne-LENGTH+else-totals-gt-MOST_IMAGES+then-totals w ↦ search more_refused
+    ]
 
 pub returns : goal.returns
 returns c = search sum_decides

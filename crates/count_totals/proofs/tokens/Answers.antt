@@ -10,5 +10,5 @@ sum_up_to-requires c = (search known_long, search rules)
 pub returns-then-are_totals : goal.returns-then-are_totals
 returns-then-are_totals c = search all_tokens
 
-pub returns : goal.returns
-returns c = search no_tokens
+pub returns-else-are_totals : goal.returns-else-are_totals
+returns-else-are_totals c = search no_tokens

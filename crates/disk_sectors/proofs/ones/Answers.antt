@@ -1,9 +1,8 @@
 -- `disk_sectors::ones` meets its contract.
 -- Assumes nothing.
-use Rattle.disk_rules.specs.Map.{ones}
-use borrow.Author.Rules.{rules}
+use native.Mathlib.Omega.{arith}
+use Rattle.disk_sectors.proofs.Bits.{ones_counted}
 use Rattle.disk_sectors.proofs.ones.Goals as goal
 
 pub returns : goal.returns
-unfolding ones
-returns c = search rules
+returns c = ones_counted c.args.byte (omega arith)

@@ -5,18 +5,18 @@ use Rattle.disk_sectors.proofs.Geometry.{zone_1, zone_2, zone_3, zone_4}
 use borrow.Author.Rules.{rules}
 use Rattle.disk_sectors.proofs.sectors_on.Goals as goal
 
-pub returns-then-track-lt18 : goal.returns-then-track-lt18
+pub returns-in-0-to-17 : goal.returns-in-0-to-17
 unfolding sectors_on
-returns-then-track-lt18 c = search (rules, zone_1)
+returns-in-0-to-17 c = search (rules, zone_1)
 
-pub returns-then-track-lt25 : goal.returns-then-track-lt25
+pub returns-in-18-to-24 : goal.returns-in-18-to-24
 unfolding sectors_on
-returns-then-track-lt25 c = search (rules, zone_2)
+returns-in-18-to-24 c = search (rules, zone_2)
 
-pub returns-then-track-lt31 : goal.returns-then-track-lt31
+pub returns-in-25-to-30 : goal.returns-in-25-to-30
 unfolding sectors_on
-returns-then-track-lt31 c = search (rules, zone_3)
+returns-in-25-to-30 c = search (rules, zone_3)
 
-pub returns : goal.returns
+pub returns-in_default : goal.returns-in_default
 unfolding sectors_on
-returns c = search (rules, zone_4)
+returns-in_default c = search (rules, zone_4)

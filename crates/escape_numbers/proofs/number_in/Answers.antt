@@ -1,14 +1,17 @@
 -- `escape_numbers::number_in` meets its contract: a number past the limit stays past it.
 -- Assumes nothing.
+use mathlib.Core.Path.{sym, ◌∙◌}
+use mathlib.Core.Bool.{false≢true}
 use native.Mathlib.Omega.{arith}
+use borrow.Author.Tests.{eqb-true, eq-eqb}
 use Rattle.escape_numbers.proofs.Numbering.{number_empty, made_start, made_other, made_over, made_fits, made_turn, made_end}
 use Rattle.escape_numbers.proofs.number_in.Goals as goal
 
-pub returns-then-s-eq0 : goal.returns-then-s-eq0
-returns-then-s-eq0 c = search number_empty
+pub returns-then-is_empty : goal.returns-then-is_empty
+returns-then-is_empty c = number_empty _ _ _ (eqb-true _ 0 (sym c.if-is_empty.ensures))
 
-pub loop-i-init : goal.loop-i-init
-loop-i-init c = search (made_start, c.if-s-eq0.false)
+pub loop-b-init : goal.loop-b-init
+loop-b-init c = made_start _ _ _ (λ h. false≢true (c.if-is_empty.ensures ∙ eq-eqb _ 0 h))
 
 pub returns-then-base-d : goal.returns-then-base-d
 returns-then-base-d c = search made_other
@@ -22,8 +25,8 @@ overflow_mul-n c = omega (arith, made_fits c.if-n-limit.false c.if-base-d.false 
 pub overflow_add-n : goal.overflow_add-n
 overflow_add-n c = omega (arith, made_fits c.if-n-limit.false c.if-base-d.false c.requires)
 
-pub loop-i-preserved : goal.loop-i-preserved
-loop-i-preserved c = search made_turn
+pub loop-b-preserved : goal.loop-b-preserved
+loop-b-preserved c = search made_turn
 
 pub returns : goal.returns
 returns c = search made_end

@@ -3,11 +3,11 @@
 use Rattle.escape_numbers.proofs.Numbering.{plus_empty, plus_other, plus_left_out}
 use Rattle.escape_numbers.proofs.without_plus.Goals as goal
 
-pub returns-then-s-eq0 : goal.returns-then-s-eq0
-returns-then-s-eq0 c = search plus_empty
+pub returns-in-43 : goal.returns-in-43
+returns-in-43 c = search plus_left_out
 
-pub returns-then-s-eq43 : goal.returns-then-s-eq43
-returns-then-s-eq43 c = search (plus_left_out, c.if-s-eq0.false)
+pub returns-in_default : goal.returns-in_default
+returns-in_default c = search plus_empty
 
-pub returns-else-s-eq43 : goal.returns-else-s-eq43
-returns-else-s-eq43 c = search (plus_other, c.if-s-eq43.false)
+pub returns-in_default-2 : goal.returns-in_default-2
+returns-in_default-2 c = search plus_other

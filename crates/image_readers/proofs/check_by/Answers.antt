@@ -1,5 +1,7 @@
 -- `image_readers::check_by` meets its contract.
 -- Assumes nothing.
+use Rattle.std.proofs.lemmas.Result.{err_from_is_err_and}
+use Rattle.base_refusals.proofs.Tight.{inner}
 use Rattle.image_readers.proofs.Counting.{passed_start, passed_turn, passed_fits, passed_end, passed_refused}
 use Rattle.image_readers.proofs.Steps.{found_nearer, end_long}
 use Rattle.image_readers.proofs.check_by.Goals as goal
@@ -8,19 +10,21 @@ pub loop-line-init : goal.loop-line-init
 loop-line-init c = search passed_start
 
 pub overflow_add-lines : goal.overflow_add-lines
-overflow_add-lines c = search passed_fits
+overflow_add-lines c = passed_fits (inner c.in_ok-line.was c.in-Some.is) c.step_by.ensures c.loop-line.invariant
 
 pub loop-line-smaller : goal.loop-line-smaller
-loop-line-smaller c = search found_nearer
+loop-line-smaller c = found_nearer _ _ _ (inner c.in_ok-line.was c.in-Some.is) c.step_by.ensures
 
 pub loop-line-preserved : goal.loop-line-preserved
-loop-line-preserved c = search passed_turn
+loop-line-preserved c = passed_turn (inner c.in_ok-line.was c.in-Some.is) c.step_by.ensures c.loop-line.invariant
 
 pub low_first_at-load-requires : goal.low_first_at-load-requires
-low_first_at-load-requires c = search end_long
+low_first_at-load-requires c = end_long _ _ _ (inner c.in_ok-line.was c.in_default.is) c.step_by.ensures
 
-pub returns-in-Ok-None : goal.returns-in-Ok-None
-returns-in-Ok-None c = search passed_end
+pub returns-in_err-line : goal.returns-in_err-line
+returns-in_err-line c =
+    let p = err_from_is_err_and c.from_residual.result c.from_residual.ensures.1 in
+    rw (p.1, p.2) (passed_refused c.in_err-line.was c.step_by.ensures c.loop-line.invariant)
 
-pub returns-in-Err : goal.returns-in-Err
-returns-in-Err c = search passed_refused
+pub returns : goal.returns
+returns c = passed_end (inner c.in_ok-line.was c.in_default.is) c.step_by.ensures c.loop-line.invariant c.low_first_at-load.ensures

@@ -7,8 +7,8 @@ use Rattle.word_search.proofs.alike.Goals as goal
 
 pub returns-then-word-text : goal.returns-then-word-text
 unfolding alike
-returns-then-word-text c = simp (ne_eqb _ _ c.if-word-text.true)
+returns-then-word-text c = c.begins.ensures ∙ simp (eq-eqb _ _ c.if-word-text.true)
 
-pub returns : goal.returns
+pub returns-else-word-text : goal.returns-else-word-text
 unfolding alike
-returns c = c.begins.ensures ∙ simp (eq-eqb _ _ c.if-word-text.false)
+returns-else-word-text c = simp (ne_eqb _ _ c.if-word-text.false)

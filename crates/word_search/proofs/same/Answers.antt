@@ -1,7 +1,8 @@
 -- `word_search::same` meets its contract.
 -- Assumes nothing.
-use Rattle.word_search.proofs.Sameness.{same_is}
+use mathlib.Core.Path.{◌∙◌}
+use Rattle.word_search.proofs.Sameness.{same_pointwise}
 use Rattle.word_search.proofs.same.Goals as goal
 
 pub returns : goal.returns
-returns c = same_is _ _ _ c.same.ensures
+returns c = c.eq.ensures ∙ same_pointwise _ _

@@ -6,4 +6,3 @@ use Rattle.base_ascii.proofs.search.last.Given as goal
 
 abbrev pub invariant-loop-i : goal.invariant-loop-i
 invariant-loop-i l = Backward (last (of_kind l.kind)) l.s l.i
-

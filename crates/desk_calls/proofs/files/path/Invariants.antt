@@ -1,9 +1,0 @@
--- One byte of the name after the other.
-use Rattle.std.proofs.Common.{length, ◌-◌, ◌≤◌}
-use Rattle.desk_calls.proofs.files.path.Given as goal
-
-abbrev pub invariant-loop-i : goal.invariant-loop-i
-invariant-loop-i l = l.i ≤ length l.name
-
-abbrev pub decreases-loop-i : goal.decreases-loop-i
-decreases-loop-i l = length l.name - l.i
