@@ -23,8 +23,13 @@ use Rattle.base_ascii.proofs.Choice.{taken, left}
 use Rattle.editor_strange_bytes.specs.Foreign.{is_inner, inner_behind, inner_asked, width_of, is_utf16, is_mark_of_order, is_curly_quote, is_no_break_space, is_long_dash, kind_of, stranger_in, first_stranger}
 use Rattle.editor_strange_bytes.specs.declared.Foreign.{Foreign}
 use Rattle.editor_strange_bytes.specs.declared.Foreign.TheVariants.{OrderMark, CurlyQuote, NoBreakSpace, LongDash, Character, LoneByte}
-use Rattle.editor_strange_bytes.specs.declared.Stranger.TheVariants.{There, Nowhere, TooLong}
-use Rattle.std.specs.Prelude.{Result, Ok, Err}
+use Rattle.editor_strange_bytes.specs.declared.Stranger.{Stranger}
+use Rattle.editor_strange_bytes.specs.declared.TooLong.{TooLong}
+use Rattle.std.specs.Prelude.{Result, Ok, Err, Option, Some, None}
+
+-- what is found at a place
+abbrev There : ℕ → Foreign → ℕ → Result (Option Stranger) TooLong
+There offset kind used = Ok (Some (record { offset = offset; kind = kind; used = used }))
 
 pub byte_behind : (t : List ℕ) {i : ℕ} → length t ≤ i → 0 ≡ get_or t i 0
 byte_behind t {i} h = sym (get_or-eq_default t 0 {n = i} h)
@@ -193,12 +198,12 @@ abbrev rest : List ℕ → ℕ → List ℕ
 rest t i = take (length t - i) (drop i t)
 
 module _ (from : ℕ) (s : List ℕ) (h : length s ≤ 1048576) where
-  fine_in : {c : (Result (Unit {0}) Refusal)} → c ≡ (Ok tt) → answered c ≡ checked_text s → Nowhere ≡ stranger_in from s
+  fine_in : {c : (Result (Unit {0}) Refusal)} → c ≡ (Ok tt) → answered c ≡ checked_text s → Ok None ≡ stranger_in from s
   unfolding stranger_in checked_text
   fine_in e p = go (ltb (domain_length s) (length s)) refl (sym (ap answered e) ∙ p ∙ taken _ _ (le-leb _ _ h))
     where
       go : (r : Bool) → ltb (domain_length s) (length s) ≡ r → ◌≡◌ {A = Answer (Unit {0})} (done tt) (elim r [ true ↦ refused (bad_byte (domain_length s)) | false ↦ done tt ])
-          → Nowhere ≡ stranger_in from s
+          → Ok None ≡ stranger_in from s
       go true f a = let z : ◌≡◌ {A = ℕ} 0 1 = cc in absurd (omega arith)
       go false f a = sym (taken _ _ (le-leb _ _ h) ∙ left _ _ f)
 
@@ -207,16 +212,16 @@ module _ (from : ℕ) (s : List ℕ) (h : length s ≤ 1048576) where
   there_in b = rw b.is (sym (taken _ _ (le-leb _ _ h) ∙ taken _ _ (lt-ltb (domain_length s) (length s) (omega (arith, b.is, b.within)))))
 
 module _ (t : List ℕ) (from : ℕ) where
-  pub stranger_none : length t ≤ from → Nowhere ≡ first_stranger t from
+  pub stranger_none : length t ≤ from → Ok None ≡ first_stranger t from
   unfolding first_stranger stranger_in domain_length
   stranger_none h = rw (drop_of_length-le t h)
 
-  pub stranger_long : 1048576 < length (rest t from) → TooLong ≡ first_stranger t from
+  pub stranger_long : 1048576 < length (rest t from) → Err (record {}) ≡ first_stranger t from
   unfolding first_stranger stranger_in
   stranger_long h = sym (left _ _ (lt-leb _ _ (rw (tail t from) at h)))
 
   module _ {c : (Result (Unit {0}) Refusal)} where
-    pub stranger_fine : c ≡ (Ok tt) → answered c ≡ checked_text (rest t from) → length (rest t from) ≤ 1048576 → Nowhere ≡ first_stranger t from
+    pub stranger_fine : c ≡ (Ok tt) → answered c ≡ checked_text (rest t from) → length (rest t from) ≤ 1048576 → Ok None ≡ first_stranger t from
     unfolding first_stranger
     stranger_fine e p h = fine_in from (rest t from) h e p ∙ ap (stranger_in from) (tail t from)
 

@@ -58,9 +58,7 @@ fn guessed(text: &[u8], dialect: Dialect) -> Dialect
                 Dialect::BasicV2
             }
         }
-        Dialect::BasicV2 => Dialect::BasicV2,
-        Dialect::Tsb => Dialect::Tsb,
-        Dialect::Basic35 => Dialect::Basic35,
+        Dialect::BasicV2 | Dialect::Tsb | Dialect::Basic35 => dialect,
     }
 }
 
@@ -68,10 +66,8 @@ fn guessed(text: &[u8], dialect: Dialect) -> Dialect
 pub fn resolved_dialect(text: &[u8], dialect: Dialect) -> Result<Dialect, Refusal>
     ensures { answered result ≡ resolved dialect text.now }
 {
-    match text_domain::check_text(text) {
-        Ok(()) => Ok(guessed(text, dialect)),
-        Err(refusal) => Err(refusal),
-    }
+    text_domain::check_text(text)?;
+    Ok(guessed(text, dialect))
 }
 
 // The TSB words that are live when a text is crunched, those that are demoted, and whether the words of BASIC 3.5 are looked for. The guess
@@ -79,43 +75,22 @@ pub fn resolved_dialect(text: &[u8], dialect: Dialect) -> Result<Dialect, Refusa
 pub fn word_sets(text: &[u8], dialect: Dialect, words: Words) -> Sets
     ensures { result ≡ word_sets dialect text.now }
 {
-    let basic35 = word_dialects::is_basic35(dialect);
-    let mut demoted = [false; 123];
+    let mut sets = Sets {
+        tsb: false,
+        demoted: [false; 123],
+        basic35: false,
+        forms: false,
+    };
     match dialect {
-        Dialect::BasicV2 => Sets {
-            tsb: false,
-            demoted,
-            basic35,
-            forms: false,
-        },
-        Dialect::Tsb => Sets {
-            tsb: true,
-            demoted,
-            basic35,
-            forms: false,
-        },
-        Dialect::Basic35 => Sets {
-            tsb: false,
-            demoted,
-            basic35,
-            forms: false,
-        },
+        Dialect::BasicV2 => {}
+        Dialect::Tsb => sets.tsb = true,
+        Dialect::Basic35 => sets.basic35 = true,
         Dialect::Auto => {
             if text_evidence(text, LineRule::AfterCr, words) {
-                text_names(text, LineRule::AfterCr, words, &mut demoted);
-                return Sets {
-                    tsb: true,
-                    demoted,
-                    basic35,
-                    forms: false,
-                };
-            }
-            Sets {
-                tsb: false,
-                demoted,
-                basic35,
-                forms: false,
+                sets.tsb = true;
+                text_names(text, LineRule::AfterCr, words, &mut sets.demoted);
             }
         }
     }
+    sets
 }
