@@ -76,7 +76,7 @@ stranger_in from s =
     elim (leb (length s) 1048576) [
       | true ↦
           elim (ltb (domain_length s) (length s)) [
-            | true ↦ 
+            | true ↦
                 Ok (Some (record { offset = from + domain_length s; kind = kind_of (drop (domain_length s) s); used = width_of (drop (domain_length s) s) }))
             | false ↦ Ok None
           ]

@@ -47,7 +47,11 @@ fn is_inner(b: u8) -> bool
 fn inner_behind(text: &[u8]) -> usize
     ensures { result ≡ inner_behind text.now }
 {
-    text.iter().skip(1).take(3).take_while(|b| is_inner(**b)).count()
+    text.iter()
+        .skip(1)
+        .take(3)
+        .take_while(|b| is_inner(**b))
+        .count()
 }
 
 // How many a first byte asks for; 0 where it begins no character of several bytes.
@@ -67,7 +71,11 @@ fn width(text: &[u8]) -> usize
     ensures { result ≡ width_of text.now }
 {
     let asked = inner_asked(byte_at(text, 0));
-    if asked <= inner_behind(text) { asked + 1 } else { 1 }
+    if asked <= inner_behind(text) {
+        asked + 1
+    } else {
+        1
+    }
 }
 
 // Whether a text begins as one in UTF-16 does.
@@ -96,8 +104,7 @@ fn is_no_break_space(text: &[u8]) -> bool
 fn is_long_dash(text: &[u8]) -> bool
     ensures { result ≡ is_long_dash text.now }
 {
-    word_search::begins(&[0xE2, 0x80], text)
-        && base_ascii::between(0x92, 0x95, byte_at(text, 2))
+    word_search::begins(&[0xE2, 0x80], text) && base_ascii::between(0x92, 0x95, byte_at(text, 2))
 }
 
 // What stands in front of a text.
