@@ -76,9 +76,9 @@ fn miss(rt: &HostRuntime, number: u16, visited: usize) {
 pub fn find(rt: &HostRuntime, image: &[u8], number: u16) {
     // No image has as many lines as bytes: the limit is not reached.
     match image_find::find_line(image, number, image.len()) {
-        Sought::Found { visited, line } => show_found(rt, image, line, visited),
-        Sought::Nowhere { visited } => miss(rt, number, visited),
-        Sought::LimitReached => output::fail(rt),
-        Sought::Refused(refusal) => output::refuse(rt, refusal, b""),
+        Ok(Sought::Found { visited, line }) => show_found(rt, image, line, visited),
+        Ok(Sought::Nowhere { visited }) => miss(rt, number, visited),
+        Ok(Sought::LimitReached) => output::fail(rt),
+        Err(refusal) => output::refuse(rt, refusal, b""),
     }
 }

@@ -7,7 +7,7 @@ ghost use Rattle.image_marks.specs.Marks.{has_mark};
 ghost use Rattle.image_faults.specs.Faults.{memory_faults, number_faults, order_faults, zero_faults, length_faults, relink_faults};
 ghost use Rattle.image_faults.specs.ToldHelpers.{told_fault, UnmetIs, LineIs};
 
-use image_jumps::{Cursor, Next};
+use image_jumps::{Cursor, Jump};
 use image_readers::{Line, terminators};
 use image_relink::Relinked;
 
@@ -96,43 +96,31 @@ pub fn length_fault(image: &[u8], offset: usize, line: Line) -> Told
 }
 
 // The next jump of a body whose target is not marked.
-pub fn unmet_jump(body: &[u8], marked: &[u8], cursor: Cursor) -> Next
+pub fn unmet_jump(body: &[u8], marked: &[u8], cursor: Cursor) -> Option<Jump>
     ensures { UnmetIs (has_mark marked.now) body.now cursor result }
 {
     let mut cursor = cursor;
-    loop {
-        match image_jumps::next_jump(body, cursor) {
-            Next::Jump {
-                target,
-                cursor: behind,
-            } => {
-                if !image_marks::has_mark(marked, target) {
-                    return Next::Jump {
-                        target,
-                        cursor: behind,
-                    };
-                }
-                cursor = behind;
-            }
-            Next::None => {
-                return Next::None;
-            }
+    while let Some(jump) = image_jumps::next_jump(body, cursor) {
+        if !image_marks::has_mark(marked, jump.target) {
+            return Some(jump);
         }
+        cursor = jump.cursor;
     }
+    None
 }
 
 pub fn relink_fault(image: &[u8]) -> Told
     ensures { told_fault result ≡ relink_faults image.now }
 {
     match image_relink::relink(image) {
-        Relinked::Same => Told::Nothing,
-        Relinked::Changed { offset, link } => Told::Fault(Fault::LinkChanges {
+        Ok(Relinked::Same) => Told::Nothing,
+        Ok(Relinked::Changed { offset, link }) => Told::Fault(Fault::LinkChanges {
             number: number_at(image, offset),
             link,
         }),
-        Relinked::Leaves => Told::Fault(Fault::LinksLeave),
-        Relinked::Endless => Told::Fault(Fault::LinksEndless),
-        Relinked::Refused(_) => Told::Nothing,
+        Ok(Relinked::Leaves) => Told::Fault(Fault::LinksLeave),
+        Ok(Relinked::Endless) => Told::Fault(Fault::LinksEndless),
+        Err(_) => Told::Nothing,
     }
 }
 

@@ -7,7 +7,7 @@ ghost use Rattle.image_faults.specs.ToldHelpers.{LineIs};
 ghost use Rattle.image_fitness.specs.FaultHelpers.{moved_by, MovedIs, FaultIs};
 
 use image_faults::{Fault, Told};
-use image_jumps::{Cursor, Next};
+use image_jumps::{Cursor, Jump};
 use image_readers::{Line, links};
 
 // What is looked at in a line, in this order.
@@ -172,14 +172,14 @@ fn jumps_step(
     let to = line.to;
     let number = line.number;
     match image_faults::unmet_jump(&image[from..to], marked, cursor) {
-        Next::Jump {
+        Some(Jump {
             target,
             cursor: behind,
-        } => Moved::Told {
+        }) => Moved::Told {
             fault: Fault::NoTarget { number, target },
             place: at(Stage::Line(Check::Jumps(behind)), offset, least),
         },
-        Next::None => Moved::On(at(Stage::Line(Check::Number), line.next, number as usize + 1)),
+        None => Moved::On(at(Stage::Line(Check::Number), line.next, number as usize + 1)),
     }
 }
 

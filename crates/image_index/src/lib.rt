@@ -12,7 +12,7 @@ ghost use Rattle.image_index.specs.IndexHelpers.{Sound, found_from, low_jumps, l
 
 use base_bits::Pen;
 use base_refusals::Refusal;
-use image_jumps::Next;
+use image_jumps::Jump;
 use image_readers::{Overview, links};
 
 // How many jumps there are, unless a target is above 65535.
@@ -115,10 +115,10 @@ fn count_body(body: &[u8], marked: &[u8], n: usize) -> Counted
     let mut n = n;
     loop {
         match image_jumps::next_jump(body, cursor) {
-            Next::Jump {
+            Some(Jump {
                 target,
                 cursor: behind,
-            } => {
+            }) => {
                 if target > 65535 {
                     return Counted::TooHigh;
                 }
@@ -127,7 +127,7 @@ fn count_body(body: &[u8], marked: &[u8], n: usize) -> Counted
                 }
                 cursor = behind;
             }
-            Next::None => {
+            None => {
                 return Counted::Jumps(n);
             }
         }
@@ -222,14 +222,14 @@ fn put_body(out: &mut [u8], pen: Pen, place: usize, body: &[u8], marked: &[u8]) 
     let mut cursor = image_jumps::first();
     loop {
         match image_jumps::next_jump(body, cursor) {
-            Next::Jump {
+            Some(Jump {
                 target,
                 cursor: behind,
-            } => {
+            }) => {
                 cursor = behind;
                 pen = put_jump(out, pen, place, target, marked);
             }
-            Next::None => {
+            None => {
                 return pen;
             }
         }

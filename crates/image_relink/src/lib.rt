@@ -44,37 +44,36 @@ pub enum Relinked {
     Leaves,
     // The routine never ends.
     Endless,
-    Refused(Refusal),
 }
 
 // Follows the routine through an image up to the first link that it changes.
-pub fn relink(image: &[u8]) -> Relinked
+pub fn relink(image: &[u8]) -> Result<Relinked, Refusal>
     ensures { relinked_answer result ≡ relinking image.now }
 {
     let length = image.len();
     if length > LONGEST {
-        return Relinked::Refused(Refusal::ImageTooLong { length });
+        return Err(Refusal::ImageTooLong { length });
     }
     if length < 2 {
-        return Relinked::Refused(Refusal::TooShort);
+        return Err(Refusal::TooShort);
     }
     let mut offset: usize = 2;
     loop {
         match pass(image, offset) {
             Passed::End => {
-                return Relinked::Same;
+                return Ok(Relinked::Same);
             }
             Passed::Kept(next) => {
                 offset = next;
             }
             Passed::Changed(link) => {
-                return Relinked::Changed { offset, link };
+                return Ok(Relinked::Changed { offset, link });
             }
             Passed::Outside => {
-                return Relinked::Leaves;
+                return Ok(Relinked::Leaves);
             }
             Passed::Endless => {
-                return Relinked::Endless;
+                return Ok(Relinked::Endless);
             }
         }
     }

@@ -76,20 +76,20 @@ pub extern "C" fn moldthatch_relink(image: &[u8]) -> Code
     ensures { result ≡ relinking_code (relinking image.now) }
 {
     match image_relink::relink(image) {
-        Relinked::Same => Code {
+        Ok(Relinked::Same) => Code {
             number: 0,
             count: 0,
             first: 0,
             second: 0,
         },
-        Relinked::Changed { offset, link } => Code {
+        Ok(Relinked::Changed { offset, link }) => Code {
             number: 0,
             count: 2,
             first: offset,
             second: base_ascii::wide16(link),
         },
-        Relinked::Leaves => base_refusals::with_one(0, 0),
-        Relinked::Endless => base_refusals::with_one(0, 1),
-        Relinked::Refused(refusal) => base_refusals::refusal_code(refusal),
+        Ok(Relinked::Leaves) => base_refusals::with_one(0, 0),
+        Ok(Relinked::Endless) => base_refusals::with_one(0, 1),
+        Err(refusal) => base_refusals::refusal_code(refusal),
     }
 }
