@@ -50,7 +50,9 @@ pub fn aside(place: Place, b: u8) -> Place
 fn data_length(text: &[u8]) -> usize
     ensures { result ≡ front (stays Place.Data) text.now }
 {
-    text.iter().take_while(|b| **b != b'"' && **b != b':').count()
+    text.iter()
+        .take_while(|b| **b != b'"' && **b != b':')
+        .count()
 }
 
 // How many bytes of a string or of DATA stand in front, behind each of which the place is the same.
