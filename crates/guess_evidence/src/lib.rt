@@ -1,7 +1,7 @@
 // Whether a line uses a TSB word as a statement, as a function or as ELSE; and where.
 #![tactic(auto)]
 
-ghost use Rattle.std.specs.Prelude.{◌≡◌, ◌≤◌, ◌<◌, true, false, ◌&&◌, eqb, length, get_or};
+ghost use Rattle.std.specs.Prelude.{◌≡◌, ◌*◌, ◌≤◌, ◌<◌, true, false, ◌&&◌, eqb, length, get_or};
 ghost use Rattle.base_ascii.specs.Bytes.{is_letter};
 ghost use Rattle.base_ascii.specs.declared.search.Kind.TheVariants.{White};
 ghost use Rattle.guess_evidence.specs.Evidence.{word_proves, statement_step, evidence_step, number_length, line_evidence, list_place, deciding_place, deciding_word};
@@ -84,12 +84,7 @@ fn other_step(place: Place, text: &[u8]) -> EvidenceStep
 }
 
 // A step outside strings and DATA.
-fn statement_step(
-    place: Place,
-    text: &[u8],
-    marks: &[u8],
-    words: Words,
-) -> EvidenceStep
+fn statement_step(place: Place, text: &[u8], marks: &[u8], words: Words) -> EvidenceStep
     requires { (0 < length text.now) × MarksOf White text.now marks.now }
     ensures { result ≡ statement_step place text.now }
 {
@@ -100,12 +95,7 @@ fn statement_step(
     }
 }
 
-fn evidence_step(
-    place: Place,
-    text: &[u8],
-    marks: &[u8],
-    words: Words,
-) -> EvidenceStep
+fn evidence_step(place: Place, text: &[u8], marks: &[u8], words: Words) -> EvidenceStep
     requires { (0 < length text.now) × MarksOf White text.now marks.now }
     ensures { result ≡ evidence_step place text.now }
 {
@@ -128,7 +118,10 @@ fn number_length(line: &[u8]) -> usize
 fn list_place(text: &[u8], words: Words) -> usize
     ensures { result ≡ list_place text.now }
 {
-    beginnings::tsb_word(text, words).map_or(0, |found| found.index)
+    match beginnings::tsb_word(text, words) {
+        Some(found) => found.index,
+        None => 0,
+    }
 }
 
 // Whether a byte is a space outside strings and DATA, which leaves the place as it is.
@@ -165,7 +158,7 @@ fn marked_place(line: &[u8], marks: &[u8], words: Words) -> Option<usize>
 
 // The same, with marks, which a line has room for that has at most eight bytes to each of so many.
 fn place_by_marks<const N: usize>(line: &[u8], words: Words) -> Option<usize>
-    requires { length line.now ≤ 8 * N }
+    requires { (length line.now ≤ 8 * N) × (N ≤ 131072) }
     ensures { result ≡ deciding_place line.now }
 {
     let mut marks = [0u8; N];
