@@ -1,7 +1,7 @@
 // Which TSB words a line uses as variables.
 #![tactic(auto)]
 
-ghost use Rattle.std.specs.Prelude.{◌≡◌, reverse, ◌+◌, ◌≤◌, ◌<◌, true, length, get_or, take, drop};
+ghost use Rattle.std.specs.Prelude.{◌≡◌, reverse, ◌*◌, ◌+◌, ◌≤◌, ◌<◌, true, length, get_or, take, drop};
 ghost use Rattle.base_ascii.specs.Bytes.{is_letter};
 ghost use Rattle.base_ascii.specs.declared.search.Kind.TheVariants.{Space};
 ghost use Rattle.guess_variables.specs.Variables.{after_dim, is_name, word_pass, plain_pass, pass_of, line_names};
@@ -131,7 +131,7 @@ fn marked_names(line: &[u8], marks: &[u8], words: Words, found: &mut [bool])
 
 // The same, with marks, which a line has room for that has at most eight bytes to each of so many.
 fn names_by_marks<const N: usize>(line: &[u8], words: Words, found: &mut [bool])
-    requires { (length line.now ≤ 8 * N) × (123 ≤ length found.old) }
+    requires { (length line.now ≤ 8 * N) × (N ≤ 131072) × (123 ≤ length found.old) }
     ensures { found.new ≡ line_names line.now found.old }
 {
     let mut marks = [0u8; N];
