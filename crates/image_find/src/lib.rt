@@ -33,26 +33,22 @@ pub fn find_line(image: &[u8], number: u16, limit: usize) -> Result<Sought, Refu
         return Err(Refusal::TooShort);
     }
     let mut offset: usize = 2;
-    let mut visited: usize = 0;
-    loop {
-        match links::step(image, offset) {
-            Ok(None) => {
-                return Ok(Sought::Nowhere { visited });
-            }
-            _ if visited >= limit => {
-                return Ok(Sought::LimitReached);
-            }
-            Ok(Some(line)) => {
-                visited += 1;
-                if line.number == number {
-                    return Ok(Sought::Found { visited, line });
-                }
-                offset = line.next;
-            }
-            Err(refusal) => {
-                return Err(refusal);
-            }
+    for visited in 0..limit {
+        let Some(line) = links::step(image, offset)? else {
+            return Ok(Sought::Nowhere { visited });
+        };
+        if line.number == number {
+            return Ok(Sought::Found {
+                visited: visited + 1,
+                line,
+            });
         }
+        offset = line.next;
+    }
+    match links::step(image, offset) {
+        Ok(None) => Ok(Sought::Nowhere { visited: limit }),
+        Ok(Some(_)) => Ok(Sought::LimitReached),
+        Err(_) => Ok(Sought::LimitReached),
     }
 }
 
