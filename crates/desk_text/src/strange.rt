@@ -37,17 +37,14 @@ pub fn check_line(rt: &HostRuntime, tally: Tally, page: &mut [u8], k: usize, lin
     while left > 0 {
         left -= 1;
         match editor_strange_bytes::next_stranger(line, at) {
-            Stranger::There { offset, kind, used } => {
+            Ok(Some(Stranger { offset, kind, used })) => {
                 column = sayings::sum(column, characters(sayings::cut(line, at, offset)));
                 let place = Place { line: k, column };
                 t = sentence::tell_bare(rt, t, page, place, saying_of(kind));
                 column = sayings::sum(column, 1);
                 at = sayings::sum(offset, used);
             }
-            Stranger::Nowhere => {
-                left = 0;
-            }
-            Stranger::TooLong => {
+            Ok(None) | Err(_) => {
                 left = 0;
             }
         }

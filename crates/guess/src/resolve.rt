@@ -48,17 +48,13 @@ fn guessed(text: &[u8], dialect: Dialect) -> Dialect
 {
     match dialect {
         Dialect::Auto => {
-            if text_evidence(
-                text,
-                LineRule::AsGiven,
-                spellings::stored_words(),
-            ) {
+            if text_evidence(text, LineRule::AsGiven, spellings::stored_words()) {
                 Dialect::Tsb
             } else {
                 Dialect::BasicV2
             }
         }
-        Dialect::BasicV2 | Dialect::Tsb | Dialect::Basic35 => dialect,
+        _ => dialect,
     }
 }
 
@@ -75,22 +71,30 @@ pub fn resolved_dialect(text: &[u8], dialect: Dialect) -> Result<Dialect, Refusa
 pub fn word_sets(text: &[u8], dialect: Dialect, words: Words) -> Sets
     ensures { result ≡ word_sets dialect text.now }
 {
-    let mut sets = Sets {
+    let quiet = Sets {
         tsb: false,
         demoted: [false; 123],
         basic35: false,
         forms: false,
     };
     match dialect {
-        Dialect::BasicV2 => {}
-        Dialect::Tsb => sets.tsb = true,
-        Dialect::Basic35 => sets.basic35 = true,
+        Dialect::BasicV2 => quiet,
+        Dialect::Tsb => Sets { tsb: true, ..quiet },
+        Dialect::Basic35 => Sets {
+            basic35: true,
+            ..quiet
+        },
         Dialect::Auto => {
-            if text_evidence(text, LineRule::AfterCr, words) {
-                sets.tsb = true;
-                text_names(text, LineRule::AfterCr, words, &mut sets.demoted);
+            if !text_evidence(text, LineRule::AfterCr, words) {
+                return quiet;
+            }
+            let mut demoted = quiet.demoted;
+            text_names(text, LineRule::AfterCr, words, &mut demoted);
+            Sets {
+                tsb: true,
+                demoted,
+                ..quiet
             }
         }
     }
-    sets
 }
