@@ -16,10 +16,8 @@ use Rattle.base_refusals.proofs.Tight.{told_back}
 use Rattle.image_readers.specs.Lined.{Lined, lined_from}
 use Rattle.image_readers.proofs.Lined.{lined_line, lined_end, lined_refused}
 use Rattle.image_units.specs.declared.Mode.TheVariants.{Plain}
-use Rattle.image_jumps.specs.declared.Part.TheVariants.{Empty}
 use Rattle.image_jumps.specs.declared.Cursor.{Cursor}
-use Rattle.image_jumps.specs.declared.Next.{Next}
-use Rattle.image_jumps.specs.declared.Next.TheVariants.{Jump, None}
+use Rattle.image_jumps.specs.declared.Jump.{Jump}
 use Rattle.image_jumps.specs.JumpHelpers.{left_of}
 use Rattle.image_jumps.proofs.Stepping.{left_text}
 use Rattle.image_faults.specs.declared.Fault.{Fault}
@@ -38,7 +36,7 @@ use Rattle.image_faults.specs.Faults.{memory_faults, relink_faults, number_fault
 use Rattle.image_marks.specs.Marks.{has_mark}
 use Rattle.image_faults.specs.ToldHelpers.{told_fault, LineIs, UnmetIs}
 use Rattle.image_fitness.specs.FaultHelpers.{rest_from, faults_by, check_faults, stage_faults, faults_at, place_ahead, moved_by, WalksOn, MovedIs, FaultIs}
-use Rattle.std.specs.Prelude.{Option, Some, Result, Ok, Err}
+use Rattle.std.specs.Prelude.{Option, Some, None, Result, Ok, Err}
 
 -- ---- what is led on
 
@@ -113,20 +111,20 @@ module _ (marked s : List ℕ) (p least : ℕ) {l : Line} (here : LineIs s p l) 
     unfolding check_faults
     in_zero is e at f = rw is (moved (has_mark marked) s (place_in (LineStage Zero) p least) t f at (leads Zero Length (zero_faults s l) refl) (omega arith) e)
 
-    pub in_length : check ≡ Length → {c : Cursor} → c ≡ record { at = 0; mode = Plain; listed = false; part = Empty } → told_fault t ≡ length_faults s l
+    pub in_length : check ≡ Length → {c : Cursor} → c ≡ record { at = 0; mode = Plain; listed = false; part = None } → told_fault t ≡ length_faults s l
         → q ≡ place_in (LineStage (Jumps c)) p least → r ≡ moved_by t q → MovedIs (has_mark marked) s (place_in (LineStage check) p least) r
     unfolding check_faults jump_faults
     in_length is {c} first e at f =
         rw is (moved (has_mark marked) s (place_in (LineStage Length) p least) t f at
         (leads Length (Jumps c) (length_faults s l)
         (ap (λ (ts : List ℕ). length_faults s l ++ map (NoTarget l.number) (unmet (has_mark marked) ts))
-        (sym (ap (left_of (body_of s l)) first ∙ left_text (body_of s l) (record { at = 0; mode = Plain; listed = false; part = Empty }) refl)))) (omega arith) e)
+        (sym (ap (left_of (body_of s l)) first ∙ left_text (body_of s l) (record { at = 0; mode = Plain; listed = false; part = None }) refl)))) (omega arith) e)
 
   pub in_jumps : (r : Moved) {check : Check} {c : Cursor} → check ≡ Jumps c → MovedIs (has_mark marked) s (place_in (LineStage (Jumps c)) p least) r → MovedIs (has_mark marked) s (place_in (LineStage check) p least) r
   in_jumps r is m = rw is m
 
-  module _ (c : Cursor) {n : Next} (u : UnmetIs (has_mark marked) (body_of s l) c n) where
-    pub jumps_told : {t : ℕ} {d : Cursor} {q : Place} → n ≡ Jump t d → q ≡ place_in (LineStage (Jumps d)) p least
+  module _ (c : Cursor) {n : Option Jump} (u : UnmetIs (has_mark marked) (body_of s l) c n) where
+    pub jumps_told : {t : ℕ} {d : Cursor} {q : Place} → n ≡ Some (record { target = t; cursor = d }) → q ≡ place_in (LineStage (Jumps d)) p least
         → MovedIs (has_mark marked) s (place_in (LineStage (Jumps c)) p least) (MovedTold (NoTarget l.number t) q)
     unfolding check_faults
     jumps_told {t} {d} is at =

@@ -107,7 +107,7 @@ fn store(image: &[u8], offset: usize, high: usize, count: usize) -> Passed
     if !is_in_memory(image, low) {
         return Passed::Outside;
     }
-    let sum = image_bytes::low_first_at(image, 0) as usize + offset - 2 + count;
+    let sum = usize::from(image_bytes::low_first_at(image, 0)) + offset - 2 + count;
     let link = (sum % 65536) as u16;
     if link != image_bytes::low_first(image[low], image[high]) {
         return Passed::Changed(link);
@@ -123,9 +123,9 @@ fn zero_behind(image: &[u8], offset: usize) -> Zero
     requires { (2 ≤ offset) × (offset ≤ 65537) }
     ensures { result ≡ zero_sought image.now offset 256 5 }
 {
-    let mut left: usize = 256;
-    let mut y: usize = 5;
-    while left > 0 {
+    // The count is one byte, and comes round from 255 to 0.
+    for i in 5..261 {
+        let y = i % 256;
         let at = come_round(offset + y);
         if !is_in_memory(image, at) {
             return Zero::Outside;
@@ -133,8 +133,6 @@ fn zero_behind(image: &[u8], offset: usize) -> Zero
         if image[at] == 0 {
             return Zero::At(y);
         }
-        left -= 1;
-        y = (y + 1) % 256;
     }
     Zero::Nowhere
 }
@@ -151,8 +149,5 @@ fn come_round(offset: usize) -> usize
 fn is_in_memory(image: &[u8], offset: usize) -> bool
     ensures { result ≡ in_memory image.now offset }
 {
-    if offset >= image.len() {
-        return false;
-    }
-    image.len() < 65539
+    offset < image.len() && image.len() < 65539
 }

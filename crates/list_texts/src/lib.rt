@@ -341,7 +341,9 @@ pub struct Texts<'a> {
 }
 
 // The run, lent.
-pub fn stored_texts() -> Texts<'static> {
+pub fn stored_texts() -> Texts<'static>
+    ensures { SpellsTexts result.bytes.now result.starts.now }
+{
     Texts {
         bytes: &TEXT_BYTES,
         starts: &TEXT_STARTS,

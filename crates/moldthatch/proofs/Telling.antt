@@ -77,8 +77,8 @@ tells_held r e code = code ∙ ap held_code (sym e)
 pub tells_entry : (r : Held) {c : Code} → c ≡ held_code r → {h : Held} → r ≡ h → c ≡ held_code h
 tells_entry r code q = code ∙ ap held_code q
 
-pub tells_relinked : (r : Relinked) {m : Relinked} → r ≡ m → {a : Answer Relinking} → relinked_answer r ≡ a → {c : Code} → c ≡ relinking_code (relinked_answer m) → c ≡ relinking_code a
-tells_relinked r e q code = code ∙ ap (λ (x : Relinked). relinking_code (relinked_answer x)) (sym e) ∙ ap relinking_code q
+pub tells_relinked : (r : Result Relinked Refusal) {m : Result Relinked Refusal} → r ≡ m → {a : Answer Relinking} → relinked_answer r ≡ a → {c : Code} → c ≡ relinking_code (relinked_answer m) → c ≡ relinking_code a
+tells_relinked r e q code = code ∙ ap (λ (x : Result Relinked Refusal). relinking_code (relinked_answer x)) (sym e) ∙ ap relinking_code q
 
 pub tells_fate : (r : Carried) {m : Carried} → r ≡ m → {c : Code} → c ≡ fate_code (carried_answer m) → c ≡ fate_code (carried_answer r)
 tells_fate r e code = code ∙ ap (λ (x : Carried). fate_code (carried_answer x)) (sym e)
@@ -92,6 +92,6 @@ pub tells_apart : (r : Carried) {f : Refusal} → r ≡ Apart f → {q : Code} �
 tells_apart r e code number made = made ∙ ap (λ (x : ℕ). record { number = 0; count = 1; first = x; second = 0 }) (number ∙ ap (λ (x : Code). x.number) code) ∙ ap (λ (x : Carried). fate_code (carried_answer x)) (sym e)
 
 -- a link that is changed
-pub tells_link : (r : Relinked) {offset link : ℕ} → r ≡ RelinkedAsChanged offset link → {n : ℕ} → n ≡ link → {a : Answer Relinking} → relinked_answer r ≡ a
+pub tells_link : (r : Result Relinked Refusal) {offset link : ℕ} → r ≡ Ok (RelinkedAsChanged offset link) → {n : ℕ} → n ≡ link → {a : Answer Relinking} → relinked_answer r ≡ a
     → record { number = 0; count = 2; first = offset; second = n } ≡ relinking_code a
 tells_link r {offset} e number q = tells_relinked r e q (ap (λ (x : ℕ). record { number = 0; count = 2; first = offset; second = x }) number)
