@@ -12,5 +12,5 @@ returns-in-Line c = search tells_stage
 pub returns-in-Relinking : goal.returns-in-Relinking
 returns-in-Relinking c = search tells_stage
 
-pub returns-in-Ok : goal.returns-in-Ok
-returns-in-Ok c = search tells_stage
+pub returns-in-Done : goal.returns-in-Done
+returns-in-Done c = search tells_stage
