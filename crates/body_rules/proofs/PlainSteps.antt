@@ -2,12 +2,12 @@
 -- Assumes nothing.
 use Prim.Native.Nat.{ℕ, ◌≤◌}
 use mathlib.Core.Path.{◌≡◌, refl, sym, ap, ◌∙◌}
-use mathlib.Core.Bool.{Bool, true, false, not, false≢true}
+use mathlib.Core.Bool.{Bool, true, false, false≢true}
 use mathlib.Core.List.{List}
 use native.Mathlib.Omega.{arith}
 use lib.Dec.{T, eqb}
 use lib.ListN.{length, get_or, get_or-eq_default}
-use borrow.Author.Tests.{eq-eqb, ne_eqb, not-true}
+use borrow.Author.Tests.{eq-eqb, ne_eqb}
 use Rattle.base_ascii.specs.Bytes.{upper, between, is_letter}
 use Rattle.word_search.specs.Find.{word_in}
 use Rattle.word_search.specs.declared.Match.{Match}
@@ -103,9 +103,9 @@ module _ (l : Lexicon) (t : List ℕ) {r : Move} where
     letter_other q u e p a g = rw (form_step, sym p ∙ e, sign_step, word_none false l.operators (operators_start l g) t a) (letter_raised t q u a)
 
   -- no short form is looked for
-  pub letter_alone : {b : ℕ} → r ≡ one b Plain → b ≡ upper (first t) → not l.sets.forms ≡ true → is_letter (first t) ≡ true → T (proper l) → r ≡ form_step l t
+  pub letter_alone : {b : ℕ} → r ≡ one b Plain → b ≡ upper (first t) → l.sets.forms ≡ false → is_letter (first t) ≡ true → T (proper l) → r ≡ form_step l t
   unfolding form_word
-  letter_alone q u e a g = letter_other {m = None} q u refl (rw (form_word, not-true l.sets.forms e)) a g
+  letter_alone q u e a g = letter_other {m = None} q u refl (rw (form_word, e)) a g
 
   -- another byte: w is the operator there
   module _ {w : Option Match} {x : Bool} where
