@@ -10,7 +10,6 @@ use desk_status::Status;
 use editor_findings::deciding;
 use editor_findings::deciding::Decided;
 use guess::resolve;
-use guess_evidence::DecidingWord;
 use text_lines::LineRule;
 use text_numbers::Numbering;
 use text_places::Place;
@@ -136,8 +135,8 @@ fn line_start(text: &[u8], number: usize) -> usize {
 // Says that a line decides for TSB, and by which word.
 fn close_by(report: &mut Report, k: usize, line: &[u8]) {
     let from = match guess_evidence::deciding_word(line) {
-        DecidingWord::Decides { offset, word: _ } => offset,
-        DecidingWord::NoneDecides => 0,
+        Some(word) => word.offset,
+        None => 0,
     };
     let rest = cut(line, from, line.len());
     let place = Place {

@@ -26,7 +26,8 @@ pub fn check_line(report: &mut Report, k: usize, line: &[u8]) {
     let mut at: usize = 0;
     let mut column: usize = 1;
     for _ in 0..line.len() {
-        let Stranger::There { offset, kind, used } = editor_strange_bytes::next_stranger(line, at)
+        let Ok(Some(Stranger { offset, kind, used })) =
+            editor_strange_bytes::next_stranger(line, at)
         else {
             return;
         };
