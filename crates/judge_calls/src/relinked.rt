@@ -17,6 +17,6 @@ fn send_changed(offset: usize, link: u16) -> bool {
     Answer::done()
         .byte(1)
         .number(offset)
-        .number(link as usize)
+        .number(usize::from(link))
         .send()
 }
