@@ -3,22 +3,24 @@
 use Rattle.std.proofs.Common.{◌≡◌, ℕ, zero, suc, ◌+◌, ◌-◌, ◌*◌, ◌/◌, ◌%◌, ◌^◌, ◌<◌, ◌≤◌, List, [], ◌∷◌, ◌++◌, length, get_or, take, drop, set, replicate, sym, refl, ap, ◌∙◌, append_assoc, append-nil, le_trans, le_of_eq, mul-le-mul_left, mul-one, mul-suc, mul-add, add-one, arith, length-append, length-take-le, take_all, take-suc, take_at}
 use mathlib.Core.List.{flat_map}
 use lib.Seq.{sets, sets-eq, length-sets}
+use borrow.Rule.Slice.PartMut.{put_mid}
+use Rattle.std.proofs.lemmas.Slice.{put_mid-paste}
+use Rattle.std.specs.Int.{to_be_bytes, w32}
 use Rattle.digest_sha256.specs.Sha256.{big_endian, padding}
 use Rattle.digest_sha256.specs.StepHelpers.{Pads}
 use Rattle.digest_sha256.specs.Hex.{hex_digit, hex_pair}
 
--- four stores are a word
-pub four_put : (out : List ℕ) (at a b c d : ℕ) → set (set (set (set out at a) (at + 1) b) (at + 2) c) (at + 3) d ≡ sets out at (a ∷ b ∷ c ∷ d ∷ [])
-four_put out at a b c d =
-    let e₁ : at + 1 ≡ suc at = omega arith in
-    let e₂ : at + 2 ≡ suc (suc at) = omega arith in
-    let e₃ : at + 3 ≡ suc (suc (suc at)) = omega arith in
-    rw (e₁, e₂, e₃)
+cons : {a b : ℕ} {s t : List ℕ} → a ≡ b → s ≡ t → ◌≡◌ {A = List ℕ} (a ∷ s) (b ∷ t)
+cons p q = cc
 
-pub put_four : (out : List ℕ) (at : ℕ) {a b c d : ℕ} (x : ℕ) → a ≡ x / 2 ^ 24 % 256 → b ≡ x / 2 ^ 16 % 256 → c ≡ x / 2 ^ 8 % 256 → d ≡ x / 2 ^ 0 % 256
-    → set (set (set (set out at a) (at + 1) b) (at + 2) c) (at + 3) d ≡ sets out at (big_endian 4 x)
+-- a word, stored
+pub be_bytes : (x : ℕ) → to_be_bytes w32 x ≡ big_endian 4 x
 unfolding big_endian
-put_four out at x p q r s = rw (p, q, r, s) (four_put out at _ _ _ _)
+be_bytes x = cons refl (cons refl (cons refl (cons (omega arith) refl)))
+
+pub word_put : (out : List ℕ) (at x : ℕ) {ys : List ℕ} {k : ℕ} → ys ≡ big_endian 4 x → 4 ≡ k → at + 4 ≤ length out → put_mid at k out ys ≡ sets out at (big_endian 4 x)
+unfolding big_endian
+word_put out at x {ys} {k} e n h = put_mid-paste at k out ys (big_endian 4 x) 4 e n refl ∙ sym (sets-eq (big_endian 4 x) out at h)
 
 -- a run stored behind what stands at the start
 run_behind : (out : List ℕ) (i n : ℕ) (vs : List ℕ) → length vs ≡ n → i + n ≤ length out → take (i + n) (sets out i vs) ≡ take i out ++ vs
@@ -30,9 +32,6 @@ take_replicate : (z n a : ℕ) → z ≤ n → take z (replicate n a) ≡ replic
 take_replicate zero n a h = refl
 take_replicate (suc z) zero a h = absurd (omega arith)
 take_replicate (suc z) (suc n) a h = ap (λ (l : List ℕ). a ∷ l) (take_replicate z n a (omega arith))
-
-cons : {a b : ℕ} {s t : List ℕ} → a ≡ b → s ≡ t → ◌≡◌ {A = List ℕ} (a ∷ s) (b ∷ t)
-cons p q = cc
 
 -- the length counts modulo 2 ^ 64, in bytes as in bits
 same_bits : (n : ℕ) → big_endian 8 (8 * (n % 2 ^ 64)) ≡ big_endian 8 (8 * n)
