@@ -1,5 +1,5 @@
 // Ops 1D and 1E: a target in a line index, an entry of one.
-use image_index_entries::{Held, Kind};
+use image_index_entries::{Numbers, Kind};
 use judge_frames::Answer;
 
 pub fn look_up(payload: &[u8]) -> bool {
@@ -27,10 +27,10 @@ fn send_entry(kind: Kind, place: usize, index: &[u8]) -> bool {
 }
 
 // 0 where an index holds nothing, or 1 and two numbers.
-fn send_held(held: Held) -> bool {
+fn send_held(held: Option<Numbers>) -> bool {
     match held {
-        Held::Nothing => judge_frames::tell(0),
-        Held::Numbers { first, second } => Answer::done()
+        None => judge_frames::tell(0),
+        Some(Numbers { first, second }) => Answer::done()
             .byte(1)
             .number(first)
             .number(second)

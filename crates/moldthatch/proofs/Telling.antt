@@ -15,7 +15,7 @@ use Rattle.disk_rules.specs.Calls.{After, leaving}
 use Rattle.disk_rules.specs.declared.Holding.{Holding}
 use Rattle.disk_directory.specs.Listing.{directory_text, Shows}
 use Rattle.disk_rules.specs.declared.DiskCheck.{DiskCheck}
-use Rattle.image_index_entries.specs.declared.Held.{Held}
+use Rattle.image_index_entries.specs.declared.Numbers.{Numbers}
 use Rattle.image_relink.specs.Relinking.{Relinking, relinked_answer}
 use Rattle.image_relink.specs.declared.Relinked.{Relinked}
 use Rattle.image_relink.specs.declared.Relinked.TheVariants.{Changed as RelinkedAsChanged}
@@ -23,7 +23,7 @@ use Rattle.count_images.specs.Carried.{Kept, carried_answer, carried}
 use Rattle.count_images.specs.declared.Carried.{Carried}
 use Rattle.count_images.specs.declared.Carried.TheVariants.{Apart}
 use Rattle.moldthatch.specs.Told.{Told, told_code, bare_code, told_disk, holding_code, shown_directory, held_code, relinking_code, fate_code, told_totals}
-use Rattle.std.specs.Prelude.{Result, Ok, Err}
+use Rattle.std.specs.Prelude.{Option, Result, Ok, Err}
 
 module _ (o : Result ℕ Refusal) {c : Code} (code : c ≡ length_code (answered o)) where
   pub tells : {b : List ℕ} {l : Lent} → left o b ≡ l → ◌≡◌ {A = Told} (record { code = c; buffer = b }) (told_code l)
@@ -71,10 +71,10 @@ tells_directory (Err r) code disk buffer {b} shows =
 
 -- ---- indexes, relinking, counts
 
-pub tells_held : (r : Held) {m : Held} → r ≡ m → {c : Code} → c ≡ held_code m → c ≡ held_code r
+pub tells_held : (r : Option Numbers) {m : Option Numbers} → r ≡ m → {c : Code} → c ≡ held_code m → c ≡ held_code r
 tells_held r e code = code ∙ ap held_code (sym e)
 
-pub tells_entry : (r : Held) {c : Code} → c ≡ held_code r → {h : Held} → r ≡ h → c ≡ held_code h
+pub tells_entry : (r : Option Numbers) {c : Code} → c ≡ held_code r → {h : Option Numbers} → r ≡ h → c ≡ held_code h
 tells_entry r code q = code ∙ ap held_code q
 
 pub tells_relinked : (r : Result Relinked Refusal) {m : Result Relinked Refusal} → r ≡ m → {a : Answer Relinking} → relinked_answer r ≡ a → {c : Code} → c ≡ relinking_code (relinked_answer m) → c ≡ relinking_code a

@@ -8,7 +8,7 @@ ghost use Rattle.image_relink.specs.Relinking.{relinking, relinked_answer};
 ghost use Rattle.moldthatch.specs.Told.{told_code, held_code, relinking_code};
 
 use base_refusals::Code;
-use image_index_entries::{Held, Kind};
+use image_index_entries::{Numbers, Kind};
 use image_relink::Relinked;
 
 // Writes the line index of an image into the start of a buffer: its length.
@@ -51,17 +51,17 @@ pub extern "C" fn moldthatch_index_look_up(number: usize, index: &[u8]) -> Code
     held_code(image_index_entries::look_up(number, index))
 }
 
-fn held_code(held: Held) -> Code
+fn held_code(held: Option<Numbers>) -> Code
     ensures { result ≡ held_code held }
 {
     match held {
-        Held::Nothing => Code {
+        None => Code {
             number: 0,
             count: 0,
             first: 0,
             second: 0,
         },
-        Held::Numbers { first, second } => Code {
+        Some(Numbers { first, second }) => Code {
             number: 0,
             count: 2,
             first,
