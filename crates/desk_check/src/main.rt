@@ -8,7 +8,6 @@ mod telling;
 use desk::input;
 use desk_calls::words;
 use desk_status::Status;
-use image_fitness::Found;
 use image_readers::links;
 use std::io::Result;
 use telling::Teller;
@@ -22,16 +21,12 @@ fn walk(tell: &Teller, image: &[u8]) -> Status {
     image_marks::mark_numbers(image, &mut marked);
     let mut place = image_fitness::first();
     let mut run = Status::Done;
-    while let Found::Fault {
-        fault,
-        place: behind,
-    } = image_fitness::next_fault(image, &marked, place)
-    {
-        run = desk_status::worse(run, tell.tell_fault(fault));
+    while let Some(found) = image_fitness::next_fault(image, &marked, place) {
+        run = desk_status::worse(run, tell.tell_fault(found.fault));
         if run == Status::Failed {
             return run;
         }
-        place = behind;
+        place = found.place;
     }
     run
 }

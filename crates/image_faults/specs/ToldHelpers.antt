@@ -8,14 +8,12 @@ use Rattle.image_jumps.specs.declared.Cursor.{Cursor}
 use Rattle.image_jumps.specs.declared.Jump.{Jump}
 use Rattle.image_jumps.specs.JumpHelpers.{left_of}
 use Rattle.image_faults.specs.declared.Fault.{Fault}
-use Rattle.image_faults.specs.declared.Told.{Told}
-use Rattle.image_faults.specs.declared.Told.TheVariants.{Fault as ToldFault, Nothing}
 use Rattle.image_faults.specs.Faults.{unmet}
 use Rattle.std.specs.Prelude.{Option, Some, None}
 
-abbrev pub told_fault : Told → List Fault
-told_fault (ToldFault f) = f ∷ []
-told_fault Nothing = []
+abbrev pub told_fault : Option Fault → List Fault
+told_fault (Some f) = f ∷ []
+told_fault None = []
 
 -- the line at an offset
 abbrev pub LineIs : List ℕ → ℕ → Line → Type 0

@@ -16,7 +16,6 @@ use Rattle.image_fitness.specs.declared.Stage.{Stage}
 use Rattle.image_fitness.specs.declared.Stage.TheVariants.{Memory, Line, Relinking, Done}
 use Rattle.image_fitness.specs.declared.Place.{Place}
 use Rattle.image_fitness.specs.declared.Found.{Found}
-use Rattle.image_fitness.specs.declared.Found.TheVariants.{Fault as FoundFault, None}
 use Rattle.image_fitness.specs.FaultHelpers.{faults_at, FaultIs}
 use Rattle.library_numbers.specs.declared.faults.WalkNumbers.{WalkNumbers}
 use Rattle.library_numbers.specs.declared.faults.FaultCode.{FaultCode}
@@ -146,10 +145,10 @@ tells_stage p e is = is ∙ ap (λ (y : Stage). stage_walk y p.offset p.least) (
 pub tells_fault : (f : Fault) {k : Fault} → f ≡ k → (x : WalkNumbers) {c : FaultCode} → c ≡ fault_code k x → c ≡ fault_code f x
 tells_fault f e x is = is ∙ ap (λ (y : Fault). fault_code y x) (sym e)
 
-pub tells_found : (r : Found) {f : Fault} {q : Place} → r ≡ FoundFault f q → {x : WalkNumbers} → x ≡ walk_numbers q → {c : FaultCode} → c ≡ fault_code f x → c ≡ found_code r
-tells_found r {f} e number is = is ∙ ap (fault_code f) number ∙ ap found_code (sym e)
+pub tells_found : (r : Option Found) {m : Found} → r ≡ Some m → {x : WalkNumbers} → x ≡ walk_numbers m.place → {c : FaultCode} → c ≡ fault_code m.fault x → c ≡ found_code r
+tells_found r {m} e number is = is ∙ ap (fault_code m.fault) number ∙ ap found_code (sym e)
 
-pub tells_none : (r : Found) → r ≡ None → {x : WalkNumbers} → x ≡ walk_numbers (record { stage = Done; offset = 0; least = 0 }) → {c : FaultCode} → c ≡ record { kind = 0; first = 0; second = 0; place = x } → c ≡ found_code r
+pub tells_none : (r : Option Found) → r ≡ None → {x : WalkNumbers} → x ≡ walk_numbers (record { stage = Done; offset = 0; least = 0 }) → {c : FaultCode} → c ≡ record { kind = 0; first = 0; second = 0; place = x } → c ≡ found_code r
 tells_none r e number is = is ∙ ap (λ (y : WalkNumbers). record { kind = 0; first = 0; second = 0; place = y }) number ∙ ap found_code (sym e)
 
 -- the place behind a fault
@@ -166,13 +165,13 @@ placed LinksEndless x = refl
 
 -- the next fault
 module _ (has : ℕ → Bool) (s : List ℕ) where
-  left_of_lem : (p : Place) (r : Found) → FaultIs has s p r → FaultLeft has s (faults_at has s p) (found_code r)
-  left_of_lem p (FoundFault f q) is =
-      subst (λ (fs : List Fault). FaultLeft has s fs (fault_code f (walk_numbers q))) (sym is)
-      (ap (fault_code f) (sym (placed f (walk_numbers q))), ap (λ (y : WalkNumbers). faults_at has s (walk_place y)) (placed f (walk_numbers q)) ∙ ap (faults_at has s) (walk_back q))
+  left_of_lem : (p : Place) (r : Option Found) → FaultIs has s p r → FaultLeft has s (faults_at has s p) (found_code r)
+  left_of_lem p (Some m) is =
+      subst (λ (fs : List Fault). FaultLeft has s fs (fault_code m.fault (walk_numbers m.place))) (sym is)
+      (ap (fault_code m.fault) (sym (placed m.fault (walk_numbers m.place))), ap (λ (y : WalkNumbers). faults_at has s (walk_place y)) (placed m.fault (walk_numbers m.place)) ∙ ap (faults_at has s) (walk_back m.place))
   left_of_lem p None is = subst (λ (fs : List Fault). FaultLeft has s fs (found_code None)) (sym is) refl
 
-  pub tells_next : (x : WalkNumbers) {p : Place} → p ≡ walk_place x → (r : Found) → FaultIs has s p r → {c : FaultCode} → c ≡ found_code r → FaultLeft has s (faults_at has s (walk_place x)) c
+  pub tells_next : (x : WalkNumbers) {p : Place} → p ≡ walk_place x → (r : Option Found) → FaultIs has s p r → {c : FaultCode} → c ≡ found_code r → FaultLeft has s (faults_at has s (walk_place x)) c
   tells_next x {p} at r is code =
       subst (λ (y : FaultCode). FaultLeft has s (faults_at has s (walk_place x)) y) (sym code)
       (subst (λ (y : Place). FaultLeft has s (faults_at has s y) (found_code r)) at (left_of_lem p r is))

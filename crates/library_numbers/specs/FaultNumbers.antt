@@ -12,7 +12,6 @@ use Rattle.image_fitness.specs.declared.Stage.{Stage}
 use Rattle.image_fitness.specs.declared.Stage.TheVariants.{Memory, Line, Relinking, Done}
 use Rattle.image_fitness.specs.declared.Place.{Place}
 use Rattle.image_fitness.specs.declared.Found.{Found}
-use Rattle.image_fitness.specs.declared.Found.TheVariants.{Fault as FoundFault, None as FoundNone}
 use Rattle.image_fitness.specs.FaultHelpers.{faults_at}
 use Rattle.library_numbers.specs.declared.faults.WalkNumbers.{WalkNumbers}
 use Rattle.library_numbers.specs.declared.faults.FaultCode.{FaultCode}
@@ -114,9 +113,9 @@ fault_code LinksEndless x = record { kind = 9; first = 0; second = 0; place = x 
 abbrev pub no_fault : FaultCode
 no_fault = record { kind = 0; first = 0; second = 0; place = plain_walk 7 0 0 }
 
-abbrev pub found_code : Found → FaultCode
-found_code (FoundFault f q) = fault_code f (walk_numbers q)
-found_code FoundNone = no_fault
+abbrev pub found_code : Option Found → FaultCode
+found_code (Some m) = fault_code m.fault (walk_numbers m.place)
+found_code None = no_fault
 
 -- the first of the faults that are left, and a place at which the others are left; or none
 abbrev pub FaultLeft : (ℕ → Bool) → List ℕ → List Fault → FaultCode → Type 0

@@ -111,12 +111,12 @@ pub fn mode_of(number: u8) -> Mode
 
 // ---- to numbers
 
-fn found_code(found: Found) -> FaultCode
+fn found_code(found: Option<Found>) -> FaultCode
     ensures { result ≡ found_code found }
 {
     match found {
-        Found::Fault { fault, place } => fault_code(fault, walk_numbers(place)),
-        Found::None => told(0, 0, 0, plain_walk(7, 0, 0)),
+        Some(Found { fault, place }) => fault_code(fault, walk_numbers(place)),
+        None => told(0, 0, 0, plain_walk(7, 0, 0)),
     }
 }
 
