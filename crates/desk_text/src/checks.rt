@@ -8,7 +8,6 @@ use desk::line::Line;
 use desk::{output, result};
 use desk_status::Status;
 use editor_findings::deciding;
-use editor_findings::deciding::Decided;
 use guess::resolve;
 use text_lines::LineRule;
 use text_numbers::Numbering;
@@ -161,8 +160,8 @@ fn close_line(report: &mut Report, k: usize, text: &[u8]) {
 fn close(report: &mut Report, text: &[u8]) {
     if !report.is_quiet() {
         match deciding::deciding_line(text, LineRule::AsGiven) {
-            Decided::ByLine(k) => close_line(report, k, text),
-            Decided::ByNone => report.close(),
+            Some(k) => close_line(report, k, text),
+            None => report.close(),
         }
     }
 }
