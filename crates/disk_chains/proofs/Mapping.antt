@@ -1,20 +1,19 @@
 -- The map's bits beside marks.
 -- Assumes nothing.
 use Prim.Native.Nat.{ℕ, zero, suc, ◌+◌, ◌/◌, ◌%◌, ◌≤◌, ◌<◌}
-use mathlib.Core.Path.{◌≡◌, refl, sym, ap, ◌∙◌, fun_ext}
-use mathlib.Core.Bool.{Bool, true, false, not, ◌&&◌}
+use mathlib.Core.Path.{◌≡◌, refl, ap}
+use mathlib.Core.Bool.{Bool, true, false, ◌&&◌}
 use mathlib.Core.List.{List}
 use lib.Dec.{eqb}
 use lib.ListN.{length, get_or}
 use native.Mathlib.Decide.{dec_lt}
 use native.Mathlib.Omega.{arith}
-use borrow.Author.Tests.{lt-ltb, le-ltb, eq-eqb, ne_eqb, not-true, not-false}
+use borrow.Author.Tests.{lt-ltb, le-ltb, eq-eqb, ne_eqb}
 use Rattle.disk_rules.specs.Places.{sectors_on, sectors_before}
 use Rattle.std.specs.List.{range_with_len, list_all}
-use Rattle.disk_rules.specs.Lists.{is_in, none_twice, every, numbers_from}
+use Rattle.disk_rules.specs.Lists.{every, numbers_from}
 use Rattle.disk_rules.specs.Map.{bit_at}
 use Rattle.disk_rules.specs.Free.{bit_agrees, map_agrees}
-use Rattle.disk_chains.specs.ChainHelpers.{Marked}
 
 -- a track's sectors end with the disk at the latest
 pub on_room : (t : ℕ) → 1 ≤ t → t ≤ 35 → sectors_before t + sectors_on t ≤ 683

@@ -2,14 +2,13 @@
 -- Assumes nothing.
 use Prim.Native.Nat.{ℕ, suc, ◌+◌, ◌-◌, ◌≤◌, ◌<◌}
 use mathlib.Core.Path.{◌≡◌, refl, sym, ap, subst, ◌∙◌}
-use mathlib.Core.Bool.{Bool, true, false, not}
+use mathlib.Core.Bool.{Bool, true, false}
 use mathlib.Core.List.{List, [], ◌∷◌, map}
 use lib.ListN.{length, set, length-set}
 use lib.Seq.{sets}
 use native.Mathlib.Numerals.{add-one}
 use native.Mathlib.Omega.{arith}
-use borrow.Author.Tests.{not-true, not-false}
-use Rattle.disk_rules.specs.Lists.{numbers_from, every, those}
+use Rattle.disk_rules.specs.Lists.{numbers_from, those}
 use Rattle.disk_rules.specs.Map.{is_free}
 use Rattle.disk_rules.specs.Free.{free_sectors}
 use Rattle.disk_chains.specs.ChainHelpers.{Lists}

@@ -10,9 +10,10 @@ loop-n-init c = pick_start _ _ 683 _
 
 pub loop-n-preserved : goal.loop-n-preserved
 loop-n-preserved c =
-    elim c.if-is_free.branch
-    [ then-is_free w ↦ rw (w.list-is, w.count-is) (pick_in c.loop-n.invariant c.loop-n-test.true w.if-is_free.true c.is_free.ensures refl)
-    | else-is_free w ↦ rw (w.list-is, w.count-is) (pick_out c.loop-n.invariant c.loop-n-test.true w.if-is_free.false c.is_free.ensures refl) ]
+    elim c.if-is_free.branch [
+      | then-is_free w ↦ rw (w.list-is, w.count-is) (pick_in c.loop-n.invariant c.loop-n-test.true w.if-is_free.true c.is_free.ensures refl)
+      | else-is_free w ↦ rw (w.list-is, w.count-is) (pick_out c.loop-n.invariant c.loop-n-test.true w.if-is_free.false c.is_free.ensures refl)
+    ]
 
 pub returns : goal.returns
 returns c = free_listed _ (pick_end c.loop-n.invariant c.loop-n-test.false)
