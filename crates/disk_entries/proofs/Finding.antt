@@ -1,8 +1,8 @@
 -- Searching entries: the first that passes a test, and whether each is good.
 -- Assumes nothing.
 use Prim.Native.Nat.{ℕ, suc, ◌+◌, ◌-◌, ◌≤◌, ◌<◌}
-use mathlib.Core.Path.{◌≡◌, refl, sym, ◌∙◌}
-use mathlib.Core.Bool.{Bool, true, false, cond}
+use mathlib.Core.Path.{◌≡◌, refl, sym, ap, ◌∙◌}
+use mathlib.Core.Bool.{Bool, true, false, cond, ◌||◌}
 use mathlib.Core.List.{List, [], ◌∷◌}
 use lib.ListN.{length, get_or, take, drop, drop_of_length-le, length-drop}
 use lib.Seq.{drop-cons, get_or-drop, take_all}
@@ -11,24 +11,42 @@ use native.Mathlib.Omega.{arith}
 use borrow.Author.Tests.{eq-eqb, ne_eqb}
 use Rattle.disk_rules.specs.Lists.{some}
 use Rattle.disk_rules.specs.Entries.{is_named, name_at, entries_good}
+use Rattle.std.specs.Option.{is_some}
 use Rattle.std.specs.Prelude.{Option, Some, None, find}
 use Rattle.disk_entries.specs.EntryHelpers.{Entries}
 
-first_in_lem : (test : ℕ → Bool) (l : List ℕ) {q : ℕ} → find test l ≡ Some q → some test l ≡ true
-unfolding some
-first_in_lem test [] e = absurd (cc)
-first_in_lem test (n ∷ l) {q} e = go (test n) (first_in_lem test l) e where
-  go : (b : Bool) → (find test l ≡ Some q → some test l ≡ true) → cond b (Some n) (find test l) ≡ Some q → (b || some test l) ≡ true
-  go true k f = refl
-  go false k f = k f
+pub record Seeking (test : ℕ → Bool) (l : List ℕ) (i : ℕ) : Type 0 where
+  pub within : i ≤ length l
+  pub gives : find test (drop i l) ≡ find test l
 
-first_out : (test : ℕ → Bool) (l : List ℕ) → find test l ≡ None → some test l ≡ false
+pub seek_start : (test : ℕ → Bool) (l : List ℕ) → Seeking test l 0
+seek_start test l = record { within = omega arith; gives = refl }
+
+module _ {test : ℕ → Bool} {l : List ℕ} {i : ℕ} (s : Seeking test l i) where
+  pub seek_found : {r : Bool} → i < length l → r ≡ true → r ≡ test (get_or l i 0) → Some (get_or l i 0) ≡ find test l
+  seek_found h e g =
+      let q : test (get_or l i 0) ≡ true = sym g ∙ e in
+      simp q at (rw (drop-cons l i 0 h) at s.gives)
+
+  pub seek_turn : {r : Bool} → i < length l → r ≡ false → r ≡ test (get_or l i 0) → Seeking test l (i + 1)
+  seek_turn h e g =
+      let q : test (get_or l i 0) ≡ false = sym g ∙ e in
+      record { within = omega arith; gives = rw add-one (simp q at (rw (drop-cons l i 0 h) at s.gives)) }
+
+  pub seek_end : length l ≤ i → None ≡ find test l
+  seek_end h = rw (drop_of_length-le l {i = i} h) at s.gives
+
+-- ---- what the first tells
+
+found_some : (test : ℕ → Bool) (l : List ℕ) → is_some (find test l) ≡ some test l
 unfolding some
-first_out test [] e = refl
-first_out test (n ∷ l) e = go (test n) (first_out test l) e where
-  go : (b : Bool) → (find test l ≡ None → some test l ≡ false) → cond b (Some n) (find test l) ≡ None → (b || some test l) ≡ false
-  go true k f = absurd (cc)
-  go false k f = k f
+found_some test [] = refl
+found_some test (n ∷ l) = go (test n) (found_some test l) where
+  go : (b : Bool) → is_some (find test l) ≡ some test l → is_some (cond b (Some n) (find test l)) ≡ (b || some test l)
+  go true e = refl
+  go false e = e
+
+-- ---- each entry is good
 
 pub record Testing (d l : List ℕ) (i : ℕ) : Type 0 where
   pub within : i ≤ length l
@@ -65,16 +83,16 @@ module _ {d l : List ℕ} {i : ℕ} (t : Testing d l i) where
     first : r ≡ find test (drop (i + 1) l)
     first = rw (m, tail_drop (i + 1)) at f
 
-    pub test_twice : {q : ℕ} → r ≡ Some q → false ≡ entries_good d l
+    pub test_twice : {q : Bool} → q ≡ is_some r → q ≡ true → false ≡ entries_good d l
     unfolding entries_good
-    test_twice g =
-        let a : some test (drop (i + 1) l) ≡ true = first_in_lem test (drop (i + 1) l) (sym first ∙ g) in
+    test_twice k g =
+        let a : some test (drop (i + 1) l) ≡ true = sym (found_some test (drop (i + 1) l)) ∙ ap is_some (sym first) ∙ sym k ∙ g in
         sym (unrolled h ∙ simp (eq-eqb (get_or d (get_or l i 0) 0) 0x82 e, a))
 
-    pub test_turn : r ≡ None → Testing d l (i + 1)
+    pub test_turn : {q : Bool} → q ≡ is_some r → q ≡ false → Testing d l (i + 1)
     unfolding entries_good
-    test_turn g =
-        let a : some test (drop (i + 1) l) ≡ false = first_out test (drop (i + 1) l) (sym first ∙ g) in
+    test_turn k g =
+        let a : some test (drop (i + 1) l) ≡ false = sym (found_some test (drop (i + 1) l)) ∙ ap is_some (sym first) ∙ sym k ∙ g in
         record { within = omega arith; entries = t.entries; tests = sym (unrolled h ∙ simp (eq-eqb (get_or d (get_or l i 0) 0) 0x82 e, a)) }
 
   pub test_end : length l ≤ i → true ≡ entries_good d l

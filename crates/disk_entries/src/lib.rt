@@ -74,10 +74,12 @@ pub fn find(disk: &[u8], entries: &[usize], name: &[u8]) -> Option<usize>
     requires { (length disk.now ≡ 174848) × Entries entries.now }
     ensures { result ≡ find (is_named disk.now name.now) entries.now }
 {
-    entries
-        .iter()
-        .copied()
-        .find(|p| is_named(disk, *p, name))
+    for p in entries {
+        if is_named(disk, *p, name) {
+            return Some(*p);
+        }
+    }
+    None
 }
 
 // Whether each entry is of type 82, and none behind it has its name.
