@@ -13,12 +13,6 @@ pub record Holds (disk : List ℕ) (tracks : ℕ) : Type 0 where
   pub size : 256 * sectors_before (tracks + 1) ≤ length disk
   pub few : sectors_before (tracks + 1) ≤ 768
 
--- each number of a list is a sector of the image
-pub record Below (disk l : List ℕ) : Type 0 where
-  pub few : length l ≤ 768
-  pub small : (i : ℕ) → i < length l → get_or l i 0 < 768
-  pub within : (i : ℕ) → i < length l → 256 * get_or l i 0 + 256 ≤ length disk
-
 -- the entry at a place of a list, and that it stands in the image
 pub record Placed (disk l : List ℕ) (place : ℕ) (r : EntrySpot) : Type 0 where
   pub is : r ≡ spot_from l place
