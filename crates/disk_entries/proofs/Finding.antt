@@ -38,7 +38,7 @@ module _ {test : ℕ → Bool} {l : List ℕ} {i : ℕ} (s : Seeking test l i) w
 
 -- ---- what the first tells
 
-found_some : (test : ℕ → Bool) (l : List ℕ) → is_some (find test l) ≡ some test l
+pub found_some : (test : ℕ → Bool) (l : List ℕ) → is_some (find test l) ≡ some test l
 unfolding some
 found_some test [] = refl
 found_some test (n ∷ l) = go (test n) (found_some test l) where

@@ -1,7 +1,7 @@
 -- The four zones of a disk: what is chosen by them, and what a track and a sector link to.
 -- Assumes nothing.
 use Prim.Native.Nat.{ℕ, ◌+◌, ◌≤◌, ◌<◌}
-use mathlib.Core.Path.{◌≡◌, refl}
+use mathlib.Core.Path.{◌≡◌, refl, ◌∙◌}
 use mathlib.Core.Bool.{cond}
 use lib.Dec.{ltb}
 use borrow.Author.Tests.{lt-ltb, le-ltb, lt-leb, le-leb, eq-eqb, ne_eqb}
@@ -58,3 +58,6 @@ module _ (tracks t s : ℕ) where
 pub link_35 : (t s : ℕ) → link_on 35 t s ≡ link_to t s
 unfolding link_on link_to
 link_35 t s = refl
+
+pub link_on_lem : (t s : ℕ) → 1 ≤ t → t ≤ 35 → {n : ℕ} → n ≡ sectors_on t → s < n → {m : ℕ} → m ≡ sectors_before t → To (m + s) ≡ link_to t s
+link_on_lem t s g h e i f = link_to_lem 35 t s g refl refl h e i f ∙ link_35 t s
