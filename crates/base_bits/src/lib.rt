@@ -31,19 +31,18 @@ fn put_bit(out: &mut [u8], pen: Pen, bit: u8) -> Pen
     ensures { record { pen = result; out = out.new } ≡ drawn_bit out.old pen bit }
 {
     let value = 2 * pen.value + bit;
-    let at = pen.at;
     if pen.count == 7 {
-        out[at] = value;
+        out[pen.at] = value;
         return Pen {
-            at: at + 1,
+            at: pen.at + 1,
             value: 0,
             count: 0,
         };
     }
     Pen {
-        at,
         value,
         count: pen.count + 1,
+        ..pen
     }
 }
 
@@ -53,9 +52,7 @@ pub fn put_field(out: &mut [u8], pen: Pen, width: usize, value: usize) -> Pen
     ensures { record { pen = result; out = out.new } ≡ drawn out.old pen (bits_of width value) }
 {
     let mut pen = pen;
-    let mut left = width;
-    while left > 0 {
-        left -= 1;
+    for left in (0..width).rev() {
         pen = put_bit(out, pen, bit_of(value, left));
     }
     pen
@@ -86,7 +83,7 @@ fn bit_at(bytes: &[u8], at: usize) -> usize
     requires { at < 8 * length bytes.now }
     ensures { (result ≡ get_or (bytes_bits bytes.now) at 0) × (result ≤ 1) }
 {
-    ((bytes[at / 8] >> (7 - at % 8)) % 2) as usize
+    usize::from((bytes[at / 8] >> (7 - at % 8)) % 2)
 }
 
 // The field of so many bits at a bit offset. The offset is low: for a field further on, a caller lends the bytes from near it on.
@@ -95,10 +92,8 @@ pub fn field_at(bytes: &[u8], at: usize, width: usize) -> usize
     ensures { result ≡ field_at bytes.now at width }
 {
     let mut value: usize = 0;
-    let mut k: usize = 0;
-    while k < width {
+    for k in 0..width {
         value = 2 * value + bit_at(bytes, at + k);
-        k += 1;
     }
     value
 }

@@ -16,7 +16,7 @@ use Rattle.base_ascii.specs.Search.{equals, other, before, front}
 use Rattle.base_ascii.proofs.Searching.{tail, before_le, before_take, front_drop}
 use Rattle.word_search.specs.Find.{Entry, first_that, word_in, among_in}
 use Rattle.word_search.specs.declared.Match.{Match}
-use Rattle.word_search.specs.declared.Match.TheVariants.{Word, Nothing}
+use Rattle.std.specs.Prelude.{Option, Some, None}
 use Rattle.word_search.proofs.Search.{and_left, and_right}
 use Rattle.word_tables.specs.Rom.{v2_words}
 use Rattle.word_tables.specs.Tsb.{tsb_words}
@@ -26,7 +26,6 @@ use Rattle.body_short_forms.proofs.Standing.{form_takes}
 use Rattle.word_match.specs.declared.sets.Sets.{Sets}
 use Rattle.escape_bytes.specs.Escape.{escape_of}
 use Rattle.escape_bytes.specs.declared.Escape.{Escape}
-use Rattle.escape_bytes.specs.declared.Escape.TheVariants.{Byte, Unknown}
 use Rattle.escape_bytes.proofs.Once.{Often, given_once}
 use Rattle.body.specs.Body.{written, crunched_from, crunched_body}
 use Rattle.body.specs.BoundHelpers.{may_repeat}
@@ -49,25 +48,25 @@ tsb_long : T (all_long tsb_words)
 unfolding all_long tsb_words
 tsb_long = tt
 
-found_long : (p : ℕ → List ℕ → Bool) (es : List Entry) (k : ℕ) → T (all_long es) → {i u t : ℕ} → first_that p es k ≡ Word i u t → 2 ≤ u
+found_long : (p : ℕ → List ℕ → Bool) (es : List Entry) (k : ℕ) → T (all_long es) → {m : Match} → first_that p es k ≡ Some m → 2 ≤ m.used
 unfolding first_that all_long
-found_long p [] k a {i} {u} {t} q = let z : ◌≡◌ {A = ℕ} 0 1 = cc in absurd (omega arith)
-found_long p (e ∷ es) k a {i} {u} {t} q = go (p k e.word) q (found_long p es (suc k) (and_right (leb 2 (length e.word)) _ a))
+found_long p [] k a {m} q = let z : ◌≡◌ {A = ℕ} 0 1 = cc in absurd (omega arith)
+found_long p (e ∷ es) k a {m} q = go (p k e.word) q (found_long p es (suc k) (and_right (leb 2 (length e.word)) _ a))
   where
-    go : (b : Bool) → elim b [ true ↦ Word k (length e.word) e.token | false ↦ first_that p es (suc k) ] ≡ Word i u t
-        → (first_that p es (suc k) ≡ Word i u t → 2 ≤ u) → 2 ≤ u
+    go : (b : Bool) → elim b [ true ↦ Some (record { index = k; used = length e.word; token = e.token }) | false ↦ first_that p es (suc k) ] ≡ Some m
+        → (first_that p es (suc k) ≡ Some m → 2 ≤ m.used) → 2 ≤ m.used
     go true h f =
-        let size : length e.word ≡ u = cc in
+        let size : length e.word ≡ m.used = cc in
         omega (arith, leb→le 2 (length e.word) (and_left (leb 2 (length e.word)) _ a))
     go false h f = f h
 
-live_long : (s : Sets) (t : List ℕ) {i u k : ℕ} → live_word s tsb_words t ≡ Word i u k → 2 ≤ u
+live_long : (s : Sets) (t : List ℕ) {m : Match} → live_word s tsb_words t ≡ Some m → 2 ≤ m.used
 unfolding live_word among_in
-live_long s t {i} {u} {k} e = go (among_in (is_demoted s) tsb_words t) e
+live_long s t {m} e = go (among_in (is_demoted s) tsb_words t) e
   where
-    go : (d : Option Match) → elim d [ Word j v c ↦ Nothing | Nothing ↦ among_in (is_live s) tsb_words t ] ≡ Word i u k → 2 ≤ u
-    go (Word j v c) q = let z : ◌≡◌ {A = ℕ} 0 1 = cc in absurd (omega arith)
-    go Nothing q = found_long _ tsb_words 0 tsb_long q
+    go : (d : Option Match) → elim d [ Some w ↦ None | None ↦ among_in (is_live s) tsb_words t ] ≡ Some m → 2 ≤ m.used
+    go (Some w) q = let z : ◌≡◌ {A = ℕ} 0 1 = cc in absurd (omega arith)
+    go None q = found_long _ tsb_words 0 tsb_long q
 
 -- ---- a step writes no more than it takes
 
@@ -78,10 +77,10 @@ by_test : (r : Bool) (x y : Move) → Narrow x → Narrow y → Narrow (elim r [
 by_test true x y f g = f
 by_test false x y f g = g
 
-by_match : (m : Option Match) (x : ℕ → ℕ → Move) (y : Move) → ((i u k : ℕ) → m ≡ Word i u k → Narrow (x u k)) → Narrow y
-    → Narrow (elim m [ Word i u k ↦ x u k | Nothing ↦ y ])
-by_match (Word i u k) x y f g = f i u k refl
-by_match Nothing x y f g = g
+by_match : (m : Option Match) (x : Match → Move) (y : Move) → ((w : Match) → m ≡ Some w → Narrow (x w)) → Narrow y
+    → Narrow (elim m [ Some w ↦ x w | None ↦ y ])
+by_match (Some w) x y f g = f w refl
+by_match None x y f g = g
 
 one_narrow : (b : ℕ) (m : Mode) → Narrow (one b m)
 unfolding written
@@ -104,18 +103,18 @@ module _ (s : Sets) (t : List ℕ) where
   form_narrow : Narrow (form_step (lexicon s) t)
   unfolding form_step sign_step
   form_narrow =
-      by_match (form_word s tsb_words v2_words t) (λ n k. token false k (opened k) n) _
-      (λ i n k e. let r = form_takes s tsb_words v2_words t e in token_narrow k n (opened k) (record { more = r.0; most = r.1 })) (
-      by_match (word_in (lexicon s).operators t) (λ u k. token false k Plain u) (other_step t)
-      (λ i u k e. token_narrow k u Plain (word_takes false _ (operators_start (lexicon s) (document_proper s)) t e)) (other_narrow t))
+      by_match (form_word s tsb_words v2_words t) (λ w. token false w.token (opened w.token) w.used) _
+      (λ w e. let r = form_takes s tsb_words v2_words t e in token_narrow w.token w.used (opened w.token) (record { more = r.0; most = r.1 })) (
+      by_match (word_in (lexicon s).operators t) (λ w. token false w.token Plain w.used) (other_step t)
+      (λ w e. token_narrow w.token w.used Plain (word_takes false _ (operators_start (lexicon s) (document_proper s)) t e)) (other_narrow t))
 
   plain_narrow : Narrow (plain_step (lexicon s) t)
   unfolding plain_step
   plain_narrow =
       by_test (eqb (first t) 0x22) (one 0x22 String) _ (one_narrow _ _) (
-      by_match (live_word s tsb_words t) (λ u k. token true k Plain u) _ (λ i u k e. tsb_narrow k u (live_long s t e)) (
-      by_match (plain_word s (lexicon s).v2 (lexicon s).basic35 t) (λ u k. token false k (opened k) u) _
-      (λ i u k e. token_narrow k u (opened k) (plain_word_takes (lexicon s) (document_proper s) t e)) form_narrow))
+      by_match (live_word s tsb_words t) (λ w. token true w.token Plain w.used) _ (λ w e. tsb_narrow w.token w.used (live_long s t e)) (
+      by_match (plain_word s (lexicon s).v2 (lexicon s).basic35 t) (λ w. token false w.token (opened w.token) w.used) _
+      (λ w e. token_narrow w.token w.used (opened w.token) (plain_word_takes (lexicon s) (document_proper s) t e)) form_narrow))
 
 byte_narrow : (b : ℕ) → Narrow (string_byte b)
 unfolding string_byte
@@ -169,8 +168,8 @@ unstarred s e h = go (dec_le close star)
 
 escaped_narrow : (n : ℕ) (x : Option Escape) → Often 1 x → Narrow (escaped n x)
 unfolding escaped
-escaped_narrow n (Byte b count) e = omega (arith, length_written (escaped n (Byte b count)), e)
-escaped_narrow n Unknown e = byte_narrow 0x7B
+escaped_narrow n (Some x) e = omega (arith, length_written (escaped n (Some x)), e)
+escaped_narrow n None e = byte_narrow 0x7B
 
 braced_narrow : (s : List ℕ) → may_repeat s ≡ false → Narrow (braced s (before (equals 0x7D) s))
 unfolding braced

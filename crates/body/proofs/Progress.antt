@@ -12,11 +12,10 @@ use borrow.Author.Tests.{eqb-true, ltb-true}
 use Rattle.base_ascii.specs.Bytes.{upper}
 use Rattle.word_search.specs.Find.{word_in}
 use Rattle.word_search.specs.declared.Match.{Match}
-use Rattle.word_search.specs.declared.Match.TheVariants.{Word, Nothing}
+use Rattle.std.specs.Prelude.{Option, Some, None}
 use Rattle.escape_bytes.specs.Escape.{escape_of}
 use Rattle.base_ascii.specs.Search.{equals, before}
 use Rattle.escape_bytes.specs.declared.Escape.{Escape}
-use Rattle.escape_bytes.specs.declared.Escape.TheVariants.{Byte, Unknown}
 use Rattle.word_match.specs.Sets.{live_word, plain_word}
 use Rattle.body_short_forms.specs.Forms.{form_word}
 use Rattle.body_short_forms.proofs.Standing.{form_takes}
@@ -37,10 +36,10 @@ by_test : (t : List ℕ) (r : Bool) (x y : Move) → (r ≡ true → Moves t x) 
 by_test t true x y f g = f refl
 by_test t false x y f g = g refl
 
-by_match : (t : List ℕ) (m : Option Match) (x : ℕ → ℕ → Move) (y : Move) → ((i u k : ℕ) → m ≡ Word i u k → Moves t (x u k)) → (m ≡ Nothing → Moves t y)
-    → Moves t (elim m [ Word i u k ↦ x u k | Nothing ↦ y ])
-by_match t (Word i u k) x y f g = f i u k refl
-by_match t Nothing x y f g = g refl
+by_match : (t : List ℕ) (m : Option Match) (x : Match → Move) (y : Move) → ((w : Match) → m ≡ Some w → Moves t (x w)) → (m ≡ None → Moves t y)
+    → Moves t (elim m [ Some w ↦ x w | None ↦ y ])
+by_match t (Some w) x y f g = f w refl
+by_match t None x y f g = g refl
 
 module _ (t : List ℕ) (h : 0 < length t) where
   one_takes : Takes t 1
@@ -67,17 +66,17 @@ module _ (t : List ℕ) (h : 0 < length t) where
     form_step_takes : Moves t (form_step l t)
     unfolding form_step sign_step
     form_step_takes =
-        by_match t (form_word l.sets l.tsb l.v2 t) (λ n k. token false k (opened k) n) _
-        (λ i n k e. let r = form_takes l.sets l.tsb l.v2 t e in record { more = r.0; most = r.1 }) (λ _.
-        by_match t (word_in l.operators t) (λ u k. token false k Plain u) (other_step t)
-        (λ i u k e. word_takes false l.operators (operators_start l g) t e) (λ _. other_takes))
+        by_match t (form_word l.sets l.tsb l.v2 t) (λ w. token false w.token (opened w.token) w.used) _
+        (λ w e. let r = form_takes l.sets l.tsb l.v2 t e in record { more = r.0; most = r.1 }) (λ _.
+        by_match t (word_in l.operators t) (λ w. token false w.token Plain w.used) (other_step t)
+        (λ w e. word_takes false l.operators (operators_start l g) t e) (λ _. other_takes))
 
     plain_takes : Moves t (plain_step l t)
     unfolding plain_step
     plain_takes =
         by_test t (eqb (first t) 0x22) (one 0x22 String) _ (λ _. one_takes) (λ _.
-        by_match t (live_word l.sets l.tsb t) (λ u k. token true k Plain u) _ (λ i u k e. live_takes true l.tsb (tsb_start l g) t l.sets e) (λ _.
-        by_match t (plain_word l.sets l.v2 l.basic35 t) (λ u k. token false k (opened k) u) _ (λ i u k e. plain_word_takes l g t e) (λ _. form_step_takes)))
+        by_match t (live_word l.sets l.tsb t) (λ w. token true w.token Plain w.used) _ (λ w e. live_takes true l.tsb (tsb_start l g) t l.sets e) (λ _.
+        by_match t (plain_word l.sets l.v2 l.basic35 t) (λ w. token false w.token (opened w.token) w.used) _ (λ w e. plain_word_takes l g t e) (λ _. form_step_takes)))
 
   byte_takes : (b : ℕ) → Moves t (string_byte b)
   unfolding string_byte
@@ -85,8 +84,8 @@ module _ (t : List ℕ) (h : 0 < length t) where
 
 escape_takes : (b : ℕ) (s : List ℕ) (n : ℕ) → n < length s → (x : Option Escape) → Moves (b ∷ s) (escaped n x)
 unfolding escaped
-escape_takes b s n h (Byte c count) = record { more = omega arith; most = omega arith }
-escape_takes b s n h Unknown = byte_takes (b ∷ s) (omega arith) 0x7B
+escape_takes b s n h (Some e) = record { more = omega arith; most = omega arith }
+escape_takes b s n h None = byte_takes (b ∷ s) (omega arith) 0x7B
 
 brace_takes : (b : ℕ) (s : List ℕ) (n : ℕ) → Moves (b ∷ s) (braced s n)
 unfolding braced

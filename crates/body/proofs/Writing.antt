@@ -1,16 +1,19 @@
 -- The loops over a body: the one that writes it into a lent buffer, the one that measures it, and the one that writes a byte so many
 -- times; for each its invariant, a turn, and its ends.
 -- Assumes nothing.
-use Prim.Native.Nat.{ℕ, suc, ◌+◌, ◌-◌, ◌≤◌, ◌<◌, min}
+use Prim.Native.Nat.{ℕ, ◌+◌, ◌-◌, ◌≤◌, ◌<◌, min}
 use mathlib.Core.Path.{◌≡◌, refl, sym, ap, ◌∙◌}
 use mathlib.Core.Bool.{Bool, true, false}
 use mathlib.Core.List.{List, [], ◌++◌}
 use native.Mathlib.Omega.{arith}
 use lib.Dec.{T}
-use lib.ListN.{length, get_or, drop, set, replicate, length-append, length-set, length-drop, length-replicate, drop_of_length-le}
-use lib.Seq.{sets, drop-drop}
+use lib.ListN.{length, get_or, take, drop, set, replicate, length-append, length-drop, length-replicate, drop_of_length-le}
+use lib.Seq.{sets, drop-drop, length-take-le}
 use mir.Syntax.{w64}
-use mir.Val.{Fits}
+use mir.Val.{Fits, bool_byte}
+use borrow.Rule.Slice.PartMut.{put_mid}
+use Rattle.std.proofs.Common.{append_assoc}
+use Rattle.std.proofs.lemmas.List.Edits.{sets-eq}
 use Rattle.base_lent.specs.Stores.{Room, Put}
 use Rattle.base_lent.proofs.Storing.{put_long, put_as, room_as, room_first, room_second, put_both, put_none}
 use Rattle.body.specs.Body.{prefix_of, written, crunched_from, crunched_body}
@@ -167,17 +170,21 @@ module _ (w : Sets) {s : List ℕ} {m : Mode} {n at : ℕ} (k : Measured (lexico
   pub short_measured : {behind : Mode} → behind ≡ short_mode m (get_or s at 0) → (n + 1 ≡ 65536 → ⊥) → Measured (lexicon w) s behind (n + 1) (at + 1)
   short_measured q f = rw q (measured_turn k one_longer (short_here s _ m e h w t) h (document_proper w) f)
 
--- a length with what a step writes behind it
-module _ (n : ℕ) {begun : ℕ} where
-  pub prefix_small : (prefixed : Bool) → begun ≡ n + length (prefix_of prefixed) → n < 65536 → begun ≤ 65536
-  prefix_small prefixed e h = omega (arith, length_prefix prefixed)
+-- a length with what a step writes behind it; the 64 in front of a token counts as its flag does
+prefix_long : (prefixed : Bool) → length (prefix_of prefixed) ≡ bool_byte prefixed
+prefix_long true = refl
+prefix_long false = refl
 
-  module _ (o : Move) (e : begun ≡ n + length (prefix_of o.prefixed)) where
-    pub longer_full : 65536 - begun ≤ o.count → n < 65536 → 65536 ≡ min (n + length (written o)) 65536
-    longer_full h k = omega (arith, length_prefix o.prefixed, length_written o)
+module _ (n : ℕ) {flag : ℕ} where
+  pub prefix_small : (prefixed : Bool) → flag ≡ bool_byte prefixed → n < 65536 → n + flag ≤ 65536
+  prefix_small prefixed e h = omega (arith, e, length_prefix prefixed, prefix_long prefixed)
 
-    pub longer_less : o.count < 65536 - begun → begun + o.count ≡ min (n + length (written o)) 65536
-    longer_less h = omega (arith, length_written o)
+  module _ (o : Move) (e : flag ≡ bool_byte o.prefixed) where
+    pub longer_full : 65536 - (n + flag) ≤ o.count → n < 65536 → 65536 ≡ min (n + length (written o)) 65536
+    longer_full h k = omega (arith, e, length_prefix o.prefixed, prefix_long o.prefixed, length_written o)
+
+    pub longer_less : o.count < 65536 - (n + flag) → n + flag + o.count ≡ min (n + length (written o)) 65536
+    longer_less h = omega (arith, e, prefix_long o.prefixed, length_written o)
 
 -- ---- the 64 in front of a TSB token
 
@@ -216,29 +223,17 @@ module _ (o : Move) {out : List ℕ} {n : ℕ} where
 
 -- ---- one byte, count times
 
--- k copies are written: with the others, all of them are written into the first buffer
-pub record Filling (first : List ℕ) (at byte count : ℕ) (out : List ℕ) (k : ℕ) : Type 0 where
-  pub within : k ≤ count
-  pub sized : length out ≡ length first
-  pub gives : sets out (at + k) (replicate (count - k) byte) ≡ sets first at (replicate count byte)
+module _ {buffer : List ℕ} {at : ℕ} (count byte : ℕ) (r : Room buffer at (replicate count byte)) where
+  pub fill_room : at + count ≤ length buffer
+  fill_room = omega (arith, r.room, length-replicate count byte)
 
-pub fill_room : {buffer : List ℕ} {at : ℕ} (count byte : ℕ) → Room buffer at (replicate count byte) → at + count ≤ length buffer
-fill_room count byte r = omega (arith, r.room, length-replicate count byte)
-
-pub filling_start : (first : List ℕ) (at byte count : ℕ) → Filling first at byte count first 0
-filling_start first at byte count =
-    let e : at + 0 ≡ at = omega arith in
-    let f : count - 0 ≡ count = omega arith in
-    record { within = omega arith; sized = refl; gives = rw (e, f) }
-
-module _ {first : List ℕ} {at byte count : ℕ} {out : List ℕ} {k : ℕ} (f : Filling first at byte count out k) where
-  pub filling_turn : k < count → Filling first at byte count (set out (at + k) byte) (k + 1)
-  filling_turn h =
-      let e : count - k ≡ suc (count - (k + 1)) = omega arith in
-      let u : at + (k + 1) ≡ suc (at + k) = omega arith in
-      record { within = omega arith; sized = simp length-set f.sized; gives = rw u (rw e at f.gives) }
-
-  pub filling_end : count ≤ k → Put first at (replicate count byte) (at + k) out
-  filling_end h =
-      let e : count - k ≡ 0 = omega arith in
-      record { ends = omega (arith, length-replicate count byte); stored = rw e at f.gives }
+  -- the part that the copies fill is lent, and comes back with them
+  pub fill_put : {part : List ℕ} → part ≡ replicate (length (take (at + count - at) (drop at buffer))) byte
+      → Put buffer at (replicate count byte) (at + count) (put_mid at (at + count - at) buffer part)
+  fill_put e =
+      let k : at + count - at ≡ count = omega arith in
+      let m : length (take count (drop at buffer)) ≡ count = length-take-le count (drop at buffer) (omega (arith, fill_room, length-drop at buffer)) in
+      let whole : sets buffer at (replicate count byte) ≡ take at buffer ++ (replicate count byte ++ drop (at + count) buffer) =
+      rw (length-replicate count byte) at (sets-eq (replicate count byte) buffer at (omega (arith, r.room)))
+      ∙ append_assoc (take at buffer) (replicate count byte) (drop (at + count) buffer) in
+      record { ends = omega (arith, length-replicate count byte); stored = rw (e, k, m, drop-drop count at buffer) (sym whole) }

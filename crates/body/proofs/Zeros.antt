@@ -5,9 +5,9 @@ use mathlib.Core.Path.{◌≡◌, refl, sym, ap, ◌∙◌}
 use mathlib.Core.Bool.{Bool, true, false, cond, not, ◌&&◌, ◌||◌}
 use mathlib.Core.List.{List, [], ◌∷◌, ◌++◌}
 use native.Mathlib.Omega.{arith}
-use lib.Dec.{T, eqb}
+use lib.Dec.{T, eqb, ltb}
 use lib.ListN.{length, get_or, drop, replicate, drop_of_length-le}
-use borrow.Author.Tests.{eq-eqb, ne_eqb, eqb-true, not-true}
+use borrow.Author.Tests.{le-ltb, eq-eqb, ne_eqb, eqb-true, not-true}
 use mir.Syntax.{w64}
 use mir.Val.{Fits}
 use Rattle.base_ascii.specs.Bytes.{between, upper}
@@ -15,7 +15,7 @@ use Rattle.base_ascii.proofs.Ranges.{between_in}
 use Rattle.word_search.specs.Compare.{passes}
 use Rattle.word_search.specs.Find.{Entry, first_that, word_in}
 use Rattle.word_search.specs.declared.Match.{Match}
-use Rattle.word_search.specs.declared.Match.TheVariants.{Word, Nothing}
+use Rattle.std.specs.Prelude.{Option, Some, None}
 use Rattle.word_search.specs.declared.Test.TheVariants.{Begins}
 use Rattle.word_search.proofs.Search.{and_left, and_right}
 use Rattle.word_search.proofs.Sameness.{T_true}
@@ -94,24 +94,24 @@ unfoldable some_tokens : List Entry → Bool
 some_tokens [] = true
 some_tokens (e ∷ es) = not (eqb e.token 0) && some_tokens es
 
-found_some : (p : ℕ → List ℕ → Bool) (es : List Entry) (k : ℕ) {i u token : ℕ} → T (some_tokens es) → first_that p es k ≡ Word i u token → eqb token 0 ≡ false
+found_some : (p : ℕ → List ℕ → Bool) (es : List Entry) (k : ℕ) {m : Match} → T (some_tokens es) → first_that p es k ≡ Some m → eqb m.token 0 ≡ false
 unfolding first_that some_tokens
 found_some p [] k t e = let z : ◌≡◌ {A = ℕ} 0 1 = cc in absurd (omega arith)
-found_some p (x ∷ es) k {i} {u} {token} t e = go (p k x.word) e (found_some p es (suc k) (and_right (not (eqb x.token 0)) _ t))
+found_some p (x ∷ es) k {m} t e = go (p k x.word) e (found_some p es (suc k) (and_right (not (eqb x.token 0)) _ t))
   where
-    go : (r : Bool) → elim r [ true ↦ Word k (length x.word) x.token | false ↦ first_that p es (suc k) ] ≡ Word i u token
-        → (first_that p es (suc k) ≡ Word i u token → eqb token 0 ≡ false) → eqb token 0 ≡ false
-    go true q f = let z : x.token ≡ token = cc in rw (← z) (not-true _ (T_true _ (and_left (not (eqb x.token 0)) _ t)))
+    go : (r : Bool) → elim r [ true ↦ Some (record { index = k; used = length x.word; token = x.token }) | false ↦ first_that p es (suc k) ] ≡ Some m
+        → (first_that p es (suc k) ≡ Some m → eqb m.token 0 ≡ false) → eqb m.token 0 ≡ false
+    go true q f = let z : x.token ≡ m.token = cc in rw (← z) (not-true _ (T_true _ (and_left (not (eqb x.token 0)) _ t)))
     go false q f = f q
 
 operator_some : (b : ℕ) → eqb b 0 ≡ false → eqb (plain_byte b) 0 ≡ false
 unfolding plain_byte word_in some_tokens operators
 operator_some b n = go (word_in operators (b ∷ [])) refl (eqb b 0x3F)
   where
-    go : (w : Option Match) → word_in operators (b ∷ []) ≡ w → (q : Bool) → eqb (elim w [ Word i u k ↦ k | Nothing ↦ cond q 0x99 b ]) 0 ≡ false
-    go (Word i u k) e q = found_some (λ n w. passes Begins w (b ∷ [])) operators 0 tt e
-    go Nothing e true = refl
-    go Nothing e false = n
+    go : (w : Option Match) → word_in operators (b ∷ []) ≡ w → (q : Bool) → eqb (elim w [ Some m ↦ m.token | None ↦ cond q 0x99 b ]) 0 ≡ false
+    go (Some m) e q = found_some (λ n w. passes Begins w (b ∷ [])) operators 0 tt e
+    go None e true = refl
+    go None e false = n
 
 zero_alone : (m : Mode) (b : ℕ) → eqb (short_byte m b) 0 ≡ eqb b 0
 unfolding short_byte lettered upper plain_byte
@@ -124,17 +124,18 @@ zero_alone DataQuote b = zero_as b upper refl (upper_some b)
 -- ---- what a step writes
 
 module _ (o : Move) where
-  pub writes_none : o.count ≡ 0 → false ≡ holds_zero (written o)
+  pub writes_none : o.count ≤ 0 → ltb 0 o.count ≡ holds_zero (written o)
   unfolding written holds_zero
-  writes_none e =
-      sym (zero_prefix o.prefixed (replicate o.count o.byte) ∙ ap (λ (n : ℕ). holds_zero (replicate n o.byte)) e)
+  writes_none h =
+      let e : o.count ≡ 0 = omega arith in
+      le-ltb 0 o.count h ∙ sym (zero_prefix o.prefixed (replicate o.count o.byte) ∙ ap (λ (n : ℕ). holds_zero (replicate n o.byte)) e)
 
-  pub writes_some : (o.count ≡ 0 → ⊥) → eqb o.byte 0 ≡ holds_zero (written o)
+  pub writes_some : 0 < o.count → eqb o.byte 0 ≡ holds_zero (written o)
   unfolding written
   writes_some h = go o.count refl
     where
       go : (n : ℕ) → o.count ≡ n → eqb o.byte 0 ≡ holds_zero (written o)
-      go zero e = absurd (h e)
+      go zero e = absurd (omega arith)
       go (suc n) e =
           sym (zero_prefix o.prefixed (replicate o.count o.byte) ∙ ap (λ (i : ℕ). holds_zero (replicate i o.byte)) e ∙ zero_copies n o.byte)
 

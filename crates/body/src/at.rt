@@ -41,9 +41,11 @@ pub fn step_at(text: &[u8], from: Stand, words: Words, sets: Sets) -> Stepped
     requires { (from.at < length text.now) × Spans text.now from.at from.span }
     ensures { (result.step ≡ crunch_step (lexicon sets) from.mode (drop from.at text.now)) × Spans text.now from.at result.span }
 {
-    let at = from.at;
-    let mode = from.mode;
-    let known = from.span;
+    let Stand {
+        at,
+        mode,
+        span: known,
+    } = from;
     let b = text[at];
     if short::is_short(mode, b) {
         let next = short::mode_behind(mode, b);

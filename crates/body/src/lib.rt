@@ -42,8 +42,7 @@ pub fn measure_body(text: &[u8], words: Words, sets: Sets) -> usize
                 return n;
             }
             at += m.used;
-            let next = m.mode;
-            mode = next;
+            mode = m.mode;
         }
     }
     n
@@ -57,10 +56,7 @@ pub fn bound_body(text: &[u8], words: Words, sets: Sets) -> usize
     if may_repeat(text) {
         return measure_body(text, words, sets);
     }
-    if text.len() <= 65536 {
-        return text.len();
-    }
-    65536
+    text.len().min(65536)
 }
 
 // Whether a } stands behind a *: without that no escape has a count.
@@ -77,23 +73,13 @@ fn longer(n: usize, m: Move) -> usize
     requires { n < 65536 }
     ensures { result ≡ min (n + length (written m)) 65536 }
 {
-    let begun = behind_prefix(n, m.prefixed);
+    let begun = n + usize::from(m.prefixed);
     let room = 65536 - begun;
     let count = m.count as usize;
     if room <= count {
         return 65536;
     }
     begun + count
-}
-
-fn behind_prefix(n: usize, prefixed: bool) -> usize
-    requires { n < 65536 }
-    ensures { result ≡ n + length (prefix_of prefixed) }
-{
-    if prefixed {
-        return n + 1;
-    }
-    n
 }
 
 // Writes a body at the start of a buffer that has room for it, and answers its length. Its loop is that of `measure_body` with a store in the
@@ -118,8 +104,7 @@ pub fn write_body(out: &mut [u8], text: &[u8], words: Words, sets: Sets) -> usiz
             let m = step::step(text, at, span, words, sets);
             n = put_move(out, n, m);
             at += m.used;
-            let next = m.mode;
-            mode = next;
+            mode = m.mode;
         }
     }
     n
@@ -154,10 +139,7 @@ fn fill(out: &mut [u8], at: usize, byte: u8, count: usize) -> usize
     requires { Room out.old at (replicate count byte) }
     ensures { Put out.old at (replicate count byte) result out.new }
 {
-    let mut k: usize = 0;
-    while k < count {
-        out[at + k] = byte;
-        k += 1;
-    }
-    at + k
+    let to = at + count;
+    out[at..to].fill(byte);
+    to
 }

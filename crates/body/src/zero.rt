@@ -32,8 +32,7 @@ pub fn holds_zero(text: &[u8], words: Words, sets: Sets) -> bool
                 return true;
             }
             at += m.used;
-            let next = m.mode;
-            mode = next;
+            mode = m.mode;
         }
     }
     false
@@ -43,8 +42,5 @@ pub fn holds_zero(text: &[u8], words: Words, sets: Sets) -> bool
 fn writes_zero(m: Move) -> bool
     ensures { result ≡ holds_zero (written m) }
 {
-    if m.count == 0 {
-        return false;
-    }
-    m.byte == 0
+    m.count > 0 && m.byte == 0
 }

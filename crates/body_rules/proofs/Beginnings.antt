@@ -14,7 +14,7 @@ use Rattle.base_ascii.specs.Bytes.{upper, between, is_letter}
 use Rattle.word_search.specs.Compare.{begins}
 use Rattle.word_search.specs.Find.{Entry, first_that, word_in, among_in}
 use Rattle.word_search.specs.declared.Match.{Match}
-use Rattle.word_search.specs.declared.Match.TheVariants.{Word, Nothing}
+use Rattle.std.specs.Prelude.{Option, Some, None}
 use Rattle.word_search.proofs.Search.{and_left, and_right}
 use Rattle.word_search.proofs.Sameness.{T_true}
 use Rattle.word_tables.specs.Rom.{v2_words, operators as operator_words}
@@ -82,7 +82,7 @@ pub record Takes (t : List ℕ) (used : ℕ) : Type 0 where
   pub most : used ≤ length t
 
 module _ (t : List ℕ) (p : ℕ → List ℕ → Bool) (holds : (k : ℕ) (w : List ℕ) → p k w ≡ true → begins w t ≡ true) (r : Bool) where
-  pub none_found : (es : List Entry) (k : ℕ) → T (all_start r es) → is_letter (first t) ≡ not r → first_that p es k ≡ Nothing
+  pub none_found : (es : List Entry) (k : ℕ) → T (all_start r es) → is_letter (first t) ≡ not r → first_that p es k ≡ None
   unfolding first_that all_start
   none_found [] k a n = refl
   none_found (e ∷ es) k a n = go (p k e.word) refl (none_found es (suc k) (and_right (starts_as r e.word) _ a) n)
@@ -91,21 +91,21 @@ module _ (t : List ℕ) (p : ℕ → List ℕ → Bool) (holds : (k : ℕ) (w : 
       differ true q = true≢false q
       differ false q = false≢true q
 
-      go : (b : Bool) → p k e.word ≡ b → first_that p es (suc k) ≡ Nothing
-          → elim b [ true ↦ Word k (length e.word) e.token | false ↦ first_that p es (suc k) ] ≡ Nothing
+      go : (b : Bool) → p k e.word ≡ b → first_that p es (suc k) ≡ None
+          → ◌≡◌ {A = Option Match} (elim b [ true ↦ Some (record { index = k; used = length e.word; token = e.token }) | false ↦ first_that p es (suc k) ]) None
       go true q h = absurd (differ r (sym (begins_kind r e.word t (and_left (starts_as r e.word) _ a) (holds k e.word q)) ∙ n))
       go false q h = h
 
-  pub found_takes : (es : List Entry) (k : ℕ) → T (all_start r es) → {i u token : ℕ} → first_that p es k ≡ Word i u token → Takes t u
+  pub found_takes : (es : List Entry) (k : ℕ) → T (all_start r es) → {m : Match} → first_that p es k ≡ Some m → Takes t m.used
   unfolding first_that all_start
-  found_takes [] k a {i} {u} {token} q = let z : ◌≡◌ {A = ℕ} 0 1 = cc in absurd (omega arith)
-  found_takes (e ∷ es) k a {i} {u} {token} q = go (p k e.word) refl q (found_takes es (suc k) (and_right (starts_as r e.word) _ a))
+  found_takes [] k a {m} q = let z : ◌≡◌ {A = ℕ} 0 1 = cc in absurd (omega arith)
+  found_takes (e ∷ es) k a {m} q = go (p k e.word) refl q (found_takes es (suc k) (and_right (starts_as r e.word) _ a))
     where
       go : (b : Bool) → p k e.word ≡ b
-          → elim b [ true ↦ Word k (length e.word) e.token | false ↦ first_that p es (suc k) ] ≡ Word i u token
-          → (first_that p es (suc k) ≡ Word i u token → Takes t u) → Takes t u
+          → elim b [ true ↦ Some (record { index = k; used = length e.word; token = e.token }) | false ↦ first_that p es (suc k) ] ≡ Some m
+          → (first_that p es (suc k) ≡ Some m → Takes t m.used) → Takes t m.used
       go true g h f =
-          let size : length e.word ≡ u = cc in
+          let size : length e.word ≡ m.used = cc in
           record {
             more = omega (arith, starts_some r e.word (and_left (starts_as r e.word) _ a));
             most = omega (arith, begins_long e.word t (holds k e.word g));
@@ -119,35 +119,35 @@ and_second true b q = q
 and_second false b q = absurd (false≢true q)
 
 module _ (r : Bool) (es : List Entry) (a : T (all_start r es)) (t : List ℕ) where
-  pub word_none : is_letter (first t) ≡ not r → word_in es t ≡ Nothing
+  pub word_none : is_letter (first t) ≡ not r → word_in es t ≡ None
   unfolding word_in
   word_none n = none_found t (λ k w. begins w t) (λ k w q. q) r es 0 a n
 
-  pub word_takes : {i u token : ℕ} → word_in es t ≡ Word i u token → Takes t u
+  pub word_takes : {m : Match} → word_in es t ≡ Some m → Takes t m.used
   unfolding word_in
   word_takes q = found_takes t (λ k w. begins w t) (λ k w g. g) r es 0 a q
 
   module _ (set : ℕ → Bool) where
-    among_none : is_letter (first t) ≡ not r → among_in set es t ≡ Nothing
+    among_none : is_letter (first t) ≡ not r → among_in set es t ≡ None
     unfolding among_in
     among_none n = none_found t (λ k w. set k && begins w t) (λ k w q. and_second (set k) (begins w t) q) r es 0 a n
 
-    among_takes : {i u token : ℕ} → among_in set es t ≡ Word i u token → Takes t u
+    among_takes : {m : Match} → among_in set es t ≡ Some m → Takes t m.used
     unfolding among_in
     among_takes q = found_takes t (λ k w. set k && begins w t) (λ k w g. and_second (set k) (begins w t) g) r es 0 a q
 
   module _ (s : Sets) where
-    pub live_none : is_letter (first t) ≡ not r → live_word s es t ≡ Nothing
+    pub live_none : is_letter (first t) ≡ not r → live_word s es t ≡ None
     unfolding live_word
     live_none n = rw (live_word, among_none (is_demoted s) n, among_none (is_live s) n)
 
-    pub live_takes : {i u token : ℕ} → live_word s es t ≡ Word i u token → Takes t u
+    pub live_takes : {m : Match} → live_word s es t ≡ Some m → Takes t m.used
     unfolding live_word
-    live_takes {i} {u} {token} e = go (among_in (is_demoted s) es t) e
+    live_takes {m} e = go (among_in (is_demoted s) es t) e
       where
-        go : (d : Option Match) → elim d [ Word j v c ↦ Nothing | Nothing ↦ among_in (is_live s) es t ] ≡ Word i u token → Takes t u
-        go (Word j v c) q = let z : ◌≡◌ {A = ℕ} 0 1 = cc in absurd (omega arith)
-        go Nothing q = among_takes (is_live s) q
+        go : (d : Option Match) → elim d [ Some w ↦ None | None ↦ among_in (is_live s) es t ] ≡ Some m → Takes t m.used
+        go (Some w) q = let z : ◌≡◌ {A = ℕ} 0 1 = cc in absurd (omega arith)
+        go None q = among_takes (is_live s) q
 
 -- ---- the documents' lists
 
@@ -187,10 +187,10 @@ module _ (l : Lexicon) (g : T (proper l)) where
   operators_start = and_right (all_start true l.basic35) _ (and_right (all_start true l.v2) _ others_start)
 
   module _ (t : List ℕ) where
-    pub plain_word_none : is_letter (first t) ≡ false → plain_word l.sets l.v2 l.basic35 t ≡ Nothing
+    pub plain_word_none : is_letter (first t) ≡ false → plain_word l.sets l.v2 l.basic35 t ≡ None
     unfolding plain_word
     plain_word_none n = word_none true (plain_words l.sets l.v2 l.basic35) plain_start t n
 
-    pub plain_word_takes : {i u token : ℕ} → plain_word l.sets l.v2 l.basic35 t ≡ Word i u token → Takes t u
+    pub plain_word_takes : {m : Match} → plain_word l.sets l.v2 l.basic35 t ≡ Some m → Takes t m.used
     unfolding plain_word
     plain_word_takes e = word_takes true (plain_words l.sets l.v2 l.basic35) plain_start t e

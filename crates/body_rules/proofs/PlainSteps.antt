@@ -2,16 +2,16 @@
 -- Assumes nothing.
 use Prim.Native.Nat.{ℕ, ◌≤◌}
 use mathlib.Core.Path.{◌≡◌, refl, sym, ap, ◌∙◌}
-use mathlib.Core.Bool.{Bool, true, false, not, false≢true}
+use mathlib.Core.Bool.{Bool, true, false, false≢true}
 use mathlib.Core.List.{List}
 use native.Mathlib.Omega.{arith}
 use lib.Dec.{T, eqb}
 use lib.ListN.{length, get_or, get_or-eq_default}
-use borrow.Author.Tests.{eq-eqb, ne_eqb, not-true}
+use borrow.Author.Tests.{eq-eqb, ne_eqb}
 use Rattle.base_ascii.specs.Bytes.{upper, between, is_letter}
 use Rattle.word_search.specs.Find.{word_in}
 use Rattle.word_search.specs.declared.Match.{Match}
-use Rattle.word_search.specs.declared.Match.TheVariants.{Word, Nothing}
+use Rattle.std.specs.Prelude.{Option, Some, None}
 use Rattle.word_match.specs.Sets.{live_word, plain_word}
 use Rattle.body_short_forms.specs.Forms.{form_word}
 use Rattle.body_short_forms.proofs.Standing.{form_letter}
@@ -70,7 +70,7 @@ letter_raised : (t : List ℕ) {r : Move} {b : ℕ} → r ≡ one b Plain → b 
 unfolding between upper
 letter_raised t q u a = other_raised t q u (letter_no (first t) 0xCF refl a) (letter_no (first t) 0x3F refl a)
 
-no_tsb : (l : Lexicon) (t : List ℕ) → T (proper l) → is_letter (first t) ≡ false → live_word l.sets l.tsb t ≡ Nothing
+no_tsb : (l : Lexicon) (t : List ℕ) → T (proper l) → is_letter (first t) ≡ false → live_word l.sets l.tsb t ≡ None
 no_tsb l t g a = live_none true l.tsb (tsb_start l g) t l.sets a
 
 module _ (l : Lexicon) (t : List ℕ) {r : Move} where
@@ -80,42 +80,42 @@ module _ (l : Lexicon) (t : List ℕ) {r : Move} where
 
   -- a letter: m is the live TSB word there, v the V2 word or that of BASIC 3.5
   module _ {m : Option Match} where
-    pub letter_tsb : {i u k : ℕ} → r ≡ token true k Plain u → m ≡ Word i u k → m ≡ live_word l.sets l.tsb t → is_letter (first t) ≡ true → r ≡ plain_step l t
+    pub letter_tsb : {w : Match} → r ≡ token true w.token Plain w.used → m ≡ Some w → m ≡ live_word l.sets l.tsb t → is_letter (first t) ≡ true → r ≡ plain_step l t
     unfolding plain_step
     letter_tsb q e p a = rw (plain_step, letter_no_quote _ a, sym p ∙ e) q
 
-    pub letter_plain : {v : Option Match} {i u k : ℕ} {behind : Mode} → r ≡ token false k behind u → behind ≡ opened k → v ≡ Word i u k → v ≡ plain_word l.sets l.v2 l.basic35 t
-        → m ≡ Nothing → m ≡ live_word l.sets l.tsb t → is_letter (first t) ≡ true → r ≡ plain_step l t
+    pub letter_plain : {v : Option Match} {w : Match} {behind : Mode} → r ≡ token false w.token behind w.used → behind ≡ opened w.token → v ≡ Some w → v ≡ plain_word l.sets l.v2 l.basic35 t
+        → m ≡ None → m ≡ live_word l.sets l.tsb t → is_letter (first t) ≡ true → r ≡ plain_step l t
     unfolding plain_step
     letter_plain q o e p n live a = rw (plain_step, letter_no_quote _ a, sym live ∙ n, sym p ∙ e, ← o) q
 
-    pub letter_left : {v : Option Match} → r ≡ form_step l t → v ≡ Nothing → v ≡ plain_word l.sets l.v2 l.basic35 t → m ≡ Nothing → m ≡ live_word l.sets l.tsb t → is_letter (first t) ≡ true → r ≡ plain_step l t
+    pub letter_left : {v : Option Match} → r ≡ form_step l t → v ≡ None → v ≡ plain_word l.sets l.v2 l.basic35 t → m ≡ None → m ≡ live_word l.sets l.tsb t → is_letter (first t) ≡ true → r ≡ plain_step l t
     unfolding plain_step
     letter_left q e p n live a = rw (plain_step, letter_no_quote _ a, sym live ∙ n, sym p ∙ e) q
 
     -- no whole word: f is the short form there
-    pub letter_form : {i n k : ℕ} {behind : Mode} → r ≡ token false k behind n → behind ≡ opened k → m ≡ Word i n k → m ≡ form_word l.sets l.tsb l.v2 t → r ≡ form_step l t
+    pub letter_form : {w : Match} {behind : Mode} → r ≡ token false w.token behind w.used → behind ≡ opened w.token → m ≡ Some w → m ≡ form_word l.sets l.tsb l.v2 t → r ≡ form_step l t
     unfolding form_step
     letter_form q o e p = rw (form_step, sym p ∙ e, ← o) q
 
-    pub letter_other : {b : ℕ} → r ≡ one b Plain → b ≡ upper (first t) → m ≡ Nothing → m ≡ form_word l.sets l.tsb l.v2 t → is_letter (first t) ≡ true → T (proper l) → r ≡ form_step l t
+    pub letter_other : {b : ℕ} → r ≡ one b Plain → b ≡ upper (first t) → m ≡ None → m ≡ form_word l.sets l.tsb l.v2 t → is_letter (first t) ≡ true → T (proper l) → r ≡ form_step l t
     unfolding form_step sign_step
     letter_other q u e p a g = rw (form_step, sym p ∙ e, sign_step, word_none false l.operators (operators_start l g) t a) (letter_raised t q u a)
 
   -- no short form is looked for
-  pub letter_alone : {b : ℕ} → r ≡ one b Plain → b ≡ upper (first t) → not l.sets.forms ≡ true → is_letter (first t) ≡ true → T (proper l) → r ≡ form_step l t
+  pub letter_alone : {b : ℕ} → r ≡ one b Plain → b ≡ upper (first t) → l.sets.forms ≡ false → is_letter (first t) ≡ true → T (proper l) → r ≡ form_step l t
   unfolding form_word
-  letter_alone q u e a g = letter_other {m = Nothing} q u refl (rw (form_word, not-true l.sets.forms e)) a g
+  letter_alone q u e a g = letter_other {m = None} q u refl (rw (form_word, e)) a g
 
   -- another byte: w is the operator there
   module _ {w : Option Match} {x : Bool} where
-    pub other_operator : {i u k : ℕ} → r ≡ token false k Plain u → w ≡ Word i u k → w ≡ word_in l.operators t → x ≡ false → x ≡ is_letter (first t)
+    pub other_operator : {sign : Match} → r ≡ token false sign.token Plain sign.used → w ≡ Some sign → w ≡ word_in l.operators t → x ≡ false → x ≡ is_letter (first t)
         → (first t ≡ 0x22 → ⊥) → T (proper l) → r ≡ plain_step l t
     unfolding plain_step form_step sign_step
     other_operator q e p n i s g =
         rw (plain_step, ne_eqb _ _ s, no_tsb l t g (sym i ∙ n), plain_word_none l g t (sym i ∙ n), form_step, form_letter l.sets l.tsb l.v2 t (sym i ∙ n), sign_step, sym p ∙ e) q
 
-    pub other_none : r ≡ other_step t → w ≡ Nothing → w ≡ word_in l.operators t → x ≡ false → x ≡ is_letter (first t)
+    pub other_none : r ≡ other_step t → w ≡ None → w ≡ word_in l.operators t → x ≡ false → x ≡ is_letter (first t)
         → (first t ≡ 0x22 → ⊥) → T (proper l) → r ≡ plain_step l t
     unfolding plain_step form_step sign_step
     other_none q e p n i s g =

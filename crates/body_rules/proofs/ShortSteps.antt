@@ -5,6 +5,7 @@ use Prim.Native.Nat.{ℕ, suc, ◌-◌, ◌≤◌, ◌<◌}
 use mathlib.Core.Path.{◌≡◌, refl, sym, ap, ◌∙◌}
 use mathlib.Core.Bool.{Bool, true, false, cond, not, ◌&&◌, ◌||◌, false≢true, true≢false}
 use mathlib.Core.List.{List, [], ◌∷◌}
+use mathlib.Core.Logic.{◌⊎◌, inl, inr}
 use native.Mathlib.Omega.{arith}
 use lib.Dec.{eqb}
 use lib.ListN.{length, get_or, take, drop, length-drop}
@@ -16,7 +17,7 @@ use Rattle.word_search.specs.Compare.{begins, passes}
 use Rattle.word_search.specs.Find.{Entry, first_that, word_in}
 use Rattle.word_search.specs.declared.Test.TheVariants.{Begins}
 use Rattle.word_search.specs.declared.Match.{Match}
-use Rattle.word_search.specs.declared.Match.TheVariants.{Word, Nothing}
+use Rattle.std.specs.Prelude.{Option, Some, None}
 use Rattle.word_tables.specs.Rom.{operators}
 use Rattle.word_match.specs.declared.sets.Sets.{Sets}
 use Rattle.body_rules.specs.Lexicon.{lexicon}
@@ -37,9 +38,6 @@ module _ {m x : Mode} (b : ℕ) (e : m ≡ x) where
   pub byte_in : {r : ℕ} → r ≡ short_byte x b → r ≡ short_byte m b
   byte_in q = q ∙ ap (λ (y : Mode). short_byte y b) (sym e)
 
-  pub behind_in : {r : Mode} → r ≡ short_mode x b → r ≡ short_mode m b
-  behind_in q = q ∙ ap (λ (y : Mode). short_mode y b) (sym e)
-
   pub known_in : is_short m b ≡ true → is_short x b ≡ true
   known_in q = ap (λ (y : Mode). is_short y b) (sym e) ∙ q
 
@@ -47,7 +45,7 @@ pub short_known : {x : Bool} (m : Mode) (b : ℕ) → x ≡ true → x ≡ is_sh
 short_known m b t e = sym e ∙ t
 
 module _ {b : ℕ} where
-  pub short_pi : b ≡ 0xCF → false ≡ is_short Plain b
+  pub short_pi : b ≡ 0xCF → not (eqb b 0xCF) ≡ is_short Plain b
   unfolding is_short
   short_pi e = rw e
 
@@ -55,9 +53,44 @@ module _ {b : ℕ} where
   unfolding is_short
   short_letter e n = rw (is_short, ne_eqb _ _ n, e)
 
-pub behind_data : (b : ℕ) {r q : Mode} → r ≡ cond (eqb b 0x22) DataQuote q → q ≡ cond (eqb b 0x3A) Plain Data → r ≡ short_mode Data b
-unfolding short_mode
-behind_data b e f = e ∙ ap (cond (eqb b 0x22) DataQuote) f
+module _ {m : Mode} (b : ℕ) where
+  pub short_always : (m ≡ Remark) ⊎ ((m ≡ Data) ⊎ (m ≡ DataQuote)) → true ≡ is_short m b
+  unfolding is_short
+  short_always (inl e) = short_in b e refl
+  short_always (inr (inl e)) = short_in b e refl
+  short_always (inr (inr e)) = short_in b e refl
+
+  pub byte_raised : {r : ℕ} → (m ≡ Data) ⊎ (m ≡ DataQuote) → r ≡ upper b → r ≡ short_byte m b
+  unfolding short_byte
+  byte_raised (inl e) q = byte_in b e q
+  byte_raised (inr e) q = byte_in b e q
+
+  -- the mode behind it: at a byte that changes it, and at any other
+  pub behind_at : {x r : Mode} {k : ℕ} → m ≡ x → b ≡ k → r ≡ short_mode x k → r ≡ short_mode m b
+  behind_at e f q = rw (e, f) q
+
+  stays : {x : Mode} → m ≡ x → x ≡ short_mode x b → m ≡ short_mode m b
+  stays e q = rw e q
+
+  pub stays_plain : m ≡ Plain → (b ≡ 0x22 → ⊥) → m ≡ short_mode m b
+  unfolding short_mode
+  stays_plain e n = stays e (rw (short_mode, ne_eqb _ _ n))
+
+  pub stays_string : m ≡ String → (b ≡ 0x22 → ⊥) → m ≡ short_mode m b
+  unfolding short_mode
+  stays_string e n = stays e (rw (short_mode, ne_eqb _ _ n))
+
+  pub stays_data : m ≡ Data → (b ≡ 0x22 → ⊥) → (b ≡ 0x3A → ⊥) → m ≡ short_mode m b
+  unfolding short_mode
+  stays_data e n k = stays e (rw (short_mode, ne_eqb _ _ n, ne_eqb _ _ k))
+
+  pub stays_data_quote : m ≡ DataQuote → (b ≡ 0x22 → ⊥) → m ≡ short_mode m b
+  unfolding short_mode
+  stays_data_quote e n = stays e (rw (short_mode, ne_eqb _ _ n))
+
+  pub stays_remark : m ≡ Remark → m ≡ short_mode m b
+  unfolding short_mode
+  stays_remark e = stays e refl
 
 -- ---- a short byte in plain mode
 
@@ -107,13 +140,13 @@ module _ (s : Sets) (b : ℕ) (u : List ℕ) (p : eqb b 0xCF ≡ false) (n : is_
   quote_alone e = plain_quote (lexicon s) (b ∷ u) (ap (λ (c : ℕ). one c String) (rw e)) e
 
   operator_or_other : (w : Option Match) → w ≡ word_in operators (b ∷ []) → (b ≡ 0x22 → ⊥)
-      → one (elim w [ Word i v k ↦ k | Nothing ↦ cond (eqb b 0x3F) 0x99 b ]) Plain ≡ plain_step (lexicon s) (b ∷ u)
-  operator_or_other (Word i v k) f q =
-      let r : Takes (b ∷ []) v = word_takes false operators (operators_start (lexicon s) (document_proper s)) (b ∷ []) (sym f) in
-      let z : 1 ≡ v = omega (arith, r.more, r.most) in
-      other_operator (lexicon s) (b ∷ u) {w = Word i v k} (ap (token false k Plain) z) refl (f ∙ sym (operator_alone b u)) refl (sym n) q (document_proper s)
-  operator_or_other Nothing f q =
-      other_none (lexicon s) (b ∷ u) {w = Nothing} plain_other refl (f ∙ sym (operator_alone b u)) refl (sym n) q (document_proper s)
+      → one (elim w [ Some m ↦ m.token | None ↦ cond (eqb b 0x3F) 0x99 b ]) Plain ≡ plain_step (lexicon s) (b ∷ u)
+  operator_or_other (Some m) f q =
+      let r : Takes (b ∷ []) m.used = word_takes false operators (operators_start (lexicon s) (document_proper s)) (b ∷ []) (sym f) in
+      let z : 1 ≡ m.used = omega (arith, r.more, r.most) in
+      other_operator (lexicon s) (b ∷ u) {w = Some m} (ap (token false m.token Plain) z) refl (f ∙ sym (operator_alone b u)) refl (sym n) q (document_proper s)
+  operator_or_other None f q =
+      other_none (lexicon s) (b ∷ u) {w = None} plain_other refl (f ∙ sym (operator_alone b u)) refl (sym n) q (document_proper s)
 
   plain_alone : one (plain_byte b) (cond (eqb b 0x22) String Plain) ≡ plain_step (lexicon s) (b ∷ u)
   unfolding plain_byte
@@ -139,21 +172,21 @@ unfolding operators upper between
 operator_list = refl
 
 module _ (b : ℕ) (own : upper b ≡ b) where
-  passed : (x k : ℕ) (es : List Entry) (i : ℕ) → upper x ≡ x → (b ≡ x → ⊥) → first_that (λ n w. passes Begins w (b ∷ [])) es (suc i) ≡ Nothing
-      → first_that (λ n w. passes Begins w (b ∷ [])) (sign x k ∷ es) i ≡ Nothing
+  passed : (x k : ℕ) (es : List Entry) (i : ℕ) → upper x ≡ x → (b ≡ x → ⊥) → first_that (λ n w. passes Begins w (b ∷ [])) es (suc i) ≡ None
+      → first_that (λ n w. passes Begins w (b ∷ [])) (sign x k ∷ es) i ≡ None
   unfolding first_that passes begins
   passed x k es i p n r =
       let apart : eqb (upper x) (upper b) ≡ false = ap (λ (y : ℕ). eqb y (upper b)) p ∙ ap (eqb x) own ∙ ne_eqb x b (λ e. n (sym e)) in
-      ap (λ (y : Bool). elim (elim y as (λ z. Bool) [ true ↦ true | false ↦ false ]) as (λ z. Match) [
-        | true ↦ Word i 1 k
+      ap (λ (y : Bool). elim (elim y as (λ z. Bool) [ true ↦ true | false ↦ false ]) as (λ z. Option Match) [
+        | true ↦ Some (record { index = i; used = 1; token = k })
         | false ↦ first_that (λ j w. passes Begins w (b ∷ [])) es (suc i)
       ]) apart ∙ r
 
-  ended : (i : ℕ) → first_that (λ n w. passes Begins w (b ∷ [])) [] i ≡ Nothing
+  ended : (i : ℕ) → first_that (λ n w. passes Begins w (b ∷ [])) [] i ≡ None
   unfolding first_that
   ended i = refl
 
-  none_first : Apart (0x3C ∷ 0x3D ∷ 0x3E ∷ 0x5E ∷ 0x2F ∷ 0x2A ∷ 0x2D ∷ 0x2B ∷ []) b → first_that (λ n w. passes Begins w (b ∷ [])) signs 0 ≡ Nothing
+  none_first : Apart (0x3C ∷ 0x3D ∷ 0x3E ∷ 0x5E ∷ 0x2F ∷ 0x2A ∷ 0x2D ∷ 0x2B ∷ []) b → first_that (λ n w. passes Begins w (b ∷ [])) signs 0 ≡ None
   unfolding upper between
   none_first a =
       passed 0x2B 0xAA _ 0 refl a.0.0.0.0.0.0.0.1 (passed 0x2D 0xAB _ 1 refl a.0.0.0.0.0.0.1
@@ -161,7 +194,7 @@ module _ (b : ℕ) (own : upper b ≡ b) where
       (passed 0x5E 0xAE _ 4 refl a.0.0.0.1 (passed 0x3E 0xB1 _ 5 refl a.0.0.1
       (passed 0x3D 0xB2 _ 6 refl a.0.1 (passed 0x3C 0xB3 _ 7 refl a.1 (ended 8))))))))
 
-  none : Apart (0x3C ∷ 0x3D ∷ 0x3E ∷ 0x5E ∷ 0x2F ∷ 0x2A ∷ 0x2D ∷ 0x2B ∷ []) b → word_in operators (b ∷ []) ≡ Nothing
+  none : Apart (0x3C ∷ 0x3D ∷ 0x3E ∷ 0x5E ∷ 0x2F ∷ 0x2A ∷ 0x2D ∷ 0x2B ∷ []) b → word_in operators (b ∷ []) ≡ None
   unfolding word_in
   none a = ap (λ (es : List Entry). word_in es (b ∷ [])) operator_list ∙ none_first a
 
@@ -169,7 +202,7 @@ pub no_operator : (b : ℕ) → is_short Plain b ≡ true → Apart (0x3F ∷ 0x
 unfolding plain_byte
 no_operator b e a = go (word_in operators (b ∷ [])) (none b (own_capital b (plain_known b e).1) a.0)
   where
-    go : (w : Option Match) → w ≡ Nothing → b ≡ elim w [ Word i v k ↦ k | Nothing ↦ cond (eqb b 0x3F) 0x99 b ]
+    go : (w : Option Match) → w ≡ None → b ≡ elim w [ Some m ↦ m.token | None ↦ cond (eqb b 0x3F) 0x99 b ]
     go w q = rw (q, ne_eqb _ _ a.1)
 
 -- ---- the law
@@ -243,10 +276,10 @@ pi_step : (s : Sets) (t : List ℕ) {r : Move} → r ≡ other_step t → 0 < le
 unfolding operators word_in upper between
 pi_step s [] q h e = absurd (omega arith)
 pi_step s (b ∷ u) q h e =
-    let none : Nothing ≡ word_in operators (b ∷ []) = rw e in
+    let none : None ≡ word_in operators (b ∷ []) = rw e in
     let letter : false ≡ is_letter b = rw e in
     long_other s (b ∷ u)
-    (other_none (lexicon s) (b ∷ u) {w = Nothing} q refl (none ∙ sym (operator_alone b u)) refl letter (λ x. absurd (omega (arith, x, e))) (document_proper s))
+    (other_none (lexicon s) (b ∷ u) {w = None} q refl (none ∙ sym (operator_alone b u)) refl letter (λ x. absurd (omega (arith, x, e))) (document_proper s))
     (λ x. absurd (omega (arith, x, e)))
 
 letter_left : (b : ℕ) → is_long b ≡ true → (b ≡ 0x7B → ⊥) → (b ≡ 0xCF → ⊥) → is_letter b ≡ true

@@ -4,7 +4,7 @@
 use Rattle.std.specs.Prelude.{ℕ, Bool, true, false, cond, not, ◌&&◌, ◌||◌, List, [], ◌∷◌, eqb}
 use Rattle.base_ascii.specs.Bytes.{upper, between, is_letter}
 use Rattle.word_search.specs.Find.{word_in}
-use Rattle.std.specs.Prelude.{Option, Some, None}
+use Rattle.std.specs.Prelude.{Some, None}
 use Rattle.word_tables.specs.Rom.{operators}
 use Rattle.body_rules.specs.Lexicon.{Lexicon}
 use Rattle.body_rules.specs.Steps.{first, lettered, plain_step, string_step}

@@ -57,11 +57,9 @@ pub fn token(prefixed: bool, byte: u8, mode: Mode, used: usize) -> Move
 pub fn opened(token: u8) -> Mode
     ensures { result ≡ opened_by token }
 {
-    if token == 0x8F {
-        return Mode::Remark;
+    match token {
+        0x8F => Mode::Remark,
+        0x83 => Mode::Data,
+        _ => Mode::Plain,
     }
-    if token == 0x83 {
-        return Mode::Data;
-    }
-    Mode::Plain
 }

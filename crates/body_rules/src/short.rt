@@ -1,5 +1,5 @@
 // Bytes that give one byte by themselves, whatever stands behind them.
-ghost use Rattle.std.specs.Prelude.{◌≡◌, true, cond, eqb};
+ghost use Rattle.std.specs.Prelude.{◌≡◌, true};
 ghost use Rattle.body_rules.specs.ShortHelpers.{is_short, plain_byte, short_byte, short_mode};
 ghost use Rattle.body_rules.specs.Steps.{lettered as lettered_of};
 
@@ -10,16 +10,9 @@ pub fn is_short(mode: Mode, b: u8) -> bool
     ensures { result ≡ is_short mode b }
 {
     match mode {
-        Mode::Plain => {
-            if b == 0xCF {
-                return false;
-            }
-            !base_ascii::is_letter(b)
-        }
+        Mode::Plain => b != 0xCF && !base_ascii::is_letter(b),
         Mode::String => b != 0x7B,
-        Mode::Remark => true,
-        Mode::Data => true,
-        Mode::DataQuote => true,
+        Mode::Remark | Mode::Data | Mode::DataQuote => true,
     }
 }
 
@@ -32,8 +25,7 @@ pub fn short_byte(mode: Mode, b: u8) -> u8
         Mode::Plain => plain_byte(b),
         Mode::String => lettered(b),
         Mode::Remark => b,
-        Mode::Data => base_ascii::upper(b),
-        Mode::DataQuote => base_ascii::upper(b),
+        Mode::Data | Mode::DataQuote => base_ascii::upper(b),
     }
 }
 
@@ -60,39 +52,23 @@ fn plain_byte(b: u8) -> u8
 fn lettered(b: u8) -> u8
     ensures { result ≡ lettered_of b }
 {
-    if base_ascii::between(97, 122, b) {
-        return b - 32;
+    match b {
+        b'a'..=b'z' => b - 32,
+        b'A'..=b'Z' => b + 0x80,
+        _ => b,
     }
-    if base_ascii::between(65, 90, b) {
-        return b + 0x80;
-    }
-    b
 }
 
 // The mode behind it.
 pub fn mode_behind(mode: Mode, b: u8) -> Mode
     ensures { result ≡ short_mode mode b }
 {
-    match mode {
-        Mode::Plain => at_byte(b, 0x22, Mode::String, Mode::Plain),
-        Mode::String => at_byte(b, 0x22, Mode::Plain, Mode::String),
-        Mode::Remark => Mode::Remark,
-        Mode::Data => at_byte(
-            b,
-            0x22,
-            Mode::DataQuote,
-            at_byte(b, 0x3A, Mode::Plain, Mode::Data),
-        ),
-        Mode::DataQuote => at_byte(b, 0x22, Mode::Data, Mode::DataQuote),
+    match (mode, b) {
+        (Mode::Plain, b'"') => Mode::String,
+        (Mode::String, b'"') => Mode::Plain,
+        (Mode::Data, b'"') => Mode::DataQuote,
+        (Mode::Data, b':') => Mode::Plain,
+        (Mode::DataQuote, b'"') => Mode::Data,
+        _ => mode,
     }
-}
-
-// One mode at a given byte, another at the others.
-fn at_byte(b: u8, given: u8, there: Mode, elsewhere: Mode) -> Mode
-    ensures { result ≡ cond (eqb b given) there elsewhere }
-{
-    if b == given {
-        return there;
-    }
-    elsewhere
 }

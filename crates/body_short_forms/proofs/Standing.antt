@@ -18,7 +18,7 @@ use Rattle.base_ascii.proofs.Searching.{front_none, front_nil, front_le, front_t
 use Rattle.word_search.specs.Compare.{begins, shortens, passes}
 use Rattle.word_search.specs.Find.{Entry, first_that, match_in, word_in}
 use Rattle.word_search.specs.declared.Match.{Match}
-use Rattle.word_search.specs.declared.Match.TheVariants.{Word, Nothing}
+use Rattle.std.specs.Prelude.{Option, Some, None, is_some}
 use Rattle.word_search.specs.declared.Test.TheVariants.{Shortens}
 use Rattle.word_search.proofs.Comparing.{raise_shortens}
 use Rattle.word_search.proofs.Search.{and_left, and_right}
@@ -32,9 +32,9 @@ use Rattle.word_match.proofs.Storage.{first_capitals}
 -- ---- the letters
 
 module _ (t : List ℕ) {n : ℕ} where
-  pub letters_none : n ≡ 0 → n ≡ front is_small t → [] ≡ form_letters t
+  pub letters_none : n ≤ 0 → n ≡ front is_small t → [] ≡ form_letters t
   unfolding form_letters
-  letters_none z e = rw (form_letters, ← e, z)
+  letters_none h e = let z : n ≡ 0 = omega arith in rw (form_letters, ← e, z)
 
   no_capital : is_capital (get_or t n 0) ≡ false → n ≡ front is_small t → [] ≡ form_letters t
   unfolding form_letters
@@ -51,13 +51,16 @@ module _ (t : List ℕ) {n : ℕ} where
   pub letters_count : n < length t → n + 1 ≡ length (take (n + 1) t)
   letters_count h = sym (length-take-le (n + 1) t (omega arith))
 
-  module _ {r : Bool} where
-    pub letters_other : not r ≡ true → r ≡ is_capital (get_or t n 0) → n ≡ front is_small t → [] ≡ form_letters t
-    letters_other f q e = no_capital (sym q ∙ not-true r f) e
+  module _ {b : ℕ} (v : b ≡ get_or t n 0) {r : Bool} where
+    pub letters_other : r ≡ false → r ≡ is_capital b → n ≡ front is_small t → [] ≡ form_letters t
+    letters_other f q e = no_capital (ap is_capital (sym v) ∙ sym q ∙ f) e
 
-    pub letters_some : not r ≡ false → r ≡ is_capital (get_or t n 0) → (n ≡ 0 → ⊥) → n ≡ front is_small t → take (n + 1) t ≡ form_letters t
+    pub letters_some : r ≡ true → r ≡ is_capital b → 0 < n → n ≡ front is_small t → take (n + 1) t ≡ form_letters t
     unfolding form_letters
-    letters_some f q z e = let some : 0 < n = omega arith in let up : n + 1 ≡ suc n = omega arith in rw (form_letters, ← e, lt-ltb 0 n some, ← q, not-false r f, up)
+    letters_some f q some e =
+        let capital : is_capital (get_or t n 0) ≡ true = ap is_capital (sym v) ∙ sym q ∙ f in
+        let up : n + 1 ≡ suc n = omega arith in
+        rw (form_letters, ← e, lt-ltb 0 n some, capital, up)
 
 -- ---- letters that stand for no word
 
@@ -74,7 +77,7 @@ v2_within = tt
 abbrev Useless : ℕ → List ℕ → Type 0
 Useless n s = (length s ≡ 0) ⊎ (n ≤ length s)
 
-none_longer : (n : ℕ) (s : List ℕ) → Useless n s → (es : List Entry) (k : ℕ) → T (all_within n es) → first_that (λ i w. passes Shortens w s) es k ≡ Nothing
+none_longer : (n : ℕ) (s : List ℕ) → Useless n s → (es : List Entry) (k : ℕ) → T (all_within n es) → first_that (λ i w. passes Shortens w s) es k ≡ None
 unfolding first_that passes all_within shortens
 none_longer n s u [] k a = refl
 none_longer n s u (e ∷ es) k a =
@@ -93,7 +96,7 @@ none_longer n s u (e ∷ es) k a =
     short (inl z) = off (ltb 0 (length s)) (ltb (length s) (length e.word)) (inl (le-ltb 0 (length s) (omega arith)))
     short (inr h) = off (ltb 0 (length s)) (ltb (length s) (length e.word)) (inr (le-ltb (length s) (length e.word) (omega (arith, within))))
 
-none_for : (s : List ℕ) → Useless 7 s → word_for v2_words s ≡ Nothing
+none_for : (s : List ℕ) → Useless 7 s → word_for v2_words s ≡ None
 unfolding word_for
 none_for s u = ap (stands_for (length s)) (none_longer 7 s u v2_words 0 v2_within)
 
@@ -141,32 +144,33 @@ module _ (t : List ℕ) {m : ℕ} {s : List ℕ} {w : Option Match} where
       let g : w ≡ match_in Shortens v2_words s = f ∙ first_capitals (λ k x. passes Shortens x s) (λ k x. raise_shortens x s) v2_words 0 in
       ap (stands_for (length s)) g ∙ ap (word_for v2_words) q ∙ cut_form t e
 
-  pub form_found : {i u k : ℕ} → w ≡ Word i u k → w ≡ match_in Shortens (capitals v2_words) s → s ≡ form_letters (take m t) → m ≡ min (length t) 7 → Word i (length s) k ≡ short_form v2_words t
-  form_found told f q e = ap (stands_for (length s)) (sym told) ∙ form_of e q f
+module _ (t : List ℕ) {m : ℕ} {s : List ℕ} where
+  pub form_found : {found : Match} → Some found ≡ match_in Shortens (capitals v2_words) s → s ≡ form_letters (take m t) → m ≡ min (length t) 7
+      → ◌≡◌ {A = Option Match} (Some (record { index = found.index; used = length s; token = found.token })) (short_form v2_words t)
+  form_found {found} f q e = form_of t {w = Some found} e q f
 
-  pub form_none : w ≡ Nothing → w ≡ match_in Shortens (capitals v2_words) s → s ≡ form_letters (take m t) → m ≡ min (length t) 7 → Nothing ≡ short_form v2_words t
-  form_none told f q e = ap (stands_for (length s)) (sym told) ∙ form_of e q f
+  pub form_none : {r : Option Match} → r ≡ None → None ≡ match_in Shortens (capitals v2_words) s → s ≡ form_letters (take m t) → m ≡ min (length t) 7 → r ≡ short_form v2_words t
+  form_none g f q e = g ∙ form_of t {w = None} e q f
 
 module _ (s : Sets) (t : List ℕ) where
-  pub tsb_off : not s.tsb ≡ true → false ≡ tsb_there s tsb_words t
+  pub tsb_off : s.tsb ≡ false → s.tsb ≡ tsb_there s tsb_words t
   unfolding tsb_there
-  tsb_off e = rw (tsb_there, not-true s.tsb e)
+  tsb_off e = rw (tsb_there, e)
 
-  module _ {w : Option Match} where
-    pub tsb_word : {i u k : ℕ} → w ≡ Word i u k → w ≡ word_in tsb_words t → not s.tsb ≡ false → true ≡ tsb_there s tsb_words t
-    unfolding tsb_there
-    tsb_word told e on = rw (tsb_there, not-false s.tsb on, ← e, told)
+  pub tsb_found : {w : Option Match} {r : Bool} → r ≡ is_some w → w ≡ word_in tsb_words t → s.tsb ≡ true → r ≡ tsb_there s tsb_words t
+  unfolding tsb_there
+  tsb_found {w} q e on = q ∙ rw (tsb_there, on, ← e) (go w)
+    where
+      go : (w : Option Match) → is_some w ≡ elim w [ Some m ↦ true | None ↦ false ]
+      go (Some m) = refl
+      go None = refl
 
-    pub tsb_none : w ≡ Nothing → w ≡ word_in tsb_words t → not s.tsb ≡ false → false ≡ tsb_there s tsb_words t
-    unfolding tsb_there
-    tsb_none told e on = rw (tsb_there, not-false s.tsb on, ← e, told)
-
-  pub forms_off : not s.forms ≡ true → Nothing ≡ form_word s tsb_words v2_words t
+  pub forms_off : not s.forms ≡ true → None ≡ form_word s tsb_words v2_words t
   unfolding form_word
   forms_off e = rw (form_word, not-true s.forms e)
 
   module _ {r : Bool} where
-    pub forms_behind : r ≡ true → r ≡ tsb_there s tsb_words t → not s.forms ≡ false → Nothing ≡ form_word s tsb_words v2_words t
+    pub forms_behind : r ≡ true → r ≡ tsb_there s tsb_words t → not s.forms ≡ false → None ≡ form_word s tsb_words v2_words t
     unfolding form_word
     forms_behind told e on = rw (form_word, not-false s.forms on, ← e, told)
 
@@ -186,19 +190,19 @@ small_letter b n = go (is_small b) refl n
         absurd (false≢true (sym f ∙ in_between 65 90 (b - 32) (omega (arith, r.0)) (omega (arith, r.1))))
     go false q f = q
 
-none_empty : (es : List Entry) (k : ℕ) → first_that (λ i w. passes Shortens w []) es k ≡ Nothing
+none_empty : (es : List Entry) (k : ℕ) → first_that (λ i w. passes Shortens w []) es k ≡ None
 unfolding first_that passes shortens
 none_empty [] k = refl
 none_empty (e ∷ es) k = none_empty es (suc k)
 
-for_empty : (es : List Entry) → word_for es [] ≡ Nothing
+for_empty : (es : List Entry) → word_for es [] ≡ None
 unfolding word_for
 for_empty es = ap (stands_for 0) (none_empty es 0)
 
 -- a short form begins with a letter
-no_letter : (es : List Entry) (t : List ℕ) → is_letter (get_or t 0 0) ≡ false → short_form es t ≡ Nothing
+no_letter : (es : List Entry) (t : List ℕ) → is_letter (get_or t 0 0) ≡ false → short_form es t ≡ None
 unfolding short_form
-no_letter es t n = ap (word_for es) (sym (letters_none t refl (sym (none t n)))) ∙ for_empty es
+no_letter es t n = ap (word_for es) (sym (letters_none t (omega arith) (sym (none t n)))) ∙ for_empty es
   where
     none : (t : List ℕ) → is_letter (get_or t 0 0) ≡ false → front is_small t ≡ 0
     none [] m = front_nil is_small
@@ -213,36 +217,40 @@ letters_most t = go (ltb 0 (front is_small t) && is_capital (get_or t (front is_
     go false = omega arith
 
 -- it takes text, and no more than there is
-form_taken : (es : List Entry) (t : List ℕ) {i u k : ℕ} → short_form es t ≡ Word i u k → (0 < u) × (u ≤ length t)
+form_taken : (es : List Entry) (t : List ℕ) {m : Match} → short_form es t ≡ Some m → (0 < m.used) × (m.used ≤ length t)
 unfolding short_form word_for
-form_taken es t {i} {u} {k} e = go (form_letters t) (letters_most t) e
+form_taken es t {m} e = go (form_letters t) (letters_most t) e
   where
-    used : (n : ℕ) (m : Option Match) → stands_for n m ≡ Word i u k → n ≡ u
-    used n (Word j v c) q = cc
-    used n Nothing q = let z : ◌≡◌ {A = ℕ} 0 1 = cc in absurd (omega arith)
+    used : (n : ℕ) (w : Option Match) → stands_for n w ≡ Some m → n ≡ m.used
+    used n (Some w) q = ap used_of q
+      where
+        used_of : Option Match → ℕ
+        used_of (Some w) = w.used
+        used_of None = 0
+    used n None q = let z : ◌≡◌ {A = ℕ} 0 1 = cc in absurd (omega arith)
 
-    go : (s : List ℕ) → length s ≤ length t → word_for es s ≡ Word i u k → (0 < u) × (u ≤ length t)
-    go [] h q = let z : ◌≡◌ {A = Match} Nothing (Word i u k) = sym (for_empty es) ∙ q in let z : ◌≡◌ {A = ℕ} 0 1 = cc in absurd (omega arith)
-    go (b ∷ s) h q = let n : suc (length s) ≡ u = used (suc (length s)) (match_in Shortens es (b ∷ s)) q in (omega arith, omega arith)
+    go : (s : List ℕ) → length s ≤ length t → word_for es s ≡ Some m → (0 < m.used) × (m.used ≤ length t)
+    go [] h q = let z : ◌≡◌ {A = Option Match} None (Some m) = sym (for_empty es) ∙ q in let z : ◌≡◌ {A = ℕ} 0 1 = cc in absurd (omega arith)
+    go (b ∷ s) h q = let n : suc (length s) ≡ m.used = used (suc (length s)) (match_in Shortens es (b ∷ s)) q in (omega arith, omega arith)
 
 module _ (s : Sets) (tsb v2 : List Entry) (t : List ℕ) where
-  by_test : (b : Bool) → short_form v2 t ≡ Nothing → cond b (short_form v2 t) Nothing ≡ Nothing
+  by_test : (b : Bool) → short_form v2 t ≡ None → cond b (short_form v2 t) None ≡ None
   by_test true e = e
   by_test false e = refl
 
-  pub form_letter : is_letter (get_or t 0 0) ≡ false → form_word s tsb v2 t ≡ Nothing
+  pub form_letter : is_letter (get_or t 0 0) ≡ false → form_word s tsb v2 t ≡ None
   unfolding form_word
   form_letter n = by_test (s.forms && not (tsb_there s tsb t)) (no_letter v2 t n)
 
-  pub form_takes : {i u k : ℕ} → form_word s tsb v2 t ≡ Word i u k → (0 < u) × (u ≤ length t)
+  pub form_takes : {m : Match} → form_word s tsb v2 t ≡ Some m → (0 < m.used) × (m.used ≤ length t)
   unfolding form_word
-  form_takes {i} {u} {k} e = go (s.forms && not (tsb_there s tsb t)) e
+  form_takes {m} e = go (s.forms && not (tsb_there s tsb t)) e
     where
-      go : (b : Bool) → cond b (short_form v2 t) Nothing ≡ Word i u k → (0 < u) × (u ≤ length t)
+      go : (b : Bool) → cond b (short_form v2 t) None ≡ Some m → (0 < m.used) × (m.used ≤ length t)
       go true q = form_taken v2 t q
       go false q = let z : ◌≡◌ {A = ℕ} 0 1 = cc in absurd (omega arith)
 
   -- with the option off there are none
-  pub form_off : s.forms ≡ false → form_word s tsb v2 t ≡ Nothing
+  pub form_off : s.forms ≡ false → form_word s tsb v2 t ≡ None
   unfolding form_word
   form_off e = rw (form_word, e)

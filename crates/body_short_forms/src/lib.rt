@@ -1,7 +1,7 @@
 // Short forms of V2 words: small letters and a capital behind them.
 #![tactic(auto)]
 
-ghost use Rattle.std.specs.Prelude.{◌≡◌, min};
+ghost use Rattle.std.specs.Prelude.{◌≡◌};
 ghost use Rattle.base_ascii.specs.Search.{front};
 ghost use Rattle.word_tables.specs.Rom.{v2_words};
 ghost use Rattle.word_tables.specs.Tsb.{tsb_words};
@@ -18,10 +18,7 @@ const LONGEST: usize = 7;
 pub fn match_form(text: &[u8], words: Words, sets: Sets) -> Option<Match>
     ensures { result ≡ form_word sets tsb_words v2_words text.now }
 {
-    if !sets.forms {
-        return None;
-    }
-    if tsb_there(text, words, sets) {
+    if !sets.forms || tsb_there(text, words, sets) {
         return None;
     }
     short_form(text, words)
@@ -31,47 +28,20 @@ pub fn match_form(text: &[u8], words: Words, sets: Sets) -> Option<Match>
 fn tsb_there(text: &[u8], words: Words, sets: Sets) -> bool
     ensures { result ≡ tsb_there sets tsb_words text.now }
 {
-    if !sets.tsb {
-        return false;
-    }
-    match word_match::match_tsb(text, words) {
-        Some(Match {
-            index: _,
-            used: _,
-            token: _,
-        }) => true,
-        None => false,
-    }
+    sets.tsb && word_match::match_tsb(text, words).is_some()
 }
 
 // The same, whatever words are in force. No more letters are looked at than the longest word has.
 pub fn short_form(text: &[u8], words: Words) -> Option<Match>
     ensures { result ≡ short_form v2_words text.now }
 {
-    let to = at_most(text.len());
+    let to = text.len().min(LONGEST);
     let letters = form_letters(&text[..to]);
-    match word_match::match_in(WordList::V2, Test::Shortens, letters, words) {
-        Some(Match {
-            index: place,
-            used: _,
-            token,
-        }) => Some(Match {
-            index: place,
-            used: letters.len(),
-            token,
-        }),
-        None => None,
-    }
-}
-
-// A length, or the longest word's where it is more.
-fn at_most(length: usize) -> usize
-    ensures { result ≡ min length 7 }
-{
-    if length > LONGEST {
-        return LONGEST;
-    }
-    length
+    let found = word_match::match_in(WordList::V2, Test::Shortens, letters, words)?;
+    Some(Match {
+        used: letters.len(),
+        ..found
+    })
 }
 
 // The small letters at the front of the text and the capital behind them; nothing where they do not stand so.
@@ -79,29 +49,17 @@ fn form_letters(text: &[u8]) -> &[u8]
     ensures { result.now ≡ form_letters text.now }
 {
     let n = small_letters(text);
-    if n == 0 {
-        return &text[..0];
+    match text.get(n) {
+        Some(capital) if n > 0 && base_ascii::between(b'A', b'Z', *capital) => &text[..n + 1],
+        _ => &text[..0],
     }
-    if n >= text.len() {
-        return &text[..0];
-    }
-    if !base_ascii::between(65, 90, text[n]) {
-        return &text[..0];
-    }
-    let to = n + 1;
-    &text[..to]
 }
 
 // How many small letters stand at the front of the text.
 fn small_letters(text: &[u8]) -> usize
     ensures { result ≡ front is_small text.now }
 {
-    let mut i: usize = 0;
-    while i < text.len() {
-        if !base_ascii::between(97, 122, text[i]) {
-            return i;
-        }
-        i += 1;
-    }
-    i
+    text.iter()
+        .take_while(|b| base_ascii::between(b'a', b'z', **b))
+        .count()
 }

@@ -15,7 +15,8 @@ use Rattle.base_ascii.proofs.Searching.{tail, here, before_le, front_drop}
 use Rattle.escape_bytes.specs.Escape.{escape_of}
 use Rattle.escapes.specs.TailHelpers.{TailOf}
 use Rattle.escape_bytes.specs.declared.Escape.{Escape}
-use Rattle.escape_bytes.specs.declared.Escape.TheVariants.{Byte, Unknown}
+use Rattle.escape_bytes.specs.Keys.{known}
+use Rattle.std.specs.Prelude.{Option, None}
 use Rattle.escapes.specs.declared.Tail.{Tail}
 use Rattle.escapes.proofs.Tails.{drop_take}
 use Rattle.body_steps.specs.BraceHelpers.{SpanOf, Spans, Reaches}
@@ -114,12 +115,12 @@ module _ (t : List ℕ) {at : ℕ} {w : Span} (s : SpanOf t at w) (e : get_or t 
         let u : w.close - (at + 1) < length (drop (at + 1) t) = omega (arith, length-drop (at + 1) t, s.ahead) in
         ap (escaped (w.close - (at + 1))) (p ∙ ap escape_of inside) ∙ sym (braced_here ∙ rw (braced, lt-ltb _ _ u))
 
-    pub brace_known : {b count : ℕ} → x ≡ Byte b count
+    pub brace_known : {b count : ℕ} → x ≡ known b count
         → ◌≡◌ {A = Move} (record { prefixed = false; byte = b; count = count; mode = String; used = w.close + 1 - at }) (string_step (drop at t))
     brace_known {b} {count} g =
         let i : w.close + 1 - at ≡ w.close - (at + 1) + 2 = omega (arith, s.ahead) in
         ap {B = Move} (λ (n : ℕ). record { prefixed = false; byte = b; count = count; mode = String; used = n }) i
         ∙ escaped_known (w.close - (at + 1)) g ∙ escaped_here
 
-    pub brace_unknown : {r : Move} → r ≡ one 0x7B String → x ≡ Unknown → r ≡ string_step (drop at t)
+    pub brace_unknown : {r : Move} → r ≡ one 0x7B String → x ≡ None → r ≡ string_step (drop at t)
     brace_unknown q g = escaped_unknown (w.close - (at + 1)) q g ∙ escaped_here

@@ -16,21 +16,18 @@ pub fn letter_step(rest: &[u8], words: Words, sets: Sets) -> Move
     requires { (0 < length rest.now) × (is_letter (first rest.now) ≡ true) }
     ensures { result ≡ plain_step (lexicon sets) rest.now }
 {
-    match live_word(rest, words, sets) {
-        Some(Match {
-            index: _,
-            used,
-            token,
-        }) => body_rules::token(true, token, Mode::Plain, used),
-        None => match word_match::match_plain(rest, words, sets) {
-            Some(Match {
-                index: _,
-                used,
-                token,
-            }) => body_rules::token(false, token, body_rules::opened(token), used),
-            None => form_step(rest, words, sets),
-        },
+    if let Some(found) = live_word(rest, words, sets) {
+        return body_rules::token(true, found.token, Mode::Plain, found.used);
     }
+    if let Some(found) = word_match::match_plain(rest, words, sets) {
+        return body_rules::token(
+            false,
+            found.token,
+            body_rules::opened(found.token),
+            found.used,
+        );
+    }
+    form_step(rest, words, sets)
 }
 
 // The live TSB word there. Looking a word up copies the sets, so nothing is looked up where no TSB word is live.
@@ -48,17 +45,17 @@ fn form_step(rest: &[u8], words: Words, sets: Sets) -> Move
     requires { (0 < length rest.now) × (is_letter (first rest.now) ≡ true) }
     ensures { result ≡ form_step (lexicon sets) rest.now }
 {
-    if !sets.forms {
-        return body_rules::one(base_ascii::upper(rest[0]), Mode::Plain);
+    if sets.forms
+        && let Some(found) = body_short_forms::match_form(rest, words, sets)
+    {
+        return body_rules::token(
+            false,
+            found.token,
+            body_rules::opened(found.token),
+            found.used,
+        );
     }
-    match body_short_forms::match_form(rest, words, sets) {
-        Some(Match {
-            index: _,
-            used,
-            token,
-        }) => body_rules::token(false, token, body_rules::opened(token), used),
-        None => body_rules::one(base_ascii::upper(rest[0]), Mode::Plain),
-    }
+    body_rules::one(base_ascii::upper(rest[0]), Mode::Plain)
 }
 
 // CF with 80 behind it is pi.
@@ -66,11 +63,8 @@ pub fn from_pi(rest: &[u8]) -> Move
     requires { (0 < length rest.now) × (first rest.now ≡ 0xCF) }
     ensures { result ≡ other_step rest.now }
 {
-    if rest.len() <= 1 {
-        return body_rules::one(0xCF, Mode::Plain);
+    if rest.len() > 1 && rest[1] == 0x80 {
+        return body_rules::token(false, 0xFF, Mode::Plain, 2);
     }
-    if rest[1] != 0x80 {
-        return body_rules::one(0xCF, Mode::Plain);
-    }
-    body_rules::token(false, 0xFF, Mode::Plain, 2)
+    body_rules::one(0xCF, Mode::Plain)
 }

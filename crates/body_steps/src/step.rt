@@ -15,12 +15,9 @@ pub fn step(text: &[u8], at: usize, span: Span, words: Words, sets: Sets) -> Mov
     requires { (at < length text.now) × (is_long (get_or text.now at 0) ≡ true) × Reaches text.now at span }
     ensures { result ≡ long_step (lexicon sets) (drop at text.now) }
 {
-    let b = text[at];
-    if b == 0x7B {
-        return string::brace_step(text, at, span, words);
+    match text[at] {
+        0x7B => string::brace_step(text, at, span, words),
+        0xCF => plain::from_pi(&text[at..]),
+        _ => plain::letter_step(&text[at..], words, sets),
     }
-    if b == 0xCF {
-        return plain::from_pi(&text[at..]);
-    }
-    plain::letter_step(&text[at..], words, sets)
 }

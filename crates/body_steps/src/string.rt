@@ -36,10 +36,7 @@ pub fn span_at(text: &[u8], at: usize, known: Span) -> Span
     requires { (at < length text.now) × Spans text.now at known }
     ensures { Reaches text.now at result }
 {
-    if text[at] != 0x7B {
-        return known;
-    }
-    if at < known.close {
+    if text[at] != 0x7B || at < known.close {
         return known;
     }
     let from = at + 1;
@@ -56,12 +53,10 @@ pub fn brace_step(text: &[u8], at: usize, span: Span, words: Words) -> Move
     requires { (at < length text.now) × (get_or text.now at 0 ≡ 0x7B) × SpanOf text.now at span }
     ensures { result ≡ string_step (drop at text.now) }
 {
-    let from = span.from;
-    let close = span.close;
+    let Span { from, close, tail } = span;
     if text.len() <= close {
         return body_rules::one(0x7B, Mode::String);
     }
-    let tail = span.tail;
     match escapes::escape_from(&text[from..close], at + 1 - from, tail, words) {
         Some(Escape { byte, count }) => Move {
             prefixed: false,

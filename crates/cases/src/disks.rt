@@ -2,7 +2,6 @@
 ghost use Rattle.std.specs.Prelude.{◌≤◌, length};
 
 use base_refusals::Refusal;
-use disk_rules::Holding;
 use judge_frames::{Answer, rooms};
 
 // Where the name ends that bytes begin with, behind its length; beyond bytes that are too short for one.
@@ -12,7 +11,7 @@ fn name_end(bytes: &[u8]) -> usize
     if bytes.len() < 2 {
         return 2;
     }
-    2 + judge_frames::u16_at(bytes, 0) as usize
+    2 + usize::from(judge_frames::u16_at(bytes, 0))
 }
 
 // The same for a file.
@@ -50,8 +49,8 @@ fn format(payload: &[u8], disk: &mut [u8]) -> bool
     requires { length payload.now ≤ length disk.old }
 {
     let size = copied(payload, disk);
-    let changed = disk::format(&mut disk[0..size]);
-    send_changed(changed, &disk[0..size])
+    let changed = disk::format(&mut disk[..size]);
+    send_changed(changed, &disk[..size])
 }
 
 fn save(payload: &[u8], disk: &mut [u8]) -> bool
@@ -78,8 +77,8 @@ fn save_file(name: &[u8], file: &[u8], given: &[u8], disk: &mut [u8]) -> bool
     requires { length given.now ≤ length disk.old }
 {
     let size = copied(given, disk);
-    let changed = disk::save(&mut disk[0..size], name, file);
-    send_changed(changed, &disk[0..size])
+    let changed = disk::save(&mut disk[..size], name, file);
+    send_changed(changed, &disk[..size])
 }
 
 fn scratch(payload: &[u8], disk: &mut [u8]) -> bool
@@ -96,8 +95,8 @@ fn scratch_named(name: &[u8], given: &[u8], disk: &mut [u8]) -> bool
     requires { length given.now ≤ length disk.old }
 {
     let size = copied(given, disk);
-    let changed = disk::scratch(&mut disk[0..size], name);
-    send_changed(changed, &disk[0..size])
+    let changed = disk::scratch(&mut disk[..size], name);
+    send_changed(changed, &disk[..size])
 }
 
 pub fn read(payload: &[u8], room: &mut [u8]) -> bool {
@@ -108,7 +107,7 @@ pub fn read(payload: &[u8], room: &mut [u8]) -> bool {
     if size > room.len() {
         return judge_frames::reject();
     }
-    read_named(&payload[4..], &mut room[0..size])
+    read_named(&payload[4..], &mut room[..size])
 }
 
 fn read_named(left: &[u8], room: &mut [u8]) -> bool {
@@ -127,9 +126,9 @@ fn send_read(outcome: Result<usize, Refusal>, room: &[u8], disk: &[u8]) -> bool 
 
 pub fn check(disk: &[u8]) -> bool {
     match disk::check(disk) {
-        Ok(Holding { files, free }) => Answer::done()
-            .number(files)
-            .number(free)
+        Ok(held) => Answer::done()
+            .number(held.files)
+            .number(held.free)
             .send_with(disk),
         Err(refusal) => Answer::refused(refusal).send_with(disk),
     }

@@ -6,7 +6,6 @@ mod disks;
 
 ghost use Rattle.std.specs.Prelude.{◌≤◌, length};
 
-use desk_inputs::Part;
 use image_readers::By;
 use judge_calls::{
     counted, dialects, found, images, indexes, measured, relinked, rooms, texts, words,
@@ -66,10 +65,10 @@ fn serve_op(
         judge_frames::reject();
         return false;
     }
-    let Part::Whole = desk_inputs::read_part(&mut rt.stdin(), &mut payload[0..size]) else {
+    let Ok(None) = desk_inputs::read_part(&mut rt.stdin(), &mut payload[..size]) else {
         return false;
     };
-    answer_request(op, &payload[0..size], room, disk)
+    answer_request(op, &payload[..size], room, disk)
 }
 
 // Reads a request and answers it.
@@ -77,20 +76,21 @@ fn serve(rt: &HostRuntime, payload: &mut [u8], room: &mut [u8], disk: &mut [u8])
     requires { length payload.old ≤ length disk.old }
 {
     let mut head = [0u8; 5];
-    let Part::Whole = desk_inputs::read_part(&mut rt.stdin(), &mut head) else {
+    let Ok(None) = desk_inputs::read_part(&mut rt.stdin(), &mut head) else {
         return false;
     };
     let size = judge_frames::u32_at(&head, 1) as usize;
     serve_op(rt, head[0], size, payload, room, disk)
 }
 
-// A proved loop has to end, and nothing says that the input does. So the loop counts its requests down, from a number that no run uses up.
+// A proved loop has to end, and nothing says that the input does: it has more turns than a run uses up.
 fn serve_all(rt: &HostRuntime, payload: &mut [u8], room: &mut [u8], disk: &mut [u8])
     requires { length payload.old ≤ length disk.old }
 {
-    let mut requests = u64::MAX;
-    while requests > 0 && serve(rt, payload, room, disk) {
-        requests -= 1;
+    for _ in 0..u64::MAX {
+        if !serve(rt, payload, room, disk) {
+            return;
+        }
     }
 }
 

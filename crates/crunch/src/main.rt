@@ -6,10 +6,7 @@ ghost use Rattle.std.specs.Prelude.{◌≤◌, length};
 
 use base_refusals::Refusal;
 use crunch_rules::Options;
-use desk::options::{AskedDialect, AskedNumber};
 use desk::{input, names, options, output};
-use desk_inputs::Input;
-use word_dialects::Dialect;
 
 const DIALECT: usize = names::WORDS;
 
@@ -30,33 +27,25 @@ fn crunch_text(rt: &HostRuntime, text: &[u8], options: Options)
 
 fn crunch_given(rt: &HostRuntime, options: Options) {
     let mut text = [0u8; 65_536];
-    match input::read_given(rt, &mut text) {
-        Input::All(count) => crunch_text(rt, &text[0..count], options),
-        Input::Longer => output::refuse(rt, Refusal::TextTooLong { length: 65_537 }, b""),
-        Input::Failed(_) => output::fail(rt),
+    let longer = Refusal::TextTooLong { length: 65_537 };
+    if let Some(count) = input::read_or_end(rt, longer, &mut text) {
+        crunch_text(rt, &text[..count], options);
     }
 }
 
-fn crunch_under(rt: &HostRuntime, dialect: Dialect) {
-    let profile = options::is_set(rt, PROFILE);
-    let forms = options::is_set(rt, FORMS);
-    match options::load(rt, LOAD, dialect) {
-        AskedNumber::Known(load) => crunch_given(
-            rt,
-            Options {
-                load,
-                dialect,
-                profile,
-                forms,
-            },
-        ),
-        AskedNumber::Ended => {}
-    }
+// What the words ask for; nothing where the program has ended for one of them.
+fn asked(rt: &HostRuntime) -> Option<Options> {
+    let dialect = options::dialect(rt, DIALECT)?;
+    Some(Options {
+        load: options::load(rt, LOAD, dialect)?,
+        dialect,
+        profile: options::is_set(rt, PROFILE),
+        forms: options::is_set(rt, FORMS),
+    })
 }
 
 fn main(rt: HostRuntime) {
-    match options::dialect(&rt, DIALECT) {
-        AskedDialect::Known(dialect) => crunch_under(&rt, dialect),
-        AskedDialect::Ended => {}
+    if let Some(options) = asked(&rt) {
+        crunch_given(&rt, options);
     }
 }

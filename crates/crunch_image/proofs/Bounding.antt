@@ -2,10 +2,12 @@
 -- Assumes nothing.
 use Prim.Native.Nat.{ℕ, suc, ◌+◌, ◌-◌, ◌≤◌, ◌<◌}
 use mathlib.Core.Path.{◌≡◌, refl, sym, ap, ◌∙◌}
-use mathlib.Core.Bool.{true, false}
+use mathlib.Core.Bool.{Bool, true, false}
 use mathlib.Core.List.{List, [], ◌∷◌}
 use native.Mathlib.Omega.{arith}
+use lib.Dec.{leb}
 use lib.ListN.{length}
+use borrow.Author.Tests.{leb-true}
 use mir.Syntax.{w16}
 use mir.Val.{Fits}
 use Rattle.base_refusals.specs.Answer.{Answer, done, refused, map_done}
@@ -71,12 +73,21 @@ module _ {words : Lexicon} {load : ℕ} {text : List ℕ} {at bound : ℕ} (g : 
     unfolding taken_here
     bound_turn = record { k = g.k + 1; least = least_behind g.least new; address = end_address g.address new; reached = reached_turn g.reached h is taken_here; below = not_above; high = q }
 
-  pub bound_end : {room : ℕ} → length text ≤ at → bound - load + 4 ≤ room → FitsIf true room (text_image false words load text)
+  pub bound_end : (room : ℕ) → length text ≤ at → FitsIf (leb (bound - load + 4) room) room (text_image false words load text)
   unfolding text_image
-  bound_end {room} h f = go (crunch_lines false words 1 0 load (text_lines AfterCr text)) (reached_end g.reached h)
+  bound_end room h = go (leb (bound - load + 4) room) refl (crunch_lines false words 1 0 load (text_lines AfterCr text)) (reached_end g.reached h)
     where
-      go : (a : Answer (List NumberedBody)) → done g.reached.before ≡ a → FitsIf true room (map_done (image_of load) a)
-      go (done ls) e =
+      go : (b : Bool) → leb (bound - load + 4) room ≡ b → (a : Answer (List NumberedBody)) → done g.reached.before ≡ a → FitsIf b room (map_done (image_of load) a)
+      go false t a e = tt
+      go true t (done ls) e =
           let same : g.reached.before ≡ ls = cc in
-          omega (arith, ap (λ (x : List NumberedBody). length (image_of load x)) same, image_length load g.reached.before, g.reached.stands, g.below, end_above load g.reached.before)
-      go (refused n) e = let z : ◌≡◌ {A = ℕ} 0 1 = cc in absurd (omega arith)
+          omega (
+            arith,
+            leb-true (bound - load + 4) room t,
+            ap (λ (x : List NumberedBody). length (image_of load x)) same,
+            image_length load g.reached.before,
+            g.reached.stands,
+            g.below,
+            end_above load g.reached.before,
+          )
+      go true t (refused n) e = let z : ◌≡◌ {A = ℕ} 0 1 = cc in absurd (omega arith)

@@ -26,7 +26,7 @@ use Rattle.image_layout.specs.Reads.{lines_at}
 use Rattle.crunch_rules.specs.Crunched.{crunch_lines, text_lexicon, crunched_lines, crunched}
 use Rattle.crunch_rules.specs.Measured.{nonblank_lines, with_text_lines, entry_from, measured_lines, line_measured}
 use Rattle.crunch_rules.specs.PassesHelpers.{text_image}
-use Rattle.crunch_measure.specs.MeasureHelpers.{text_placed, PassedAs, refused_pass}
+use Rattle.crunch_measure.specs.MeasureHelpers.{text_placed, PassedAs, room_of, line_of}
 use Rattle.crunch_image.specs.CallHelpers.{MeasuredAs, FitsIf}
 use Rattle.crunch_measure.specs.declared.Pass.{Pass}
 use Rattle.crunch_rules.specs.declared.Options.{Options}
@@ -58,26 +58,33 @@ module _ (o : Options) (place : ℕ) (text : List ℕ) where
       ∙ ap (λ (x : Answer (List NumberedBody)). map_done (entry_from place 1) (map_done (λ ls. with_text_lines (lines_at o.load 2 ls) (nonblank_lines text)) x)) e
 
   module _ {c : (Result (Unit {0}) Refusal)} where
-    lines_fine : {sets guessed : Sets} → sets ≡ with_forms o.forms guessed → guessed ≡ word_sets o.dialect text → c ≡ (Ok tt) → answered c ≡ checked_text text
+    lines_fine : {sets : Sets} → sets ≡ with_forms o.forms (word_sets o.dialect text) → c ≡ (Ok tt) → answered c ≡ checked_text text
         → crunch_lines o.profile (lexicon sets) 1 0 o.load (text_lines AfterCr text) ≡ crunched_lines o text
-    lines_fine w s t e =
-        ap (λ (x : Sets). crunch_lines o.profile (lexicon x) 1 0 o.load (text_lines AfterCr text)) (w ∙ ap (with_forms o.forms) s) ∙ lines_by t e
+    lines_fine s t e = ap (λ (x : Sets). crunch_lines o.profile (lexicon x) 1 0 o.load (text_lines AfterCr text)) s ∙ lines_by t e
 
-    pub measured_fine : {sets guessed : Sets} {p : Pass} → PassedAs o.profile (lexicon sets) o.load place text p → sets ≡ with_forms o.forms guessed → guessed ≡ word_sets o.dialect text
-        → c ≡ (Ok tt) → answered c ≡ checked_text text → MeasuredAs o place text p
+    pub measured_fine : {sets : Sets} {r : Result Pass Refusal} → PassedAs o.profile (lexicon sets) o.load place text r → sets ≡ with_forms o.forms (word_sets o.dialect text)
+        → c ≡ (Ok tt) → answered c ≡ checked_text text → MeasuredAs o place text r
     unfolding text_image text_placed
-    measured_fine r w s t e = record { sized = r.sized ∙ ap room_for (image_by (lines_fine w s t e)); placed = r.placed ∙ placed_by (lines_fine w s t e) }
+    measured_fine r s t e = record { sized = r.sized ∙ ap room_for (image_by (lines_fine s t e)); placed = r.placed ∙ placed_by (lines_fine s t e) }
 
-    pub measured_outside : {x : Refusal} {p : Pass} → p ≡ refused_pass x → c ≡ Err x → answered c ≡ checked_text text → MeasuredAs o place text p
-    measured_outside z t e = rw z (record { sized = ap room_for (image_by (lines_by t e)); placed = placed_by (lines_by t e) })
+    pub measured_outside : {x : Refusal} → c ≡ Err x → answered c ≡ checked_text text → MeasuredAs o place text (Err x)
+    measured_outside t e = record { sized = ap room_for (image_by (lines_by t e)); placed = placed_by (lines_by t e) }
+
+  -- what is told of it
+  module _ {r x : Result Pass Refusal} (t : r ≡ x) (k : MeasuredAs o place text r) where
+    pub room_told : answered (room_of x) ≡ room_for (crunched o text)
+    room_told = told (ap room_of t) k.sized
+
+    pub line_told : answered (line_of x) ≡ line_measured o place text
+    line_told = told (ap line_of t) k.placed
 
 -- ---- what is stored
 
 module _ (o : Options) (text buffer : List ℕ) {c : (Result (Unit {0}) Refusal)} where
-  pub whole_fine : {sets guessed : Sets} (r : Result ℕ Refusal) {after : List ℕ} → left r after ≡ into_buffer (text_image o.profile (lexicon sets) o.load text) buffer
-      → sets ≡ with_forms o.forms guessed → guessed ≡ word_sets o.dialect text → c ≡ (Ok tt) → answered c ≡ checked_text text → left r after ≡ into_buffer (crunched o text) buffer
+  pub whole_fine : {sets : Sets} (r : Result ℕ Refusal) {after : List ℕ} → left r after ≡ into_buffer (text_image o.profile (lexicon sets) o.load text) buffer
+      → sets ≡ with_forms o.forms (word_sets o.dialect text) → c ≡ (Ok tt) → answered c ≡ checked_text text → left r after ≡ into_buffer (crunched o text) buffer
   unfolding text_image
-  whole_fine r q w s t e = q ∙ ap (λ (a : Answer (List ℕ)). into_buffer a buffer) (image_by o 0 text (lines_fine o 0 text w s t e))
+  whole_fine r q s t e = q ∙ ap (λ (a : Answer (List ℕ)). into_buffer a buffer) (image_by o 0 text (lines_fine o 0 text s t e))
 
   pub whole_outside : {x : Refusal} → c ≡ Err x → answered c ≡ checked_text text → left (Err x) buffer ≡ into_buffer (crunched o text) buffer
   whole_outside t e = into_refused buffer (crunched o text) (ap room_for (image_by o 0 text (lines_by o 0 text t e)))
@@ -108,19 +115,20 @@ module _ (profile : Bool) (words : Lexicon) (load : ℕ) (text buffer : List ℕ
   fits_put r q f = q ∙ ap (λ (b : Bool). into_buffer (text_image b words load text) buffer) (sym f)
 
   -- or the length that was measured
-  module _ {place : ℕ} {p : Pass} where
-    pub room_short : {n : ℕ} → p.room ≡ Ok n → PassedAs profile words load place text p → length buffer < n
-        → left (Err (NoRoom n)) buffer ≡ into_buffer (text_image profile words load text) buffer
-    room_short told k h = into_none buffer (text_image profile words load text) (told told k.sized) h
+  module _ {place : ℕ} {m : Result Pass Refusal} (k : PassedAs profile words load place text m) where
+    module _ {p : Pass} (is : m ≡ Ok p) where
+      needs : done p.room ≡ room_for (text_image profile words load text)
+      needs = told (ap room_of is) k.sized
 
-    pub room_enough : {n : ℕ} → p.room ≡ Ok n → PassedAs profile words load place text p → n ≤ length buffer → HasRoom buffer (text_image false words load text)
-    room_enough told k h =
-        let e = told told k.sized in
-        rw (image_plain e) (has_room buffer (text_image profile words load text) e h)
+      pub room_short : length buffer < p.room → left (Err (NoRoom p.room)) buffer ≡ into_buffer (text_image profile words load text) buffer
+      room_short h = into_none buffer (text_image profile words load text) needs h
 
-    pub room_put : (r : Result ℕ Refusal) {n : ℕ} {after : List ℕ} → left r after ≡ into_buffer (text_image false words load text) buffer → p.room ≡ Ok n → PassedAs profile words load place text p
-        → left r after ≡ into_buffer (text_image profile words load text) buffer
-    room_put r q told k = q ∙ ap (λ (a : Answer (List ℕ)). into_buffer a buffer) (image_plain (told told k.sized))
+      pub room_enough : p.room ≤ length buffer → HasRoom buffer (text_image false words load text)
+      room_enough h = rw (image_plain needs) (has_room buffer (text_image profile words load text) needs h)
 
-    pub room_refused : {x : Refusal} → p.room ≡ Err x → PassedAs profile words load place text p → left (Err x) buffer ≡ into_buffer (text_image profile words load text) buffer
-    room_refused told k = into_refused buffer (text_image profile words load text) (told told k.sized)
+      pub room_put : (r : Result ℕ Refusal) {after : List ℕ} → left r after ≡ into_buffer (text_image false words load text) buffer
+          → left r after ≡ into_buffer (text_image profile words load text) buffer
+      room_put r q = q ∙ ap (λ (a : Answer (List ℕ)). into_buffer a buffer) (image_plain needs)
+
+    pub room_refused : {x : Refusal} → m ≡ Err x → left (Err x) buffer ≡ into_buffer (text_image profile words load text) buffer
+    room_refused is = into_refused buffer (text_image profile words load text) (told (ap room_of is) k.sized)

@@ -17,17 +17,13 @@ pub fn fits(text: &[u8], load: u16, room: usize, words: Words, sets: Sets) -> bo
     let mut at: usize = 0;
     while at < text.len() {
         let next = text_lines::next_line(text, at, LineRule::AfterCr);
-        let begin = next.begin;
-        let end = next.end;
-        let behind = crunch_sizes::bound_line(&text[begin..end], address, words, sets);
+        let line = &text[next.begin..next.end];
+        let behind = crunch_sizes::bound_line(line, address, words, sets);
         if behind > 0xFFFF {
             return false;
         }
         address = behind;
         at = next.next;
     }
-    if address - first + 4 > room {
-        return false;
-    }
-    true
+    address - first + 4 <= room
 }

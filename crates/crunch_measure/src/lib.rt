@@ -3,21 +3,21 @@
 
 ghost use Rattle.std.specs.Prelude.{◌≡◌};
 ghost use Rattle.body_rules.specs.Lexicon.{lexicon};
-ghost use Rattle.crunch_measure.specs.MeasureHelpers.{PassedAs, refused_pass, Span, line_between};
+ghost use Rattle.crunch_measure.specs.MeasureHelpers.{PassedAs, Span, line_between};
 
 use base_refusals::Refusal;
 use crunch_rules::{MeasuredLine, Options};
-use crunch_sizes::{Sized, Spot};
+use crunch_sizes::Spot;
 use image_readers::Line;
 use text_lines::LineRule;
 use word_match::sets::Sets;
 use word_tables::Words;
 
-// What measuring a text answers: the room that its image needs, and the line at a place of that image.
+// What measuring a text answers: the room that its image needs, and the line at a place of that image, if it has one there.
 #[derive(Clone, Copy)]
 pub struct Pass {
-    pub room: Result<usize, Refusal>,
-    pub line: Result<Option<MeasuredLine>, Refusal>,
+    pub room: usize,
+    pub line: Option<MeasuredLine>,
 }
 
 // Measures a text that is in the domain, its words known.
@@ -27,57 +27,41 @@ pub fn measure(
     place: usize,
     words: Words,
     sets: Sets,
-) -> Pass
+) -> Result<Pass, Refusal>
     ensures { PassedAs options.profile (lexicon sets) options.load place text.now result }
 {
-    let profile = options.profile;
-    let load = options.load;
-    let first = load as usize;
+    let first = options.load as usize;
     let mut address = first;
     let mut at: usize = 0;
     let mut k: usize = 0;
     let mut least: usize = 0;
     let mut count: usize = 0;
-    let mut found = Ok(None);
+    let mut found = None;
     while at < text.len() {
         let next = text_lines::next_line(text, at, LineRule::AfterCr);
-        let begin = next.begin;
-        let end = next.end;
+        let line = &text[next.begin..next.end];
         k += 1;
         let spot = Spot {
-            profile,
+            profile: options.profile,
             k,
             least,
             address,
         };
-        match crunch_sizes::measure_line(&text[begin..end], spot, words, sets) {
-            Sized::Blank => {}
-            Sized::Numbered { number, behind } => {
-                count += 1;
-                least = number as usize + 1;
-                if count == place {
-                    let line = line_between(first, address, number, behind);
-                    found = Ok(Some(MeasuredLine { line, origin: k }));
-                }
-                address = behind;
+        if let Some(sized) = crunch_sizes::measure_line(line, spot, words, sets)? {
+            count += 1;
+            least = sized.number as usize + 1;
+            if count == place {
+                let line = line_between(first, address, sized.number, sized.behind);
+                found = Some(MeasuredLine { line, origin: k });
             }
-            Sized::Refused(refusal) => {
-                return refused(refusal);
-            }
+            address = sized.behind;
         }
         at = next.next;
     }
-    let room = Ok(address - first + 4);
-    Pass { room, line: found }
-}
-
-// Of a text that is refused.
-pub fn refused(refusal: Refusal) -> Pass
-    ensures { result ≡ refused_pass refusal }
-{
-    let room = Err(refusal);
-    let line = Err(refusal);
-    Pass { room, line }
+    Ok(Pass {
+        room: address - first + 4,
+        line: found,
+    })
 }
 
 // The line from one address to another, as it will stand.

@@ -14,10 +14,7 @@ fn put_origin(out: &mut [usize], to: usize, number: usize, line: &[u8]) -> usize
     requires { to ≤ length out.old }
     ensures { Clipped out.old to (unless_blank number (trim_of line.now)) result out.new }
 {
-    if base_ascii::trim(line).len() == 0 {
-        return to;
-    }
-    if to >= out.len() {
+    if base_ascii::trim(line).is_empty() || to >= out.len() {
         return to;
     }
     out[to] = number;
@@ -34,10 +31,8 @@ pub fn origins(text: &[u8], out: &mut [usize]) -> usize
     let mut to: usize = 0;
     while at < text.len() {
         let next = text_lines::next_line(text, at, LineRule::AfterCr);
-        let begin = next.begin;
-        let end = next.end;
         number += 1;
-        to = put_origin(out, to, number, &text[begin..end]);
+        to = put_origin(out, to, number, &text[next.begin..next.end]);
         at = next.next;
     }
     to

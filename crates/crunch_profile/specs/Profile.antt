@@ -4,12 +4,10 @@
 -- Assumes nothing.
 use Rattle.std.specs.Prelude.{ℕ, suc, Bool, cond, List, [], ◌∷◌, length}
 use Rattle.base_refusals.specs.Numbers.{line_number_too_high, not_ascending, zero_in_body, body_length}
-use Rattle.base_refusals.specs.Answer.{Answer, done, refused, numbered, and_then}
+use Rattle.base_refusals.specs.Answer.{Answer, done, refused, and_then}
 use Rattle.body.specs.Zero.{holds_zero}
 use Rattle.image_limits.specs.Limits.{c64, is_too_high, is_not_ascending, is_bad_length}
 use Rattle.image_readers.specs.NumberedBody.{NumberedBody}
-use Rattle.std.specs.Prelude.{Result, Ok, Err}
-use Rattle.base_refusals.specs.declared.Refusal.{Refusal}
 
 -- a line that the k-th text line gives, by its number and the least that may stand there, whether its body holds a zero, and the body's length
 unfoldable pub profile_says : ℕ → ℕ → ℕ → Bool → ℕ → Answer (Unit {0})

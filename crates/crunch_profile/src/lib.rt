@@ -9,7 +9,13 @@ use base_refusals::Refusal;
 
 // Asks the profile about the line that the k-th text line gives: its number, of which `least` is the least that may stand there; whether its
 // body holds a zero; and the body's length.
-pub fn allow_line(k: usize, least: usize, number: u16, zero: bool, length: usize) -> Result<(), Refusal>
+pub fn allow_line(
+    k: usize,
+    least: usize,
+    number: u16,
+    zero: bool,
+    length: usize,
+) -> Result<(), Refusal>
     ensures { answered result ≡ profile_says k least number zero length }
 {
     let machine = image_limits::commodore_64();

@@ -25,7 +25,6 @@ use Rattle.image_readers.specs.declared.Overview.{Overview}
 use Rattle.image_readers.specs.Bodies.{bodies_of}
 use Rattle.image_readers.specs.Links.{link_step}
 use Rattle.image_readers.specs.Terminators.{terminator_step}
-use Rattle.image_readers.specs.declared.Checked.TheVariants.{Image}
 use Rattle.base_steps.specs.Each.{Each}
 use Rattle.base_steps.proofs.Each.{each_append}
 use Rattle.image_layout.specs.Layout.{end_address, image_of, Laid}
@@ -42,7 +41,8 @@ use Rattle.crunch_rules.proofs.Lining.{Taken, taken, under_plain, cons_taken, co
 use Rattle.crunch_read_back.specs.ReadsBack.{ReadsBack, ReadsDamaged}
 use Rattle.crunch_read_back.specs.ReadingBack.{LentRead, reading_back, left_read}
 use Rattle.crunch_read_back.specs.declared.ReadBack.{ReadBack}
-use Rattle.crunch_read_back.specs.declared.ReadBack.TheVariants.{Made}
+use Rattle.base_refusals.specs.declared.Refusal.{Refusal}
+use Rattle.std.specs.Prelude.{Result, Ok}
 use Rattle.crunch_read_back.proofs.Tight.{read_back_tight}
 
 -- ---- the lines of a text are laid out
@@ -162,6 +162,10 @@ module _ (o : Options) (text : List ℕ) {ls : List NumberedBody} (low : o.load 
   abbrev made : List ℕ
   made = image_of o.load ls
 
+  -- that image was made, and so many lines are found in it
+  abbrev found : ℕ → Result ReadBack Refusal
+  found n = Ok (record { length = length made; read = Ok (record { load = o.load; lines = n }) })
+
   image_stored : into_buffer (crunched o text) buffer ≡ record { answer = done (length made); buffer = sets buffer 0 made }
   unfolding into_buffer
   image_stored =
@@ -169,7 +173,7 @@ module _ (o : Options) (text : List ℕ) {ls : List NumberedBody} (low : o.load 
       ∙ simp (le-leb _ _ room)
 
   -- the definition's answer: this length, this address, and as many lines as the reader finds
-  read_back_is : reading_back (into_buffer (crunched o text) buffer) ≡ left_read (Made (length made) (Image o.load (lines_found o.load ls))) (sets buffer 0 made)
+  read_back_is : reading_back (into_buffer (crunched o text) buffer) ≡ left_read (found (lines_found o.load ls)) (sets buffer 0 made)
   unfolding reading_back
   read_back_is =
       ap reading_back image_stored
@@ -179,15 +183,15 @@ module _ (o : Options) (text : List ℕ) {ls : List NumberedBody} (low : o.load 
       (all_or_none ls (crunched_laid o text low e))
 
   -- whatever a call that keeps the contract answers and leaves
-  module _ (r : ReadBack) {after : List ℕ} (keeps : left_read r after ≡ reading_back (into_buffer (crunched o text) buffer)) where
+  module _ (r : Result ReadBack Refusal) {after : List ℕ} (keeps : left_read r after ≡ reading_back (into_buffer (crunched o text) buffer)) where
     -- at any load address: an image that the reader takes, with all lines or none
-    pub call_answer : r ≡ Made (length made) (Image o.load (lines_found o.load ls))
+    pub call_answer : r ≡ found (lines_found o.load ls)
     call_answer = (read_back_tight _ r _ after _ keeps (sym read_back_is)).0
 
     -- from the least load address on: every line, and these lines in the buffer
     module _ (up : least_load ≤ o.load) where
-      pub call_count : r ≡ Made (length made) (Image o.load (length ls))
-      call_count = call_answer ∙ ap (λ (n : ℕ). Made (length made) (Image o.load n)) (all_found ls up)
+      pub call_count : r ≡ found (length ls)
+      call_count = call_answer ∙ ap found (all_found ls up)
 
       pub call_lines : bodies_of link_step (take (length made) after) ≡ done ls
       call_lines =

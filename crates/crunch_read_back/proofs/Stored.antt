@@ -13,12 +13,11 @@ use Rattle.base_refusals.specs.Numbers.{no_room}
 use Rattle.base_refusals.specs.Answer.{Answer, done, refused, answered}
 use Rattle.base_lent.specs.Lent.{Lent, into_buffer, left}
 use Rattle.base_refusals.specs.declared.Refusal.{Refusal}
-use Rattle.image_readers.specs.declared.Checked.{Checked}
 use Rattle.image_readers.specs.Lines.{overview}
 use Rattle.image_readers.specs.declared.Overview.{Overview}
 use Rattle.image_readers.specs.Links.{link_step}
 use Rattle.crunch_read_back.specs.ReadingBack.{reading_back, left_read}
-use Rattle.crunch_read_back.specs.declared.ReadBack.TheVariants.{Made, Refused as ReadBackAsRefused}
+use Rattle.crunch_read_back.specs.declared.ReadBack.{ReadBack}
 use Rattle.std.specs.Prelude.{Result, Ok, Err}
 
 -- what was stored is no longer than the buffer
@@ -50,14 +49,14 @@ module _ (a : Answer (List ℕ)) (buffer : List ℕ) {r : (Result ℕ Refusal)} 
     pub image_long : r ≡ Ok n → left r after ≡ into_buffer a buffer → n ≡ length (take n after)
     image_long told is = sym (length-take-le n after (image_fits told is))
 
-    pub image_made : (c : Checked) → answered c ≡ overview link_step (take n after) → r ≡ Ok n → left r after ≡ into_buffer a buffer
-        → left_read (Made n c) after ≡ reading_back (into_buffer a buffer)
+    pub image_made : (c : Result Overview Refusal) → answered c ≡ overview link_step (take n after) → r ≡ Ok n → left r after ≡ into_buffer a buffer
+        → left_read (Ok (record { length = n; read = c })) after ≡ reading_back (into_buffer a buffer)
     unfolding reading_back
     image_made c read told is =
         ap (λ (o : Answer Overview). record { answer = done (record { size = n; overview = o }); buffer = after }) read
         ∙ ap reading_back (as_told told is)
 
   -- or none
-  pub image_none : {x : Refusal} → r ≡ Err x → left r after ≡ into_buffer a buffer → left_read (ReadBackAsRefused x) after ≡ reading_back (into_buffer a buffer)
+  pub image_none : {x : Refusal} → r ≡ Err x → left r after ≡ into_buffer a buffer → left_read (Err x) after ≡ reading_back (into_buffer a buffer)
   unfolding reading_back
   image_none told is = ap reading_back (as_told told is)

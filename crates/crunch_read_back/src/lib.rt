@@ -22,11 +22,7 @@ pub struct ReadBack {
 pub fn crunch_and_read(text: &[u8], options: Options, out: &mut [u8]) -> Result<ReadBack, Refusal>
     ensures { left_read result out.new ≡ reading_back (into_buffer (crunched options text.now) out.old) }
 {
-    match crunch_image::crunch(text, options, out) {
-        Ok(length) => {
-            let read = links::check(&out[..length]);
-            Ok(ReadBack { length, read })
-        }
-        Err(refusal) => Err(refusal),
-    }
+    let length = crunch_image::crunch(text, options, out)?;
+    let read = links::check(&out[..length]);
+    Ok(ReadBack { length, read })
 }

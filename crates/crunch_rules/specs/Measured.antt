@@ -3,7 +3,7 @@
 -- Assumes nothing.
 use Rattle.std.specs.Prelude.{ℕ, suc, ◌+◌, cond, List, [], ◌∷◌, ◌++◌, eqb}
 use Rattle.std.specs.Prelude.{Option, None, Some}
-use Rattle.base_refusals.specs.Answer.{Answer, done, refused, numbered, map_done}
+use Rattle.base_refusals.specs.Answer.{Answer, map_done}
 use Rattle.base_ascii.specs.Trim.{trim}
 use Rattle.text_lines.specs.declared.LineRule.TheVariants.{AfterCr}
 use Rattle.text_lines.specs.TextLines.{text_lines}

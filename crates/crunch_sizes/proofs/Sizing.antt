@@ -1,7 +1,7 @@
 -- What a text line comes to, case by case.
 -- Assumes nothing.
 use Prim.Native.Nat.{ℕ, ◌+◌, ◌-◌, ◌≤◌, ◌<◌, min}
-use mathlib.Core.Path.{◌≡◌, refl, sym, ap, ◌∙◌}
+use mathlib.Core.Path.{◌≡◌, refl, sym, ap, ◌∙◌, subst}
 use mathlib.Core.Bool.{Bool, true, false, cond}
 use mathlib.Core.List.{List, [], ◌∷◌}
 use native.Mathlib.Omega.{arith}
@@ -24,10 +24,9 @@ use Rattle.crunch_profile.specs.Profile.{profile_says, line_allowed, allowed}
 use Rattle.crunch_profile.proofs.Asking.{says_cut}
 use Rattle.crunch_rules.specs.Crunched.{lines_read, line_under, last_link}
 use Rattle.crunch_sizes.specs.SizeHelpers.{LineSized, SizedAs, sized_at}
-use Rattle.crunch_sizes.specs.declared.Sized.{Sized}
-use Rattle.crunch_sizes.specs.declared.Sized.TheVariants.{Blank as SizedAsBlank, Numbered as SizedAsNumbered, Refused as SizedAsRefused}
+use Rattle.crunch_sizes.specs.declared.SizedLine.{SizedLine}
 use Rattle.crunch_rules.proofs.Lining.{link_fits, link_over, read_as, under_as, Taken}
-use Rattle.std.specs.Prelude.{Result, Ok, Err}
+use Rattle.std.specs.Prelude.{Some, None, Result, Ok, Err}
 
 -- the line that a numbered text line gives
 abbrev pub line_of : Lexicon → List ℕ → ℕ → ℕ → ℕ → NumberedBody
@@ -44,13 +43,28 @@ module _ (address : ℕ) (l : NumberedBody) {a : Answer (List NumberedBody)} (gi
       let over : 0xFFFF < address + 5 + length l.body = omega arith in
       ap (λ (x : Answer (List NumberedBody)). and_then x (last_link address)) gives ∙ link_over address (l ∷ []) over
 
-  line_sized : SizedAs address a (sized_at address l.number n)
-  unfolding SizedAs
-  line_sized = go (ltb 0xFFFF (address + 5 + n)) refl
-    where
-      go : (b : Bool) → ltb 0xFFFF (address + 5 + n) ≡ b → SizedAs address a (cond b (SizedAsRefused AddressOverflow) (SizedAsNumbered l.number (address + 5 + n)))
-      go true p = line_over (ltb-true 0xFFFF (address + 5 + n) p)
-      go false p = line_fits (omega (arith, ltb-false 0xFFFF (address + 5 + n) p))
+  module _ {r : Result SizedLine Refusal} (z : r ≡ sized_at address l.number n) where
+    line_some : {x : SizedLine} → r ≡ Ok x → SizedAs address a (Ok (Some x))
+    unfolding SizedAs
+    line_some {x} t = go (ltb 0xFFFF (address + 5 + n)) refl (sym z ∙ t)
+      where
+        go : (b : Bool) → ltb 0xFFFF (address + 5 + n) ≡ b → cond {A = Result SizedLine Refusal} b (Err AddressOverflow) (Ok (record { number = l.number; behind = address + 5 + n })) ≡ Ok x
+            → SizedAs address a (Ok (Some x))
+        go true p q = let y : ◌≡◌ {A = ℕ} 0 1 = cc in absurd (omega arith)
+        go false p q =
+            let y : ◌≡◌ {A = SizedLine} (record { number = l.number; behind = address + 5 + n }) x = cc in
+            subst (λ (v : SizedLine). SizedAs address a (Ok (Some v))) y (line_fits (omega (arith, ltb-false 0xFFFF (address + 5 + n) p)))
+
+    line_not : {x : Refusal} → r ≡ Err x → SizedAs address a (Err x)
+    unfolding SizedAs
+    line_not {x} t = go (ltb 0xFFFF (address + 5 + n)) refl (sym z ∙ t)
+      where
+        go : (b : Bool) → ltb 0xFFFF (address + 5 + n) ≡ b → cond {A = Result SizedLine Refusal} b (Err AddressOverflow) (Ok (record { number = l.number; behind = address + 5 + n })) ≡ Err x
+            → SizedAs address a (Err x)
+        go true p q =
+            let y : AddressOverflow ≡ x = cc in
+            subst (λ (v : Refusal). SizedAs address a (Err v)) y (line_over (ltb-true 0xFFFF (address + 5 + n) p))
+        go false p q = let y : ◌≡◌ {A = ℕ} 0 1 = cc in absurd (omega arith)
 
 -- ---- under the profile, if it is asked
 
@@ -59,7 +73,7 @@ module _ (profile : Bool) (words : Lexicon) (k least : ℕ) (line : List ℕ) (a
       → and_then (line_under profile words k least line) (last_link address) ≡ refused n
   refused_as {x} {n} r t e = sym (ap (λ (a : Answer (List NumberedBody)). and_then a (last_link address)) (under_as profile words k least line (sym r ∙ read_as words k line t e)))
 
-  pub sized_blank : m ≡ Blank → m ≡ numbering line → SizedAs address (line_under profile words k least line) SizedAsBlank
+  pub sized_blank : m ≡ Blank → m ≡ numbering line → SizedAs address (line_under profile words k least line) (Ok None)
   unfolding SizedAs
   sized_blank t e = sym (under_as profile words k least line (read_as words k line t e)) ∙ go profile
     where
@@ -67,11 +81,11 @@ module _ (profile : Bool) (words : Lexicon) (k least : ℕ) (line : List ℕ) (a
       go true = refl
       go false = refl
 
-  pub sized_missing : m ≡ Missing → m ≡ numbering line → SizedAs address (line_under profile words k least line) (SizedAsRefused (MissingLineNumber k))
+  pub sized_missing : m ≡ Missing → m ≡ numbering line → SizedAs address (line_under profile words k least line) (Err (MissingLineNumber k))
   unfolding SizedAs
   sized_missing t e = refused_as refl t e
 
-  pub sized_range : {v : ℕ} → m ≡ OutOfRange v → m ≡ numbering line → SizedAs address (line_under profile words k least line) (SizedAsRefused (LineNumberOutOfRange k v))
+  pub sized_range : {v : ℕ} → m ≡ OutOfRange v → m ≡ numbering line → SizedAs address (line_under profile words k least line) (Err (LineNumberOutOfRange k v))
   unfolding SizedAs
   sized_range t e = refused_as refl t e
 
@@ -81,20 +95,23 @@ module _ (profile : Bool) (words : Lexicon) (k least : ℕ) (line : List ℕ) (a
     abbrev here : NumberedBody
     here = line_of words line number from to
 
-    says : Answer (Unit {0})
+    -- what the profile says, if it is asked
+    abbrev says : Answer (Unit {0})
     says = cond profile (allowed k least (here ∷ [])) (done tt)
 
     under_says : {b : Answer (Unit {0})} → says ≡ b → line_under profile words k least line ≡ map_done (λ _. here ∷ []) b
-    unfolding says
     under_says q = sym (under_as profile words k least line (read_as words k line t e)) ∙ ap (map_done (λ _. here ∷ [])) q
 
-    sized_says : {r : Sized} → says ≡ done tt → r ≡ sized_at address number n → SizedAs address (line_under profile words k least line) r
-    sized_says q z = rw z (line_sized address here (under_says q) is)
+    module _ (q : says ≡ done tt) {r : Result SizedLine Refusal} where
+      pub sized_some : {x : SizedLine} → r ≡ Ok x → r ≡ sized_at address number n → SizedAs address (line_under profile words k least line) (Ok (Some x))
+      sized_some y z = line_some address here (under_says q) is z y
 
-    -- the profile is not asked
-    pub sized_plain : {r : Sized} → r ≡ sized_at address number n → profile ≡ false → SizedAs address (line_under profile words k least line) r
-    unfolding says
-    sized_plain z f = sized_says (ap (λ (b : Bool). cond b (allowed k least (here ∷ [])) (done tt)) f) z
+      pub sized_over : {x : Refusal} → r ≡ Err x → r ≡ sized_at address number n → SizedAs address (line_under profile words k least line) (Err x)
+      sized_over y z = line_not address here (under_says q) is z y
+
+    -- it is not asked
+    pub says_plain : profile ≡ false → says ≡ done tt
+    says_plain f = ap (λ (b : Bool). cond b (allowed k least (here ∷ [])) (done tt)) f
 
     -- it is asked
     module _ (p : profile ≡ true) {zero : Bool} (zero_is : zero ≡ holds_zero (crunched_body words (take (to - from) (drop from line)))) (x : Result (Unit {0}) Refusal)
@@ -106,15 +123,14 @@ module _ (profile : Bool) (words : Lexicon) (k least : ℕ) (line : List ℕ) (a
           ∙ says_cut k least number (holds_zero here.body) (length here.body)
 
       says_is : says ≡ and_then (answered x) (λ _. done tt)
-      unfolding says
       says_is =
           ap (λ (b : Bool). cond b (allowed k least (here ∷ [])) (done tt)) p
           ∙ ap (λ (b : Answer (Unit {0})). and_then b (λ _. done tt)) (sym line_says)
 
-      pub sized_allowed : {r : Sized} → r ≡ sized_at address number n → x ≡ (Ok tt) → SizedAs address (line_under profile words k least line) r
-      sized_allowed z y = sized_says (says_is ∙ ap (λ (v : Result (Unit {0}) Refusal). and_then (answered v) (λ _. done tt)) y) z
+      pub says_allowed : x ≡ Ok tt → says ≡ done tt
+      says_allowed y = says_is ∙ ap (λ (v : Result (Unit {0}) Refusal). and_then (answered v) (λ _. done tt)) y
 
-      pub sized_not : {v : Refusal} → x ≡ Err v → SizedAs address (line_under profile words k least line) (SizedAsRefused v)
+      pub sized_not : {v : Refusal} → x ≡ Err v → SizedAs address (line_under profile words k least line) (Err v)
       unfolding SizedAs
       sized_not y =
           ap (λ (a : Answer (List NumberedBody)). and_then a (last_link address))

@@ -1,14 +1,15 @@
 -- For helpers of the passes over a text alone: what is measured of a text line.
 -- Assumes nothing.
 use Rattle.std.specs.Prelude.{ℕ, ◌+◌, ◌≤◌, ◌≡◌, cond, List, [], ◌∷◌, ltb}
+use Rattle.std.specs.Prelude.{Option, Some, None, Result, Ok, Err}
+use Rattle.base_refusals.specs.declared.Refusal.{Refusal}
 use Rattle.base_refusals.specs.declared.Refusal.TheVariants.{AddressOverflow}
 use Rattle.base_refusals.specs.Answer.{Answer, done, refused, numbered, and_then}
 use Rattle.body_rules.specs.Lexicon.{Lexicon}
 use Rattle.image_readers.specs.NumberedBody.{NumberedBody}
 use Rattle.image_layout.specs.Layout.{link_of, end_address}
 use Rattle.crunch_rules.specs.Crunched.{text_line, last_link}
-use Rattle.crunch_sizes.specs.declared.Sized.{Sized}
-use Rattle.crunch_sizes.specs.declared.Sized.TheVariants.{Blank, Numbered, Refused}
+use Rattle.crunch_sizes.specs.declared.SizedLine.{SizedLine}
 use Rattle.crunch_rules.specs.PassesHelpers.{given}
 
 -- a text line gives one line, with this number; behind it is this address
@@ -19,14 +20,14 @@ pub record LineSized (address : ℕ) (a : Answer (List NumberedBody)) (number be
   pub high : behind ≤ 0xFFFF
 
 -- what was measured of a text line that gives a, at an address
-unfoldable pub SizedAs : ℕ → Answer (List NumberedBody) → Sized → Type 0
-SizedAs address a Blank = a ≡ done []
-SizedAs address a (Numbered number behind) = LineSized address a number behind
-SizedAs address a (Refused r) = and_then a (last_link address) ≡ refused (numbered r)
+unfoldable pub SizedAs : ℕ → Answer (List NumberedBody) → Result (Option SizedLine) Refusal → Type 0
+SizedAs address a (Ok None) = a ≡ done []
+SizedAs address a (Ok (Some l)) = LineSized address a l.number l.behind
+SizedAs address a (Err r) = and_then a (last_link address) ≡ refused (numbered r)
 
 -- a line at an address, whose body has so many bytes
-abbrev pub sized_at : ℕ → ℕ → ℕ → Sized
-sized_at address number size = cond (ltb 0xFFFF (address + 5 + size)) (Refused AddressOverflow) (Numbered number (address + 5 + size))
+abbrev pub sized_at : ℕ → ℕ → ℕ → Result SizedLine Refusal
+sized_at address number size = cond (ltb 0xFFFF (address + 5 + size)) (Err AddressOverflow) (Ok (record { number = number; behind = address + 5 + size }))
 
 -- r is no lower than the address; where it is at most FFFF, the text line is not refused, whatever its place, and the lines that it gives from
 -- the address on end at r at the latest

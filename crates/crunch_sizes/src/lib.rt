@@ -12,12 +12,11 @@ use text_numbers::Numbering;
 use word_match::sets::Sets;
 use word_tables::Words;
 
-// What a text line gives: nothing, a line with the address behind it, or a refusal.
+// The line that a text line gives: its number, and the address behind it.
 #[derive(Clone, Copy)]
-pub enum Sized {
-    Blank,
-    Numbered { number: u16, behind: usize },
-    Refused(Refusal),
+pub struct SizedLine {
+    pub number: u16,
+    pub behind: usize,
 }
 
 // Where a text line is met: whether the profile is asked, the line's place from 1, the least number that it may have, and the address of its
@@ -30,49 +29,47 @@ pub struct Spot {
     pub address: usize,
 }
 
-// A text line.
-#[tactic(auto, using(crate::proofs::Sizing::sized_plain))]
-pub fn measure_line(line: &[u8], spot: Spot, words: Words, sets: Sets) -> Sized
+// What a text line gives: a line, or none where it is blank.
+pub fn measure_line(
+    line: &[u8],
+    spot: Spot,
+    words: Words,
+    sets: Sets,
+) -> Result<Option<SizedLine>, Refusal>
     requires { (spot.address ≤ 0xFFFF) }
     ensures { SizedAs spot.address (line_under spot.profile (lexicon sets) spot.k spot.least line.now) result }
 {
     let k = spot.k;
     match text_numbers::number_line(line) {
-        Numbering::Blank => Sized::Blank,
-        Numbering::Missing => Sized::Refused(Refusal::MissingLineNumber { line: k }),
-        Numbering::OutOfRange { value } => Sized::Refused(Refusal::LineNumberOutOfRange {
-            line: k,
-            value,
-        }),
+        Numbering::Blank => Ok(None),
+        Numbering::Missing => Err(Refusal::MissingLineNumber { line: k }),
+        Numbering::OutOfRange { value } => Err(Refusal::LineNumberOutOfRange { line: k, value }),
         Numbering::Numbered {
             number,
             body_from,
             body_to,
         } => {
-            let length = body::measure_body(&line[body_from..body_to], words, sets);
-            let profile = spot.profile;
-            if !profile {
-                return size_line(spot.address, number, length);
+            let body = &line[body_from..body_to];
+            let length = body::measure_body(body, words, sets);
+            if spot.profile {
+                let zero = zero::holds_zero(body, words, sets);
+                crunch_profile::allow_line(k, spot.least, number, zero, length)?;
             }
-            let zero = zero::holds_zero(&line[body_from..body_to], words, sets);
-            match crunch_profile::allow_line(k, spot.least, number, zero, length) {
-                Ok(()) => size_line(spot.address, number, length),
-                Err(refusal) => Sized::Refused(refusal),
-            }
+            Ok(Some(size_line(spot.address, number, length)?))
         }
     }
 }
 
 // A line at an address, with a body of so many bytes.
-fn size_line(address: usize, number: u16, length: usize) -> Sized
+fn size_line(address: usize, number: u16, length: usize) -> Result<SizedLine, Refusal>
     requires { (address ≤ 0xFFFF) × (length ≤ 65536) }
     ensures { result ≡ sized_at address number length }
 {
     let behind = address + 5 + length;
     if behind > 0xFFFF {
-        return Sized::Refused(Refusal::AddressOverflow);
+        return Err(Refusal::AddressOverflow);
     }
-    Sized::Numbered { number, behind }
+    Ok(SizedLine { number, behind })
 }
 
 // An address beyond which the line that a text line gives does not reach; one above FFFF where the text line may be refused.

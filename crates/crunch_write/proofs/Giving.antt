@@ -2,6 +2,7 @@
 -- Assumes nothing.
 use Prim.Native.Nat.{ℕ, ◌-◌, ◌≤◌}
 use mathlib.Core.Path.{◌≡◌, sym, ap, ◌∙◌}
+use mathlib.Core.Logic.{◌⊎◌, inl, inr}
 use mathlib.Core.List.{List, [], append-nil}
 use native.Mathlib.Omega.{arith}
 use lib.ListN.{length, take, drop}
@@ -33,14 +34,11 @@ module _ (words : Lexicon) (address : ℕ) (line : List ℕ) {m : Numbering} whe
 
   -- none
   module _ {buffer : List ℕ} where
-    pub blank_put : m ≡ Blank → m ≡ numbering line → Put buffer 0 (lines_bytes address (given (text_line words 0 line))) 0 buffer
-    blank_put t e = none_put words address line (by_given t e)
-
-    pub missing_put : m ≡ Missing → m ≡ numbering line → Put buffer 0 (lines_bytes address (given (text_line words 0 line))) 0 buffer
-    missing_put t e = none_put words address line (by_given t e)
-
-    pub range_put : {v : ℕ} → m ≡ OutOfRange v → m ≡ numbering line → Put buffer 0 (lines_bytes address (given (text_line words 0 line))) 0 buffer
-    range_put t e = none_put words address line (by_given t e)
+    pub none_given : (m ≡ Blank) ⊎ ((m ≡ Missing) ⊎ ((v : ℕ) × (m ≡ OutOfRange v))) → m ≡ numbering line
+        → Put buffer 0 (lines_bytes address (given (text_line words 0 line))) 0 buffer
+    none_given (inl t) e = none_put words address line (by_given t e)
+    none_given (inr (inl t)) e = none_put words address line (by_given t e)
+    none_given (inr (inr (v, t))) e = none_put words address line (by_given t e)
 
   -- or the one line
   module _ {number from to : ℕ} where

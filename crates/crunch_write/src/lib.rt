@@ -1,7 +1,7 @@
 // The writing pass: the image of a text that has one, in a buffer that has the room.
 #![tactic(auto)]
 
-ghost use Rattle.std.specs.Prelude.{◌≡◌, ◌≤◌, false};
+ghost use Rattle.std.specs.Prelude.{◌≡◌, ◌≤◌, false, Ok};
 ghost use Rattle.base_lent.specs.Lent.{into_buffer, left};
 ghost use Rattle.base_lent.specs.Stores.{Room, Put, HasRoom};
 ghost use Rattle.body_rules.specs.Lexicon.{lexicon};
@@ -16,63 +16,37 @@ use word_match::sets::Sets;
 use word_tables::Words;
 
 // Writes the image, and answers its length.
-pub fn write(
-    out: &mut [u8],
-    text: &[u8],
-    load: u16,
-    words: Words,
-    sets: Sets,
-) -> usize
+pub fn write(out: &mut [u8], text: &[u8], load: u16, words: Words, sets: Sets) -> usize
     requires { HasRoom out.old (text_image false (lexicon sets) load text.now) }
-    ensures { left (Outcome.Done result) out.new ≡ into_buffer (text_image false (lexicon sets) load text.now) out.old }
+    ensures { left (Ok result) out.new ≡ into_buffer (text_image false (lexicon sets) load text.now) out.old }
 {
     let first = load as usize;
     let mut to = put_two(out, 0, load);
     let mut at: usize = 0;
     while at < text.len() {
-        let line = text_lines::next_line(text, at, LineRule::AfterCr);
-        let begin = line.begin;
-        let end = line.end;
+        let next = text_lines::next_line(text, at, LineRule::AfterCr);
+        let line = &text[next.begin..next.end];
         let address = first + to - 2;
-        let n = write_line(
-            &mut out[to..],
-            address,
-            &text[begin..end],
-            words,
-            sets,
-        );
-        to += n;
-        at = line.next;
+        to += write_line(&mut out[to..], address, line, words, sets);
+        at = next.next;
     }
     put_two(out, to, 0)
 }
 
 // Writes what a text line gives at an address to the start of a buffer, and answers how many bytes that is.
-fn write_line(
-    out: &mut [u8],
-    address: usize,
-    line: &[u8],
-    words: Words,
-    sets: Sets,
-) -> usize
+fn write_line(out: &mut [u8], address: usize, line: &[u8], words: Words, sets: Sets) -> usize
     requires { (address ≤ 0xFFFF) × Room out.old 0 (lines_bytes address (given (text_line (lexicon sets) 0 line.now))) }
     ensures { Put out.old 0 (lines_bytes address (given (text_line (lexicon sets) 0 line.now))) result out.new }
 {
     match text_numbers::number_line(line) {
-        Numbering::Blank => 0,
-        Numbering::Missing => 0,
-        Numbering::OutOfRange { value: _ } => 0,
+        Numbering::Blank | Numbering::Missing | Numbering::OutOfRange { value: _ } => 0,
         Numbering::Numbered {
             number,
             body_from,
             body_to,
         } => {
-            let length = body::write_body(
-                &mut out[4..],
-                &line[body_from..body_to],
-                words,
-                sets,
-            );
+            let body = &line[body_from..body_to];
+            let length = body::write_body(&mut out[4..], body, words, sets);
             put_frame(out, address, number, length)
         }
     }
@@ -88,8 +62,7 @@ fn put_frame(out: &mut [u8], address: usize, number: u16, length: usize) -> usiz
     out[1] = (link / 256 % 256) as u8;
     out[2] = (number % 256) as u8;
     out[3] = (number / 256 % 256) as u8;
-    let end = length + 4;
-    out[end] = 0;
+    out[length + 4] = 0;
     length + 5
 }
 

@@ -5,6 +5,7 @@
 #![tactic(auto)]
 
 pub mod input;
+pub mod line;
 pub mod names;
 pub mod options;
 pub mod output;

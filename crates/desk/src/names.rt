@@ -1,6 +1,5 @@
 // The names that a program was given.
-ghost use Rattle.std.specs.Prelude.{◌≡◌};
-ghost use Rattle.io.specs.Counts.{IsPrefixLen};
+ghost use Rattle.std.specs.Prelude.{◌≡◌, ◌+◌, ◌≤◌, length};
 ghost use Rattle.desk.specs.WayHelpers.{way_of};
 
 use desk_calls::words;
@@ -34,31 +33,33 @@ pub fn given(rt: &HostRuntime) -> bool {
 pub fn way_of(part: &[u8]) -> Way
     ensures { result ≡ way_of part.now }
 {
-    if part.len() < 1 {
-        return Way::Nowhere;
+    match part {
+        [] => Way::Nowhere,
+        [b'-'] => Way::InPlace,
+        _ => Way::Beside,
     }
-    if part.len() > 1 {
-        return Way::Beside;
-    }
-    if part[0] == b'-' {
-        return Way::InPlace;
-    }
-    Way::Beside
 }
 
 // Whether an argument names a file, and not standard input or output.
 pub fn is_file(rt: &HostRuntime, argument: usize) -> bool {
-    if !given(rt) {
-        return false;
-    }
     let mut word = io::buffer();
-    let length = name(rt, argument, &mut word);
-    length != 1 || word[0] != b'-'
+    given(rt) && name(rt, argument, &mut word) != b"-".as_slice()
 }
 
-// The name itself, at the start of a buffer; an empty one where it has no room.
-pub fn name(rt: &HostRuntime, argument: usize, buf: &mut [u8]) -> usize
-    ensures { IsPrefixLen result buf.new }
+// The name itself, which stands at the start of a buffer; an empty one where it has no room.
+pub fn name<'a>(rt: &HostRuntime, argument: usize, buf: &'a mut [u8]) -> &'a [u8]
+    ensures { length result.now ≤ length buf.old }
 {
     words::word(rt, argument, buf)
+}
+
+// What the input is called in a sentence.
+pub fn input_name<'a>(rt: &HostRuntime, buf: &'a mut [u8]) -> &'a [u8]
+    ensures { length result.now ≤ length buf.old + 14 }
+{
+    if is_file(rt, IN) {
+        name(rt, IN, buf)
+    } else {
+        b"standard input"
+    }
 }

@@ -23,12 +23,8 @@ pub fn tell(rt: &HostRuntime, name: &[u8], refusal: Refusal) -> bool {
 fn write_sentence(rt: &HostRuntime, code: Code, text: &[u8]) -> bool
     requires { length text.now ≤ 1048576 }
 {
-    if !names::is_file(rt, names::IN) {
-        return write_line(rt, b"standard input", text, code);
-    }
     let mut name = io::buffer();
-    let n = names::name(rt, names::IN, &mut name);
-    write_line(rt, &name[..n], text, code)
+    write_line(rt, names::input_name(rt, &mut name), text, code)
 }
 
 // Writes the number of a refusal to standard output, in the place of a result.
@@ -41,10 +37,7 @@ pub fn put_number(rt: &HostRuntime, refusal: Refusal) -> bool {
 
 // The same, where the result would have gone there.
 fn write_number(rt: &HostRuntime, refusal: Refusal) -> bool {
-    if names::is_file(rt, names::OUT) {
-        return true;
-    }
-    put_number(rt, refusal)
+    names::is_file(rt, names::OUT) || put_number(rt, refusal)
 }
 
 // Tells the status, last of all.
@@ -87,7 +80,7 @@ pub fn answer(rt: &HostRuntime, outcome: Result<usize, Refusal>, bytes: &[u8], t
     requires { Holds outcome bytes.now × (length text.now ≤ 1048576) }
 {
     match outcome {
-        Ok(n) => done(rt, result::write_whole(rt, &bytes[0..n])),
+        Ok(n) => done(rt, result::write_whole(rt, &bytes[..n])),
         Err(refusal) => refuse(rt, refusal, text),
     }
 }

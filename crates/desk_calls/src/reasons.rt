@@ -37,9 +37,10 @@ fn written(why: Error, room: &mut [u8]) -> usize
 }
 
 // The same, without the number that the library puts behind them.
-pub fn put(why: Error, room: &mut [u8]) -> usize
-    ensures { IsPrefixLen result room.new }
+pub fn put<'a>(why: Error, room: &'a mut [u8]) -> &'a [u8]
+    ensures { length result.now ≤ length room.old }
 {
     let end = written(why, room);
-    words_end(why, &room[..end])
+    let count = words_end(why, &room[..end]);
+    &room[..count]
 }

@@ -1,5 +1,5 @@
 // The words that a program was given, as their bytes: no word has to be text.
-ghost use Rattle.io.specs.Counts.{IsPrefixLen};
+ghost use Rattle.std.specs.Prelude.{◌≤◌, length};
 
 use std::env::{Env, FillError};
 
@@ -16,9 +16,10 @@ pub fn count(rt: &HostRuntime) -> usize {
         .count()
 }
 
-// The word itself, at the start of a buffer; an empty one where it is missing or has no room.
-pub fn word(rt: &HostRuntime, place: usize, buf: &mut [u8]) -> usize
-    ensures { IsPrefixLen result buf.new }
+// The word itself, which stands at the start of a buffer; an empty one where it is missing or has no room.
+pub fn word<'a>(rt: &HostRuntime, place: usize, buf: &'a mut [u8]) -> &'a [u8]
+    ensures { length result.now ≤ length buf.old }
 {
-    rt.arg(place, buf).unwrap_or(0)
+    let length = rt.arg(place, buf).unwrap_or(0);
+    &buf[..length]
 }

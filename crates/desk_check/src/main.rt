@@ -7,107 +7,69 @@ mod telling;
 
 use desk::input;
 use desk_calls::words;
-use desk_inputs::Input;
 use desk_status::Status;
-use image_fitness::Found;
-use image_readers::{Overview, links};
+use image_readers::links;
+use std::io::Result;
+use telling::Teller;
 
 // How many bytes a disk image has.
 const DISK: usize = 174_848;
 
-// What a file came to, and whether the run is over with it: where standard output is closed or full, nothing more can be said. What cannot be read
-// leaves the others to be checked.
-#[derive(Clone, Copy)]
-struct File {
-    status: Status,
-    is_last: bool,
-}
-
 // Walks over the faults of an image that was read, and says each.
-fn walk(rt: &HostRuntime, name: &[u8], image: &[u8], is_quiet: bool) -> Status {
+fn walk(tell: &Teller, image: &[u8]) -> Status {
     let mut marked = [0u8; 65536];
     image_marks::mark_numbers(image, &mut marked);
     let mut place = image_fitness::first();
     let mut run = Status::Done;
-    loop {
-        match image_fitness::next_fault(image, &marked, place) {
-            Found::Fault {
-                fault,
-                place: behind,
-            } => {
-                run = desk_status::worse(run, telling::tell_fault(rt, name, fault, is_quiet));
-                if let Status::Failed = run {
-                    return run;
-                }
-                place = behind;
-            }
-            Found::None => {
-                return run;
-            }
+    while let Some(found) = image_fitness::next_fault(image, &marked, place) {
+        run = desk_status::worse(run, tell.tell_fault(found.fault));
+        if run == Status::Failed {
+            return run;
         }
+        place = found.place;
     }
+    run
 }
 
 // Checks a program.
-pub fn check_program(rt: &HostRuntime, name: &[u8], image: &[u8], is_quiet: bool) -> Status {
+pub fn check_program(tell: &Teller, image: &[u8]) -> Status {
     match links::check(image) {
-        Ok(Overview { load, lines }) => {
-            let run = walk(rt, name, image, is_quiet);
-            telling::tell_program(rt, name, load, lines, run, is_quiet)
-        }
-        Err(refusal) => telling::tell_refusal(rt, name, refusal, is_quiet),
+        Ok(overview) => tell.tell_program(overview, walk(tell, image)),
+        Err(refusal) => tell.tell_refusal(refusal),
     }
 }
 
-fn check_bytes(rt: &HostRuntime, name: &[u8], bytes: &[u8], is_quiet: bool) -> Status {
+fn check_bytes(tell: &Teller, bytes: &[u8]) -> Status {
     if bytes.len() == DISK {
-        return disks::check_disk(rt, name, bytes, is_quiet);
-    }
-    check_program(rt, name, bytes, is_quiet)
-}
-
-// What a file came to that was read: only where it could not be told it has failed.
-fn told(status: Status) -> File {
-    if let Status::Failed = status {
-        return File {
-            status,
-            is_last: true,
-        };
-    }
-    File {
-        status,
-        is_last: false,
+        disks::check_disk(tell, bytes)
+    } else {
+        check_program(tell, bytes)
     }
 }
 
 // Checks the file that an argument names.
-fn check_file(rt: &HostRuntime, argument: usize, buf: &mut [u8], is_quiet: bool) -> File {
-    let mut name = io::buffer();
-    let n = words::word(rt, argument, &mut name);
-    match input::read_file(rt, &name[..n], buf) {
-        Input::All(count) => told(check_bytes(rt, &name[..n], &buf[0..count], is_quiet)),
+fn check_file(rt: &HostRuntime, argument: usize, buf: &mut [u8], is_quiet: bool) -> Result<Status> {
+    let mut word = io::buffer();
+    let name = words::word(rt, argument, &mut word);
+    let tell = Teller { rt, name, is_quiet };
+    match input::read_file(rt, name, buf)? {
+        Some(count) => Ok(check_bytes(&tell, &buf[..count])),
         // The buffer is longer than an image may be: what is in it is refused as too long.
-        Input::Longer => told(check_program(rt, &name[..n], buf, is_quiet)),
-        Input::Failed(_) => File {
-            status: Status::Failed,
-            is_last: false,
-        },
+        None => Ok(check_program(&tell, buf)),
     }
 }
 
-// Checks the files that the arguments from the second on name. What cannot be read is told, and the others are checked all the same.
+// Checks the files that the arguments from the second on name.
 fn check_files(rt: &HostRuntime, buf: &mut [u8], is_quiet: bool) -> Status {
-    let count = words::count(rt);
     let mut status = Status::Done;
-    let mut i: usize = 2;
-    while i < count {
-        let file = check_file(rt, i, buf, is_quiet);
-        let came = file.status;
-        status = desk_status::worse(status, came);
-        if file.is_last {
-            return status;
+    for i in 2..words::count(rt) {
+        match check_file(rt, i, buf, is_quiet) {
+            // Standard output is closed or full: nothing more can be said.
+            Ok(Status::Failed) => return Status::Failed,
+            Ok(came) => status = desk_status::worse(status, came),
+            // What cannot be read is told, and the others are checked all the same.
+            Err(_) => status = Status::Failed,
         }
-        i += 1;
     }
     status
 }
@@ -115,8 +77,7 @@ fn check_files(rt: &HostRuntime, buf: &mut [u8], is_quiet: bool) -> Status {
 // Whether the first argument is the letter q.
 fn is_quiet(rt: &HostRuntime) -> bool {
     let mut word = io::buffer();
-    let n = words::word(rt, 1, &mut word);
-    n == 1 && word[0] == b'q'
+    words::word(rt, 1, &mut word) == b"q".as_slice()
 }
 
 fn main(rt: HostRuntime) {

@@ -1,24 +1,21 @@
 // Totals in files: 206 numbers of eight bytes, the low byte first. Several may stand one behind the other, as a pipe brings them.
-ghost use Rattle.std.specs.Prelude.{◌≡◌, ◌+◌, ◌*◌, ◌≤◌, length};
+ghost use Rattle.std.specs.Prelude.{◌≡◌, length};
 
 use count_images::Carried;
+use desk::line::Line;
 use desk::{output, result, saying};
 use desk_calls::{files, words};
-use desk_inputs::Part;
 use desk_status::Status;
-use say_put::put_text;
 use std::io::Read;
 
 // No input has so many totals.
-const MOST_TOTALS: u64 = 1_000_000;
+const MOST_TOTALS: usize = 1_000_000;
 
 // Writes totals to standard output, at once: a pipe keeps them whole.
 pub fn write(rt: &HostRuntime, totals: &[u64; 206]) -> bool {
     let mut bytes = [0u8; 1648];
-    let mut k: usize = 0;
-    while k < 206 {
-        put(&mut bytes, k, totals[k]);
-        k += 1;
+    for (k, n) in totals.iter().enumerate() {
+        bytes[8 * k..8 * k + 8].copy_from_slice(&n.to_le_bytes());
     }
     result::write_output(rt, &bytes)
 }
@@ -28,15 +25,12 @@ pub fn join_files(rt: &HostRuntime, count: usize, totals: &mut [u64]) -> Status 
     if count < 3 {
         return join_all(rt, &mut rt.stdin(), b"standard input", totals);
     }
-    let mut i: usize = 2;
-    while i < count {
+    for i in 2..count {
         let mut name = io::buffer();
-        let n = words::word(rt, i, &mut name);
-        let joined = join_file(rt, &name[..n], totals);
-        if !desk_status::is_done(joined) {
+        let joined = join_file(rt, words::word(rt, i, &mut name), totals);
+        if joined != Status::Done {
             return joined;
         }
-        i += 1;
     }
     Status::Done
 }
@@ -54,45 +48,34 @@ fn join_file(rt: &HostRuntime, name: &[u8], totals: &mut [u64]) -> Status {
 // Joins the totals up to the end of an input, which has some: where a part could not be counted, its file is empty. A proved loop has to end,
 // and nothing says that the input does: there are at most 1,000 images, and of totals without one no archive has so many.
 fn join_all<R: Read>(rt: &HostRuntime, from: &mut R, name: &[u8], totals: &mut [u64]) -> Status {
-    let mut left: u64 = MOST_TOTALS;
-    while left > 0 {
+    for joined in 0..MOST_TOTALS {
         let mut bytes = [0u8; 1648];
         match desk_inputs::read_part(from, &mut bytes) {
-            Part::Whole => {
-                let joined = join(rt, name, &bytes, totals);
-                if !desk_status::is_done(joined) {
-                    return joined;
+            Ok(None) => {
+                let status = join(rt, name, &bytes, totals);
+                if status != Status::Done {
+                    return status;
                 }
             }
-            Part::Cut(n) => {
-                if n == 0 && left < MOST_TOTALS {
-                    return Status::Done;
-                }
-                return no_totals(rt, name);
-            }
-            Part::Failed(why) => {
+            Ok(Some(0)) if joined > 0 => return Status::Done,
+            Ok(Some(_)) => return no_totals(rt, name),
+            Err(why) => {
                 saying::fail(rt, name, why);
                 return Status::Failed;
             }
         }
-        left -= 1;
     }
     no_totals(rt, name)
 }
 
 // Joins totals as they stand in a file.
-fn join(rt: &HostRuntime, name: &[u8], bytes: &[u8], totals: &mut [u64]) -> Status
-    requires { length bytes.now ≡ 1648 }
-{
+fn join(rt: &HostRuntime, name: &[u8], bytes: &[u8; 1648], totals: &mut [u64]) -> Status {
     let mut other = [0u64; 206];
-    let mut k: usize = 0;
-    while k < 206 {
-        other[k] = number_at(bytes, 8 * k);
-        k += 1;
+    for (n, eight) in other.iter_mut().zip(bytes.as_chunks::<8>().0) {
+        *n = u64::from_le_bytes(*eight);
     }
     match count_images::join(totals, &other) {
-        Carried::Taken => Status::Done,
-        Carried::Apart(_) => Status::Done,
+        Carried::Taken | Carried::Apart(_) => Status::Done,
         Carried::Refused(refusal) => desk_status::written(
             output::tell(rt, name, refusal),
             Status::Refused,
@@ -102,38 +85,9 @@ fn join(rt: &HostRuntime, name: &[u8], bytes: &[u8], totals: &mut [u64]) -> Stat
 }
 
 fn no_totals(rt: &HostRuntime, name: &[u8]) -> Status {
-    let mut line = [0u8; 4352];
-    let from = put_text(&mut line, 0, name);
-    let end = put_text(&mut line, from, b": no totals, or totals cut short");
-    saying::tell(rt, &line[..end]);
+    let mut line = Line::<4352>::new();
+    line.put(name);
+    line.put(b": no totals, or totals cut short");
+    saying::tell(rt, line.bytes());
     Status::Failed
-}
-
-// Stores a number of eight bytes at its place among such numbers.
-fn put(bytes: &mut [u8], place: usize, n: u64)
-    requires { (place ≤ 205) × (8 * place + 8 ≤ length bytes.old) }
-{
-    let mut left = n;
-    let mut i: usize = 0;
-    while i < 8 {
-        bytes[8 * place + i] = (left % 256) as u8;
-        left /= 256;
-        i += 1;
-    }
-}
-
-fn pair(low: u8, high: u8) -> u16 {
-    (low as u16) + 256 * (high as u16)
-}
-
-fn four(bytes: &[u8], at: usize) -> u32
-    requires { at + 4 ≤ length bytes.now }
-{
-    (pair(bytes[at], bytes[at + 1]) as u32) + 65_536 * (pair(bytes[at + 2], bytes[at + 3]) as u32)
-}
-
-fn number_at(bytes: &[u8], at: usize) -> u64
-    requires { at + 8 ≤ length bytes.now }
-{
-    (four(bytes, at) as u64) + 4_294_967_296 * (four(bytes, at + 4) as u64)
 }

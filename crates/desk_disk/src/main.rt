@@ -7,10 +7,9 @@ mod saving;
 ghost use Rattle.std.specs.Prelude.{◌≤◌, length};
 
 use base_refusals::Refusal;
+use desk::line::Line;
 use desk::{input, names, output};
-use desk_inputs::Input;
 use disk_rules::Holding;
-use say_put::{put_decimal, put_text};
 
 const COMMAND: usize = names::WORDS;
 
@@ -18,10 +17,7 @@ const NAME: usize = names::WORDS + 1;
 
 // Writes the disk as a call left it, or says why that call was refused.
 fn answer_changed(rt: &HostRuntime, changed: Result<(), Refusal>, disk: &[u8]) {
-    match changed {
-        Ok(()) => output::answer(rt, Ok(disk.len()), disk, b""),
-        Err(refusal) => output::refuse(rt, refusal, b""),
-    }
+    output::answer(rt, changed.and(Ok(disk.len())), disk, b"");
 }
 
 // Makes a fresh disk with files on it, which ./moldthatch gives its name where that is not taken.
@@ -35,25 +31,22 @@ fn format(rt: &HostRuntime) {
 
 fn save(rt: &HostRuntime, disk: &mut [u8]) {
     match disk::check(disk) {
-        Ok(Holding { files: _, free: _ }) => saving::save_files(rt, disk, false),
+        Ok(_) => saving::save_files(rt, disk, false),
         Err(refusal) => output::refuse(rt, refusal, b""),
     }
 }
 
 // The name that a word stands for, at the start of a buffer.
-fn given_name(rt: &HostRuntime, name: &mut [u8]) -> usize
-    ensures { result ≤ length name.new }
-{
+fn given_name<'a>(rt: &HostRuntime, name: &'a mut [u8]) -> &'a [u8] {
     let mut text = io::buffer();
-    let n = names::name(rt, NAME, &mut text);
-    disk_names::given(&text[..n], name)
+    let count = disk_names::given(names::name(rt, NAME, &mut text), name);
+    &name[..count]
 }
 
 fn scratch(rt: &HostRuntime, disk: &mut [u8]) {
     // One byte more than a name may have: what is cut off does not make it one.
     let mut name = [0u8; 17];
-    let length = given_name(rt, &mut name);
-    let changed = disk::scratch(disk, &name[..length]);
+    let changed = disk::scratch(disk, given_name(rt, &mut name));
     answer_changed(rt, changed, disk);
 }
 
@@ -70,8 +63,7 @@ fn read_named(rt: &HostRuntime, disk: &[u8], name: &[u8]) {
 
 fn read(rt: &HostRuntime, disk: &[u8]) {
     let mut name = [0u8; 17];
-    let length = given_name(rt, &mut name);
-    read_named(rt, disk, &name[..length]);
+    read_named(rt, disk, given_name(rt, &mut name));
 }
 
 fn show(rt: &HostRuntime, disk: &[u8]) {
@@ -81,74 +73,49 @@ fn show(rt: &HostRuntime, disk: &[u8]) {
     output::answer(rt, outcome, &text, b"");
 }
 
-// So many files: one, or several.
-fn put_files(out: &mut [u8], files: usize) -> usize
-    ensures { result ≤ length out.new }
-{
-    let to = put_decimal(out, 0, files);
-    if files == 1 {
-        return put_text(out, to, b" file, ");
-    }
-    put_text(out, to, b" files, ")
-}
-
-fn put_check(out: &mut [u8], files: usize, free: usize) -> usize
-    ensures { result ≤ length out.new }
-{
-    let from = put_files(out, files);
-    let to = put_decimal(out, from, free);
-    put_text(out, to, b" sectors free\n")
-}
-
-fn answer_check(rt: &HostRuntime, files: usize, free: usize) {
-    let mut text = [0u8; 64];
-    let end = put_check(&mut text, files, free);
-    output::answer(rt, Ok(end), &text, b"");
+// How many files a sound disk has, and how many sectors are free.
+fn answer_check(rt: &HostRuntime, held: Holding) {
+    let mut line = Line::<64>::new();
+    line.put_decimal(held.files);
+    line.put(if held.files == 1 {
+        b" file, "
+    } else {
+        b" files, "
+    });
+    line.put_decimal(held.free);
+    line.put(b" sectors free\n");
+    let bytes = line.bytes();
+    output::answer(rt, Ok(bytes.len()), bytes, b"");
 }
 
 fn check(rt: &HostRuntime, disk: &[u8]) {
     match disk::check(disk) {
-        Ok(Holding { files, free }) => answer_check(rt, files, free),
+        Ok(held) => answer_check(rt, held),
         Err(refusal) => output::refuse(rt, refusal, b""),
     }
 }
 
-// What changes no byte of the disk.
-fn look_at(rt: &HostRuntime, command: &[u8], disk: &[u8]) {
-    if command == b"read".as_slice() {
-        read(rt, disk);
-    } else if command == b"dir".as_slice() {
-        show(rt, disk);
-    } else {
-        check(rt, disk);
-    }
-}
-
 fn work(rt: &HostRuntime, command: &[u8], disk: &mut [u8]) {
-    if command == b"save".as_slice() {
-        save(rt, disk);
-    } else if command == b"scratch".as_slice() {
-        scratch(rt, disk);
-    } else {
-        look_at(rt, command, disk);
+    match command {
+        b"save" => save(rt, disk),
+        b"scratch" => scratch(rt, disk),
+        b"read" => read(rt, disk),
+        b"dir" => show(rt, disk),
+        _ => check(rt, disk),
     }
 }
 
 fn read_and_work(rt: &HostRuntime, command: &[u8]) {
     let mut disk = [0u8; 174_848];
-    match input::read_given(rt, &mut disk) {
-        Input::All(count) => work(rt, command, &mut disk[0..count]),
-        Input::Longer => output::refuse(rt, Refusal::BadDisk, b""),
-        Input::Failed(_) => output::fail(rt),
+    if let Some(count) = input::read_or_end(rt, Refusal::BadDisk, &mut disk) {
+        work(rt, command, &mut disk[..count]);
     }
 }
 
 fn main(rt: HostRuntime) {
-    let mut command = io::buffer();
-    let n = names::name(&rt, COMMAND, &mut command);
-    if &command[..n] == b"format".as_slice() {
-        format(&rt);
-    } else {
-        read_and_work(&rt, &command[..n]);
+    let mut buf = io::buffer();
+    match names::name(&rt, COMMAND, &mut buf) {
+        b"format" => format(&rt),
+        command => read_and_work(&rt, command),
     }
 }

@@ -20,25 +20,22 @@ fn as_linked() -> ListOptions {
 
 // Writes the row of a line, and its listing.
 fn write_found(rt: &HostRuntime, row: &[u8], image: &[u8], line: Line) -> bool {
-    if !result::write_output(rt, row) {
-        return false;
-    }
     let mut out = [0u8; 8192];
-    desk_lines::write_line(
-        rt,
-        &Target::Output,
-        b"",
-        line.number,
-        image_find::body(image, line),
-        as_linked(),
-        &mut out,
-    )
+    result::write_output(rt, row)
+        && desk_lines::write_line(
+            rt,
+            &Target::Output,
+            line.number,
+            image_find::body(image, line),
+            as_linked(),
+            &mut out,
+        )
 }
 
 fn show_found(rt: &HostRuntime, image: &[u8], line: Line, visited: usize) {
     let mut row = [0u8; 128];
     match image_rows::lend_found(line, visited, &mut row) {
-        Ok(n) => output::done(rt, write_found(rt, &row[0..n], image, line)),
+        Ok(n) => output::done(rt, write_found(rt, &row[..n], image, line)),
         Err(refusal) => output::refuse(rt, refusal, b""),
     }
 }
@@ -49,19 +46,15 @@ fn tell_missing(rt: &HostRuntime, name: &[u8], number: u16, visited: usize) -> b
 {
     let mut row = [0u8; 4608];
     match image_rows::lend_missing(name, number, visited, &mut row) {
-        Ok(n) => saying::tell(rt, &row[0..n]),
+        Ok(n) => saying::tell(rt, &row[..n]),
         Err(refusal) => output::tell(rt, name, refusal),
     }
 }
 
 // The same of what was read.
 fn tell_given(rt: &HostRuntime, number: u16, visited: usize) -> bool {
-    if !names::is_file(rt, names::IN) {
-        return tell_missing(rt, b"standard input", number, visited);
-    }
     let mut name = io::buffer();
-    let n = names::name(rt, names::IN, &mut name);
-    tell_missing(rt, &name[..n], number, visited)
+    tell_missing(rt, names::input_name(rt, &mut name), number, visited)
 }
 
 // Ends the program where no line has the number.
@@ -76,9 +69,9 @@ fn miss(rt: &HostRuntime, number: u16, visited: usize) {
 pub fn find(rt: &HostRuntime, image: &[u8], number: u16) {
     // No image has as many lines as bytes: the limit is not reached.
     match image_find::find_line(image, number, image.len()) {
-        Sought::Found { visited, line } => show_found(rt, image, line, visited),
-        Sought::Nowhere { visited } => miss(rt, number, visited),
-        Sought::LimitReached => output::fail(rt),
-        Sought::Refused(refusal) => output::refuse(rt, refusal, b""),
+        Ok(Sought::Found { visited, line }) => show_found(rt, image, line, visited),
+        Ok(Sought::Nowhere { visited }) => miss(rt, number, visited),
+        Ok(Sought::LimitReached) => output::fail(rt),
+        Err(refusal) => output::refuse(rt, refusal, b""),
     }
 }

@@ -7,9 +7,7 @@ mod places;
 mod references;
 
 use base_refusals::Refusal;
-use desk::options::AskedNumber;
 use desk::{input, names, options, output};
-use desk_inputs::Input;
 use image_readers::By;
 
 const COMMAND: usize = names::WORDS;
@@ -22,15 +20,6 @@ const TEXT: usize = names::WORDS + 1;
 
 const LINKS: usize = names::WORDS + 2;
 
-// What an image is looked at for.
-#[derive(Clone, Copy)]
-pub enum Look {
-    Line(u16),
-    Places(By),
-    Index,
-    Jumps,
-}
-
 fn write_index_in(rt: &HostRuntime, index: &mut [u8], image: &[u8]) {
     let outcome = image_index::write_index(image, index);
     output::answer(rt, outcome, index, b"");
@@ -42,28 +31,20 @@ fn write_index(rt: &HostRuntime, image: &[u8]) {
     write_index_in(rt, &mut index, image);
 }
 
-fn look_at(rt: &HostRuntime, image: &[u8], look: Look) {
-    match look {
-        Look::Line(number) => finding::find(rt, image, number),
-        Look::Places(by) => places::show_image(rt, image, by),
-        Look::Index => write_index(rt, image),
-        Look::Jumps => references::show(rt, image),
-    }
-}
-
-fn look_at_given(rt: &HostRuntime, look: Look) {
+// Looks at the image that the program was given.
+fn look_at_given<F: FnOnce(&[u8])>(rt: &HostRuntime, look: F)
+    requires { F.IsAlwaysCallable look }
+{
     let mut image = [0u8; 65_536];
-    match input::read_given(rt, &mut image) {
-        Input::All(count) => look_at(rt, &image[0..count], look),
-        Input::Longer => output::refuse(rt, Refusal::ImageTooLong { length: 65_537 }, b""),
-        Input::Failed(_) => output::fail(rt),
+    let longer = Refusal::ImageTooLong { length: 65_537 };
+    if let Some(count) = input::read_or_end(rt, longer, &mut image) {
+        look(&image[..count]);
     }
 }
 
 fn find_given(rt: &HostRuntime) {
-    match options::number(rt, NUMBER) {
-        AskedNumber::Known(number) => look_at_given(rt, Look::Line(number)),
-        AskedNumber::Ended => {}
+    if let Some(number) = options::number(rt, NUMBER) {
+        look_at_given(rt, |image| finding::find(rt, image, number));
     }
 }
 
@@ -71,26 +52,22 @@ fn show_places(rt: &HostRuntime) {
     if options::is_set(rt, TEXT) {
         places::show_given_text(rt);
     } else if options::is_set(rt, LINKS) {
-        look_at_given(rt, Look::Places(By::Links));
+        look_at_given(rt, |image| places::show_image(rt, image, By::Links));
     } else {
-        look_at_given(rt, Look::Places(By::Terminators));
+        look_at_given(rt, |image| places::show_image(rt, image, By::Terminators));
     }
 }
 
 fn work(rt: &HostRuntime, command: &[u8]) {
-    if command == b"find".as_slice() {
-        find_given(rt);
-    } else if command == b"where".as_slice() {
-        show_places(rt);
-    } else if command == b"index".as_slice() {
-        look_at_given(rt, Look::Index);
-    } else {
-        look_at_given(rt, Look::Jumps);
+    match command {
+        b"find" => find_given(rt),
+        b"where" => show_places(rt),
+        b"index" => look_at_given(rt, |image| write_index(rt, image)),
+        _ => look_at_given(rt, |image| references::show(rt, image)),
     }
 }
 
 fn main(rt: HostRuntime) {
     let mut command = io::buffer();
-    let n = names::name(&rt, COMMAND, &mut command);
-    work(&rt, &command[..n]);
+    work(&rt, names::name(&rt, COMMAND, &mut command));
 }

@@ -3,12 +3,9 @@ ghost use Rattle.std.specs.Prelude.{◌≤◌, length};
 
 use base_refusals::Refusal;
 use crunch_rules::Options;
-use desk::options::{AskedDialect, AskedNumber};
 use desk::{input, names, options, output};
-use desk_inputs::Input;
 use image_readers::By;
 use image_rows::places;
-use word_dialects::Dialect;
 
 const DIALECT: usize = names::WORDS + 3;
 
@@ -26,8 +23,7 @@ fn show_lines(rt: &HostRuntime, image: &[u8], by: By, lines: &[usize]) {
 }
 
 pub fn show_image(rt: &HostRuntime, image: &[u8], by: By) {
-    let lines = [0usize; 1];
-    show_lines(rt, image, by, &lines[..0]);
+    show_lines(rt, image, by, &[]);
 }
 
 fn show_origins(rt: &HostRuntime, text: &[u8], image: &[u8]) {
@@ -41,38 +37,32 @@ fn show_text(rt: &HostRuntime, text: &[u8], options: Options)
 {
     let mut image = [0u8; 65_536];
     match crunch_image::crunch(text, options, &mut image) {
-        Ok(n) => show_origins(rt, text, &image[0..n]),
+        Ok(n) => show_origins(rt, text, &image[..n]),
         Err(refusal) => output::refuse(rt, refusal, text),
     }
 }
 
 fn show_under(rt: &HostRuntime, options: Options) {
     let mut text = [0u8; 65_536];
-    match input::read_given(rt, &mut text) {
-        Input::All(count) => show_text(rt, &text[0..count], options),
-        Input::Longer => output::refuse(rt, Refusal::TextTooLong { length: 65_537 }, b""),
-        Input::Failed(_) => output::fail(rt),
+    let longer = Refusal::TextTooLong { length: 65_537 };
+    if let Some(count) = input::read_or_end(rt, longer, &mut text) {
+        show_text(rt, &text[..count], options);
     }
 }
 
-fn show_in(rt: &HostRuntime, dialect: Dialect) {
-    match options::load(rt, LOAD, dialect) {
-        AskedNumber::Known(load) => show_under(
-            rt,
-            Options {
-                load,
-                dialect,
-                profile: false,
-                forms: false,
-            },
-        ),
-        AskedNumber::Ended => {}
-    }
+// What the words ask for; nothing where the program has ended for one of them.
+fn asked(rt: &HostRuntime) -> Option<Options> {
+    let dialect = options::dialect(rt, DIALECT)?;
+    Some(Options {
+        load: options::load(rt, LOAD, dialect)?,
+        dialect,
+        profile: false,
+        forms: false,
+    })
 }
 
 pub fn show_given_text(rt: &HostRuntime) {
-    match options::dialect(rt, DIALECT) {
-        AskedDialect::Known(dialect) => show_in(rt, dialect),
-        AskedDialect::Ended => {}
+    if let Some(options) = asked(rt) {
+        show_under(rt, options);
     }
 }

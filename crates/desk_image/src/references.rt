@@ -49,7 +49,7 @@ fn show_index(rt: &HostRuntime, image: &[u8], index: &[u8]) {
 
 fn show_in(rt: &HostRuntime, index: &mut [u8], image: &[u8]) {
     match image_index::write_index(image, index) {
-        Ok(n) => show_index(rt, image, &index[0..n]),
+        Ok(n) => show_index(rt, image, &index[..n]),
         Err(refusal) => output::refuse(rt, refusal, b""),
     }
 }

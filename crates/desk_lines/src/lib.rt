@@ -33,17 +33,16 @@ pub fn asked(rt: &HostRuntime, dialect: Dialect) -> ListOptions {
 }
 
 // Writes the first bytes of a buffer.
-fn write_first(rt: &HostRuntime, target: &Target, name: &[u8], buf: &[u8], count: usize) -> bool
+fn write_first(rt: &HostRuntime, to: &Target, buf: &[u8], count: usize) -> bool
     requires { count ≤ length buf.now }
 {
-    result::write(rt, target, name, &buf[0..count])
+    result::write(rt, to, &buf[..count])
 }
 
 // Writes a line, one stretch after the other. Each brings the line nearer to its end, since a buffer of nine bytes holds every piece.
 pub fn write_line(
     rt: &HostRuntime,
-    target: &Target,
-    name: &[u8],
+    to: &Target,
     number: u16,
     body: &[u8],
     options: ListOptions,
@@ -52,57 +51,37 @@ pub fn write_line(
     requires { 9 ≤ length out.old }
 {
     let mut place = Place::Number(number);
-    loop {
+    while !matches!(place, Place::Over) {
         let taken = list_stretches::list_stretch(body, options, place, out);
-        let count = taken.length;
-        if !write_first(rt, target, name, out, count) {
+        if !write_first(rt, to, out, taken.length) {
             return false;
         }
         place = taken.place;
-        if let Place::Over = place {
-            return true;
-        }
     }
+    true
 }
 
 // Writes the lines of an image that has a listing.
 pub fn write_lines(
     rt: &HostRuntime,
-    target: &Target,
-    name: &[u8],
+    to: &Target,
     image: &[u8],
     options: ListOptions,
     out: &mut [u8],
 ) -> bool
     requires { 9 ≤ length out.old }
 {
-    let by = options.by;
     let mut offset: usize = 2;
-    loop {
-        match image_readers::step_by(image, offset, by) {
-            Ok(Some(line)) => {
-                let from = line.from;
-                let to = line.to;
-                if !write_line(
-                    rt,
-                    target,
-                    name,
-                    line.number,
-                    &image[from..to],
-                    options,
-                    out,
-                ) {
-                    return false;
-                }
-                offset = line.next;
-            }
-            Ok(None) => {
-                return true;
-            }
-            // The whole image was checked before.
-            Err(_) => {
-                return false;
-            }
+    while let Ok(step) = image_readers::step_by(image, offset, options.by) {
+        let Some(line) = step else {
+            return true;
+        };
+        let body = &image[line.from..line.to];
+        if !write_line(rt, to, line.number, body, options, out) {
+            return false;
         }
+        offset = line.next;
     }
+    // The whole image was checked before.
+    false
 }

@@ -6,10 +6,8 @@
 mod naming;
 
 use base_refusals::Refusal;
-use desk::options::AskedDialect;
 use desk::{input, names, options, output, result};
 use desk_calls::words;
-use desk_inputs::Input;
 use desk_status::Status;
 use list_options::ListOptions;
 
@@ -22,18 +20,14 @@ fn write_listing(
     file: &[u8],
     image: &[u8],
     options: ListOptions,
-) -> Status {
-    let mut name = io::buffer();
-    let n = naming::listing_name(rt, file, &mut name);
-    let Some(to) = result::begin(rt, &name[..n]) else {
-        return Status::Failed;
+) -> bool {
+    let mut buf = io::buffer();
+    let Some(to) = result::begin(rt, naming::listing_name(rt, file, &mut buf)) else {
+        return false;
     };
     let mut out = [0u8; 8192];
-    let written = desk_lines::write_lines(rt, &to, &name[..n], image, options, &mut out);
-    if result::finish_among(rt, to, &name[..n], written, argument) {
-        return Status::Done;
-    }
-    Status::Failed
+    let written = desk_lines::write_lines(rt, &to, image, options, &mut out);
+    result::finish_among(rt, to, written, argument)
 }
 
 fn refuse(rt: &HostRuntime, file: &[u8], refusal: Refusal) -> Status {
@@ -48,31 +42,30 @@ fn list_image(
     image: &[u8],
     options: ListOptions,
 ) -> Status {
-    let by = options.by;
-    match image_readers::check_by(image, by) {
-        Ok(_) => write_listing(rt, argument, file, image, options),
+    match image_readers::check_by(image, options.by) {
+        Ok(_) => desk_status::written(
+            write_listing(rt, argument, file, image, options),
+            Status::Done,
+        ),
         Err(refusal) => refuse(rt, file, refusal),
     }
 }
 
 fn list_file(rt: &HostRuntime, argument: usize, image: &mut [u8], options: ListOptions) -> Status {
-    let mut file = io::buffer();
-    let n = names::name(rt, argument, &mut file);
-    match input::read_file(rt, &file[..n], image) {
-        Input::All(count) => list_image(rt, argument, &file[..n], &image[0..count], options),
-        Input::Longer => refuse(rt, &file[..n], Refusal::ImageTooLong { length: 65_537 }),
-        Input::Failed(_) => Status::Failed,
+    let mut buf = io::buffer();
+    let file = names::name(rt, argument, &mut buf);
+    match input::read_file(rt, file, image) {
+        Ok(Some(count)) => list_image(rt, argument, file, &image[..count], options),
+        Ok(None) => refuse(rt, file, Refusal::ImageTooLong { length: 65_537 }),
+        Err(_) => Status::Failed,
     }
 }
 
 // Whatever a file comes to, the others are listed all the same.
 fn list_files(rt: &HostRuntime, image: &mut [u8], options: ListOptions) -> Status {
-    let count = words::count(rt);
     let mut status = Status::Done;
-    let mut i = FILES;
-    while i < count {
+    for i in FILES..words::count(rt) {
         status = desk_status::worse(status, list_file(rt, i, image, options));
-        i += 1;
     }
     status
 }
@@ -83,8 +76,7 @@ fn list_all(rt: &HostRuntime, options: ListOptions) {
 }
 
 fn main(rt: HostRuntime) {
-    match options::dialect(&rt, desk_lines::DIALECT) {
-        AskedDialect::Known(dialect) => list_all(&rt, desk_lines::asked(&rt, dialect)),
-        AskedDialect::Ended => {}
+    if let Some(dialect) = options::dialect(&rt, desk_lines::DIALECT) {
+        list_all(&rt, desk_lines::asked(&rt, dialect));
     }
 }

@@ -1,256 +1,180 @@
-// What is said about a file, a line for each finding. The lines stand on a page, behind the file's name, and are written when it is full and at the end: a
-// write has whole lines, so that those of two programs do not mix. Of one kind 1,000 are told, and the others are counted.
+// What is said about a file, a line for each finding. The lines stand on a page and are written when it is full and at the end: a write has whole
+// lines, so that those of two programs do not mix. Of one kind 1,000 are told, and the others are counted.
 use crate::sayings;
-use crate::sayings::add;
+use crate::sayings::{KINDS, Saying};
 use base_refusals::Refusal;
+use desk::line::Line;
 use desk::{result, saying};
+use desk_status::Status;
 use text_places::Place;
 
 // How many of one kind are told.
 const MOST: usize = 1000;
 
+// How many bytes a page has.
+const PAGE: usize = 65_536;
+
 // No line is longer, once it is shown: 9,216 bytes, each by at most five.
 const LONGEST: usize = 46_592;
 
-// What was found so far: whether a release would refuse the text, whether a line could not be written, and whether lines are to be
-// written at all; how long the name is with which the page begins, where its lines end, and how many of each kind there were.
-#[derive(Clone, Copy)]
-pub struct Tally {
-    pub faulty: bool,
-    pub failed: bool,
-    pub quiet: bool,
-    pub name: usize,
-    pub end: usize,
-    pub kinds: [usize; 23],
+// What was found so far of a file: whether a release would refuse it, whether a line could not be written, the lines that are still to be written, and
+// how many of each kind there were. A quiet one writes no line.
+#[derive(Drop)]
+pub struct Report<'a> {
+    rt: &'a HostRuntime,
+    name: &'a [u8],
+    is_quiet: bool,
+    is_faulty: bool,
+    is_failed: bool,
+    page: Line<PAGE>,
+    counts: [usize; 22],
 }
 
-fn add_number(line: &mut [u8], at: usize, n: usize) -> usize {
-    if at > line.len() {
-        return at;
+impl Report<'_> {
+    pub fn new<'a>(rt: &'a HostRuntime, name: &'a [u8], is_quiet: bool) -> Report<'a> {
+        Report {
+            rt,
+            name,
+            is_quiet,
+            is_faulty: false,
+            is_failed: false,
+            page: Line::new(),
+            counts: [0; 22],
+        }
     }
-    say_put::put_decimal(line, at, n)
-}
 
-// The name of the file, with which the page begins.
-fn add_name(line: &mut [u8], page: &[u8], name: usize) -> usize {
-    add(line, 0, sayings::cut(page, 0, name))
-}
-
-// A place in the file.
-fn add_place(line: &mut [u8], at: usize, place: Place) -> usize {
-    let b = add(line, at, b":");
-    let c = add_number(line, b, place.line);
-    let d = add(line, c, b":");
-    let e = add_number(line, d, place.column);
-    add(line, e, b": ")
-}
-
-// The same with other lines on the page.
-fn with_page(tally: Tally, end: usize, failed: bool) -> Tally {
-    let kinds = tally.kinds;
-    Tally {
-        faulty: tally.faulty,
-        failed,
-        quiet: tally.quiet,
-        name: tally.name,
-        end,
-        kinds,
+    pub fn is_quiet(&self) -> bool {
+        self.is_quiet
     }
-}
 
-// Writes the lines of the page, which then has none.
-pub fn flush(rt: &HostRuntime, tally: Tally, page: &[u8]) -> Tally {
-    let from = tally.name;
-    let to = tally.end;
-    if to <= from {
-        return tally;
+    // Writes the lines of the page, which then has none.
+    fn flush(&mut self) {
+        if !self.page.bytes().is_empty() {
+            let written = result::write_output(self.rt, self.page.bytes());
+            self.is_failed = self.is_failed || !written;
+            self.page = Line::new();
+        }
     }
-    let lines = sayings::cut(page, from, to);
-    let written = result::write_output(rt, lines);
-    with_page(tally, from, tally.failed || !written)
-}
 
-fn with_room(rt: &HostRuntime, tally: Tally, page: &[u8]) -> Tally {
-    if page.len() < sayings::sum(tally.end, LONGEST) {
-        return flush(rt, tally, page);
+    // Puts a line onto the page.
+    fn put(&mut self, line: &[u8]) {
+        if self.page.bytes().len() > PAGE - LONGEST {
+            self.flush();
+        }
+        self.page.put_shown(line);
+        self.page.put(b"\n");
     }
-    tally
-}
 
-// Puts a line onto the page.
-fn put(rt: &HostRuntime, tally: Tally, page: &mut [u8], line: &[u8]) -> Tally {
-    let t = with_room(rt, tally, page);
-    let end = sayings::add_line(page, t.end, line);
-    with_page(t, end, t.failed)
-}
-
-// Puts a sentence with a part of the text into a line, and the nearest name behind it where there is one.
-fn add_told(line: &mut [u8], at: usize, saying: usize, part: &[u8], near: &[u8]) -> usize {
-    let a = sayings::put_sentence(line, at, saying, part);
-    if near.len() == 0 {
-        return a;
+    // A line, which begins with the name of the file.
+    fn line(&self) -> Line<9216> {
+        let mut line = Line::new();
+        line.put(self.name);
+        line
     }
-    sayings::put_sentence(line, a, sayings::NEAREST, near)
-}
 
-// Puts a sentence about a place onto the page.
-fn put_told(
-    rt: &HostRuntime,
-    tally: Tally,
-    page: &mut [u8],
-    place: Place,
-    saying: usize,
-    part: &[u8],
-    near: &[u8],
-) -> Tally {
-    let mut line = [0u8; 9216];
-    let a = add_name(&mut line, page, tally.name);
-    let b = add_place(&mut line, a, place);
-    let c = add_told(&mut line, b, saying, part, near);
-    put(rt, tally, page, sayings::cut(&line, 0, c))
-}
-
-fn count_of(tally: Tally, saying: usize) -> usize {
-    let kinds = tally.kinds;
-    if saying < 23 {
-        return kinds[saying];
+    // Puts a sentence about a place onto the page, and the nearest name behind it where there is one.
+    fn put_told(&mut self, place: Place, saying: Saying, part: &[u8], near: &[u8]) {
+        let mut line = self.line();
+        line.put(b":");
+        line.put_decimal(place.line);
+        line.put(b":");
+        line.put_decimal(place.column);
+        line.put(b": ");
+        sayings::put_sentence(&mut line, saying, part);
+        if !near.is_empty() {
+            line.put(b"; the nearest name is {");
+            line.put(near);
+            line.put(b"}");
+        }
+        self.put(line.bytes());
     }
-    0
-}
 
-fn counted(tally: Tally, saying: usize) -> Tally {
-    let mut kinds = tally.kinds;
-    if saying < 23 {
-        kinds[saying] = sayings::sum(kinds[saying], 1);
+    // Counts one more of a kind; how many there are with it.
+    fn count(&mut self, saying: Saying) -> usize {
+        let count = &mut self.counts[saying as usize];
+        *count = count.saturating_add(1);
+        *count
     }
-    Tally {
-        faulty: tally.faulty || saying < sayings::REMARKS,
-        failed: tally.failed,
-        quiet: tally.quiet,
-        name: tally.name,
-        end: tally.end,
-        kinds,
+
+    // Tells a fault or a remark, unless nothing is to be written or too much was.
+    pub fn tell(&mut self, place: Place, saying: Saying, part: &[u8], near: &[u8]) {
+        self.is_faulty = self.is_faulty || saying.is_fault();
+        let count = self.count(saying);
+        if !self.is_quiet && count <= MOST {
+            self.put_told(place, saying, part, near);
+        }
     }
-}
 
-// Tells a fault or a remark, unless nothing is to be written or too much was.
-pub fn tell(
-    rt: &HostRuntime,
-    tally: Tally,
-    page: &mut [u8],
-    place: Place,
-    saying: usize,
-    part: &[u8],
-    near: &[u8],
-) -> Tally {
-    let t = counted(tally, saying);
-    if t.quiet || count_of(t, saying) > MOST {
-        return t;
+    // The same with nothing of the text in it.
+    pub fn tell_bare(&mut self, place: Place, saying: Saying) {
+        self.tell(place, saying, b"", b"");
     }
-    put_told(rt, t, page, place, saying, part, near)
-}
 
-// The same with nothing of the text in it.
-pub fn tell_bare(
-    rt: &HostRuntime,
-    tally: Tally,
-    page: &mut [u8],
-    place: Place,
-    saying: usize,
-) -> Tally {
-    tell(rt, tally, page, place, saying, b"", b"")
-}
-
-// Tells a fault of a whole line, or of a text at its first line.
-pub fn tell_line(
-    rt: &HostRuntime,
-    tally: Tally,
-    page: &mut [u8],
-    k: usize,
-    saying: usize,
-    part: &[u8],
-) -> Tally {
-    tell(
-        rt,
-        tally,
-        page,
-        Place { line: k, column: 1 },
-        saying,
-        part,
-        b"",
-    )
-}
-
-// Puts a sentence with a number into a line.
-fn add_counted(line: &mut [u8], at: usize, saying: usize, n: usize) -> usize {
-    let mut digits = [0u8; 20];
-    let m = io::decimal(n as u64, &mut digits);
-    sayings::put_sentence(line, at, saying, &digits[..m])
-}
-
-// Tells how many more of one kind there were.
-fn tell_more(rt: &HostRuntime, tally: Tally, page: &mut [u8], saying: usize) -> Tally {
-    let n = count_of(tally, saying);
-    if n <= MOST {
-        return tally;
+    // Tells a fault of a whole line, or of a text at its first line.
+    pub fn tell_line(&mut self, k: usize, saying: Saying, part: &[u8]) {
+        self.tell(Place { line: k, column: 1 }, saying, part, b"");
     }
-    let mut line = [0u8; 9216];
-    let a = add_name(&mut line, page, tally.name);
-    let b = add_counted(&mut line, a, sayings::MORE, n - MOST);
-    let c = sayings::put_sentence(&mut line, b, saying, b"..");
-    put(rt, tally, page, sayings::cut(&line, 0, c))
-}
 
-// The same of every kind.
-fn tell_all_more(rt: &HostRuntime, tally: Tally, page: &mut [u8]) -> Tally {
-    let mut t = tally;
-    let mut k: usize = 0;
-    while k < 23 {
-        t = tell_more(rt, t, page, k);
-        k += 1;
+    // Tells how many more of one kind there were.
+    fn tell_more(&mut self, saying: Saying) {
+        let count = self.counts[saying as usize];
+        if count > MOST {
+            let mut line = self.line();
+            line.put(b": ");
+            line.put_decimal(count - MOST);
+            line.put(b" more: ");
+            sayings::put_sentence(&mut line, saying, b"..");
+            self.put(line.bytes());
+        }
     }
-    t
-}
 
-// Ends what is told of a file, but for its last line.
-pub fn tell_rest(rt: &HostRuntime, tally: Tally, page: &mut [u8]) -> Tally {
-    if tally.quiet {
-        return tally;
+    // Ends what is told of a file, but for its last line.
+    pub fn tell_rest(&mut self) {
+        if !self.is_quiet {
+            for saying in KINDS {
+                self.tell_more(saying);
+            }
+        }
     }
-    tell_all_more(rt, tally, page)
-}
 
-// The last line about a file.
-pub fn close(rt: &HostRuntime, tally: Tally, page: &mut [u8], saying: usize, part: &[u8]) -> Tally {
-    let mut line = [0u8; 9216];
-    let a = add_name(&mut line, page, tally.name);
-    let b = sayings::put_sentence(&mut line, a, saying, part);
-    put(rt, tally, page, sayings::cut(&line, 0, b))
-}
+    // The last line about a file in which no line decides.
+    pub fn close(&mut self) {
+        let mut line = self.line();
+        line.put(b": dialect basicv2: no line decides for tsb");
+        self.put(line.bytes());
+    }
 
-// The last line about a file that a word decides, which stands at a place.
-pub fn close_by(
-    rt: &HostRuntime,
-    tally: Tally,
-    page: &mut [u8],
-    place: Place,
-    word: &[u8],
-) -> Tally {
-    let mut line = [0u8; 9216];
-    let a = add_name(&mut line, page, tally.name);
-    let b = add_counted(&mut line, a, sayings::BY_LINE, place.line);
-    let c = sayings::put_sentence(&mut line, b, sayings::BY_WORD, word);
-    let d = add_counted(&mut line, c, sayings::BY_COLUMN, place.column);
-    put(rt, tally, page, sayings::cut(&line, 0, d))
+    // The last line about a file that a word decides, which stands at a place.
+    pub fn close_by(&mut self, place: Place, word: &[u8]) {
+        let mut line = self.line();
+        line.put(b": dialect tsb: line ");
+        line.put_decimal(place.line);
+        line.put(b" decides, by ");
+        line.put(word);
+        line.put(b", column ");
+        line.put_decimal(place.column);
+        self.put(line.bytes());
+    }
+
+    // What the file comes to, once all of it is told.
+    pub fn end(&mut self) -> Status {
+        self.flush();
+        let found = if self.is_faulty {
+            Status::Refused
+        } else {
+            Status::Done
+        };
+        desk_status::written(!self.is_failed, found)
+    }
 }
 
 // Says on standard error why there is no result.
 pub fn refuse(rt: &HostRuntime, name: &[u8], refusal: Refusal) -> bool {
     let mut text = [0u8; 128];
     let n = say_sentences::sentence(base_refusals::refusal_code(refusal), &mut text);
-    let mut line = [0u8; 9216];
-    let a = add(&mut line, 0, name);
-    let b = add(&mut line, a, b": ");
-    let c = add(&mut line, b, sayings::cut(&text, 0, n));
-    saying::tell(rt, sayings::cut(&line, 0, c))
+    let mut line = Line::<9216>::new();
+    line.put(name);
+    line.put(b": ");
+    line.put(sayings::cut(&text, 0, n));
+    saying::tell(rt, line.bytes())
 }

@@ -1,56 +1,39 @@
 // The bytes of a text that no text may hold, line by line, each in words.
-use crate::sentence::Tally;
-use crate::{sayings, sentence};
+use crate::sayings;
+use crate::sayings::Saying;
+use crate::sentence::Report;
 use editor_strange_bytes::{Foreign, Stranger};
 use text_places::Place;
 
 // How many characters of UTF-8 stand in some bytes.
 fn characters(s: &[u8]) -> usize {
-    let mut i: usize = 0;
-    let mut n: usize = 0;
-    while i < s.len() {
-        if !base_ascii::between(0x80, 0xBF, s[i]) {
-            n = sayings::sum(n, 1);
-        }
-        i += 1;
-    }
-    n
+    s.iter().filter(|b| !matches!(**b, 0x80..=0xBF)).count()
 }
 
-fn saying_of(kind: Foreign) -> usize {
+fn saying_of(kind: Foreign) -> Saying {
     match kind {
-        Foreign::OrderMark => sayings::ORDER_MARK,
-        Foreign::CurlyQuote => sayings::CURLY_QUOTE,
-        Foreign::NoBreakSpace => sayings::NO_BREAK_SPACE,
-        Foreign::LongDash => sayings::LONG_DASH,
-        Foreign::Character => sayings::CHARACTER,
-        Foreign::LoneByte => sayings::LONE_BYTE,
+        Foreign::OrderMark => Saying::OrderMark,
+        Foreign::CurlyQuote => Saying::CurlyQuote,
+        Foreign::NoBreakSpace => Saying::NoBreakSpace,
+        Foreign::LongDash => Saying::LongDash,
+        Foreign::Character => Saying::Character,
+        Foreign::LoneByte => Saying::LoneByte,
     }
 }
 
 // The strange bytes of one line: at most one for each byte.
-pub fn check_line(rt: &HostRuntime, tally: Tally, page: &mut [u8], k: usize, line: &[u8]) -> Tally {
-    let mut t = tally;
+pub fn check_line(report: &mut Report, k: usize, line: &[u8]) {
     let mut at: usize = 0;
     let mut column: usize = 1;
-    let mut left = line.len();
-    while left > 0 {
-        left -= 1;
-        match editor_strange_bytes::next_stranger(line, at) {
-            Stranger::There { offset, kind, used } => {
-                column = sayings::sum(column, characters(sayings::cut(line, at, offset)));
-                let place = Place { line: k, column };
-                t = sentence::tell_bare(rt, t, page, place, saying_of(kind));
-                column = sayings::sum(column, 1);
-                at = sayings::sum(offset, used);
-            }
-            Stranger::Nowhere => {
-                left = 0;
-            }
-            Stranger::TooLong => {
-                left = 0;
-            }
-        }
+    for _ in 0..line.len() {
+        let Ok(Some(Stranger { offset, kind, used })) =
+            editor_strange_bytes::next_stranger(line, at)
+        else {
+            return;
+        };
+        column = column.saturating_add(characters(sayings::cut(line, at, offset)));
+        report.tell_bare(Place { line: k, column }, saying_of(kind));
+        column = column.saturating_add(1);
+        at = offset.saturating_add(used);
     }
-    t
 }

@@ -3,22 +3,32 @@
 use Rattle.std.proofs.Common.{◌≡◌, ℕ, zero, suc, ◌+◌, ◌-◌, ◌*◌, ◌/◌, ◌%◌, ◌^◌, ◌<◌, ◌≤◌, List, [], ◌∷◌, ◌++◌, length, get_or, take, drop, set, replicate, sym, refl, ap, ◌∙◌, append_assoc, append-nil, le_trans, le_of_eq, mul-le-mul_left, mul-one, mul-suc, mul-add, add-one, arith, length-append, length-take-le, take_all, take-suc, take_at}
 use mathlib.Core.List.{flat_map}
 use lib.Seq.{sets, sets-eq, length-sets}
+use borrow.Rule.Slice.PartMut.{put_mid}
+use Rattle.std.proofs.lemmas.Slice.{put_mid-paste}
+use Rattle.std.specs.Int.{to_be_bytes, w32, w64}
 use Rattle.digest_sha256.specs.Sha256.{big_endian, padding}
 use Rattle.digest_sha256.specs.StepHelpers.{Pads}
 use Rattle.digest_sha256.specs.Hex.{hex_digit, hex_pair}
 
--- four stores are a word
-pub four_put : (out : List ℕ) (at a b c d : ℕ) → set (set (set (set out at a) (at + 1) b) (at + 2) c) (at + 3) d ≡ sets out at (a ∷ b ∷ c ∷ d ∷ [])
-four_put out at a b c d =
-    let e₁ : at + 1 ≡ suc at = omega arith in
-    let e₂ : at + 2 ≡ suc (suc at) = omega arith in
-    let e₃ : at + 3 ≡ suc (suc (suc at)) = omega arith in
-    rw (e₁, e₂, e₃)
+cons : {a b : ℕ} {s t : List ℕ} → a ≡ b → s ≡ t → ◌≡◌ {A = List ℕ} (a ∷ s) (b ∷ t)
+cons p q = cc
 
-pub put_four : (out : List ℕ) (at : ℕ) {a b c d : ℕ} (x : ℕ) → a ≡ x / 2 ^ 24 % 256 → b ≡ x / 2 ^ 16 % 256 → c ≡ x / 2 ^ 8 % 256 → d ≡ x / 2 ^ 0 % 256
-    → set (set (set (set out at a) (at + 1) b) (at + 2) c) (at + 3) d ≡ sets out at (big_endian 4 x)
+-- a word, stored
+pub be_bytes : (x : ℕ) → to_be_bytes w32 x ≡ big_endian 4 x
 unfolding big_endian
-put_four out at x p q r s = rw (p, q, r, s) (four_put out at _ _ _ _)
+be_bytes x = cons refl (cons refl (cons refl (cons (omega arith) refl)))
+
+be_long : (n x : ℕ) → length (big_endian n x) ≡ n
+unfolding big_endian
+be_long zero x = refl
+be_long (suc n) x = ap suc (be_long n x)
+
+pub word_put : (n : ℕ) (out : List ℕ) (at x : ℕ) {ys : List ℕ} {k : ℕ} → ys ≡ big_endian n x → n ≡ k → at + n ≤ length out → put_mid at k out ys ≡ sets out at (big_endian n x)
+word_put n out at x {ys} {k} e m h =
+    let long : at + length (big_endian n x) ≤ length out = omega (arith, be_long n x) in
+    let whole : take n (big_endian n x) ≡ big_endian n x = take_all n (big_endian n x) (omega (arith, be_long n x)) in
+    put_mid-paste at k out ys (big_endian n x) n e m (sym (be_long n x)) ∙ rw whole (ap (λ (m : ℕ). take at out ++ big_endian n x ++ drop (at + m) out) (sym (be_long n x)))
+    ∙ sym (sets-eq (big_endian n x) out at long)
 
 -- a run stored behind what stands at the start
 run_behind : (out : List ℕ) (i n : ℕ) (vs : List ℕ) → length vs ≡ n → i + n ≤ length out → take (i + n) (sets out i vs) ≡ take i out ++ vs
@@ -31,9 +41,6 @@ take_replicate zero n a h = refl
 take_replicate (suc z) zero a h = absurd (omega arith)
 take_replicate (suc z) (suc n) a h = ap (λ (l : List ℕ). a ∷ l) (take_replicate z n a (omega arith))
 
-cons : {a b : ℕ} {s t : List ℕ} → a ≡ b → s ≡ t → ◌≡◌ {A = List ℕ} (a ∷ s) (b ∷ t)
-cons p q = cc
-
 -- the length counts modulo 2 ^ 64, in bytes as in bits
 same_bits : (n : ℕ) → big_endian 8 (8 * (n % 2 ^ 64)) ≡ big_endian 8 (8 * n)
 unfolding big_endian
@@ -45,10 +52,10 @@ pub padding_same : (n : ℕ) → padding (n % 2 ^ 64) ≡ padding n
 unfolding padding
 padding_same n = let e : n % 2 ^ 64 % 64 ≡ n % 64 = omega arith in rw (e, same_bits n)
 
--- the length in bits, by its upper and its lower word
-halves : (n : ℕ) → big_endian 4 (n * 2 ^ 3 % 2 ^ 64 / 2 ^ 32) ++ big_endian 4 (n * 2 ^ 3 % 2 ^ 64 % 2 ^ 32) ≡ big_endian 8 (8 * n)
+-- the length in bits, as it is stored
+bits_stored : (n : ℕ) → to_be_bytes w64 (n * 2 ^ 3 % 2 ^ 64) ≡ big_endian 8 (8 * n)
 unfolding big_endian
-halves n =
+bits_stored n =
     cons (omega arith) (cons (omega arith) (cons (omega arith) (cons (omega arith)
     (cons (omega arith) (cons (omega arith) (cons (omega arith) (cons (omega arith) refl)))))))
 
@@ -58,10 +65,6 @@ zeros n = (119 - n % 64) % 64
 abbrev base : List ℕ
 base = set (replicate 72 0) 0 128
 
-two_words : (l : List ℕ) (i : ℕ) {j : ℕ} (v w : ℕ) → j ≡ i + 4 → sets (sets l i (big_endian 4 v)) j (big_endian 4 w) ≡ sets l i (big_endian 4 v ++ big_endian 4 w)
-unfolding big_endian
-two_words l i {j} v w h = let e : j ≡ suc (suc (suc (suc i))) = omega arith in rw e
-
 pub long_4 : (v : ℕ) → length (big_endian 4 v) ≡ 4
 unfolding big_endian
 long_4 v = refl
@@ -70,17 +73,16 @@ long_8 : (v : ℕ) → length (big_endian 8 v) ≡ 8
 unfolding big_endian
 long_8 v = refl
 
--- the padding, stored in an array: a byte, and the length's words
-pub pads_made : (n : ℕ) {first second : List ℕ}
-    → first ≡ sets base (zeros n + 1) (big_endian 4 (n * 2 ^ 3 % 2 ^ 64 / 2 ^ 32))
-    → second ≡ sets first (zeros n + 5) (big_endian 4 (n * 2 ^ 3 % 2 ^ 64 % 2 ^ 32)) → Pads second (zeros n + 9) n
+-- the padding, stored in an array: a byte, and the length
+pub pads_made : (n : ℕ) {ys : List ℕ} {k : ℕ} → ys ≡ to_be_bytes w64 (n * 2 ^ 3 % 2 ^ 64) → 8 ≡ k → Pads (put_mid (zeros n + 1) k base ys) (zeros n + 9) n
 unfolding padding
-pads_made n {first} {second} p q =
+pads_made n {ys} {k} q m =
     let nine : zeros n + 9 ≡ zeros n + 1 + 8 = omega arith in
+    let stored : put_mid (zeros n + 1) k base ys ≡ sets base (zeros n + 1) (big_endian 8 (8 * n)) = word_put 8 base (zeros n + 1) (8 * n) (q ∙ bits_stored n) m (omega arith) in
     record {
-      within = rw (q, p) (simp length-sets (omega arith));
+      within = rw stored (simp length-sets (omega arith));
       pads =
-          rw (q, p, two_words base (zeros n + 1) {j = zeros n + 5} _ _ (omega arith), halves, nine)
+          rw (stored, nine)
           (run_behind base (zeros n + 1) 8 (big_endian 8 (8 * n)) (long_8 (8 * n)) (omega arith)
           ∙ ap (λ (k : ℕ). take k base ++ big_endian 8 (8 * n)) (add-one (zeros n)) ∙ ap (λ (l : List ℕ). 128 ∷ (l ++ big_endian 8 (8 * n))) (take_replicate (zeros n) 71 0 (omega arith)));
     }

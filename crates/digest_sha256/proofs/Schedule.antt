@@ -1,8 +1,13 @@
 -- The message schedule, filled word by word.
 -- Assumes nothing.
-use Rattle.std.proofs.Common.{◌≡◌, ℕ, ◌+◌, ◌-◌, ◌*◌, ◌<◌, ◌≤◌, cond, ltb, List, take, set, replicate, sym, refl, ◌∙◌, add-one, arith, length-set, take_all, get_or-take, take-suc-set, le-ltb, lt-ltb}
+use Rattle.std.proofs.Common.{◌≡◌, ℕ, ◌+◌, ◌-◌, ◌*◌, ◌<◌, ◌≤◌, cond, ltb, List, [], ◌∷◌, take, set, replicate, sym, refl, ◌∙◌, add-one, arith, length-set, take_all, get_or-take, take-suc-set, le-ltb, lt-ltb}
+use Rattle.std.specs.Int.{from_be_bytes, w32}
 use Rattle.digest_sha256.specs.Sha256.{block_word, next_word, scheduled}
 use Rattle.digest_sha256.specs.StepHelpers.{Filled}
+
+-- four bytes as a word
+pub be_word : (a b c d : ℕ) → from_be_bytes w32 (a ∷ b ∷ c ∷ d ∷ []) ≡ ((a * 256 + b) * 256 + c) * 256 + d
+be_word a b c d = omega arith
 
 -- both read only what stands before the place
 word_within : (l : List ℕ) (t : ℕ) → t < 16 → block_word (take 64 l) t ≡ block_word l t

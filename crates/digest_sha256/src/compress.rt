@@ -3,8 +3,6 @@ ghost use Rattle.std.specs.Prelude.{◌≡◌, ◌/◌, ◌<◌, ◌≤◌, leng
 ghost use Rattle.digest_sha256.specs.Sha256.{Ch, Maj, Σ₀, Σ₁, σ₀, σ₁, block_word, next_word, scheduled, turned, after_turns, added_words, compressed, initial_hash, hashed};
 ghost use Rattle.digest_sha256.specs.StepHelpers.{Filled, turns_from};
 
-use std::num::wrapping_add_u32;
-
 // Eight words: a hash value, and the working variables.
 #[derive(Clone, Copy)]
 pub struct Words {
@@ -118,32 +116,25 @@ fn majority(x: u32, y: u32, z: u32) -> u32
 fn upper_sigma0(x: u32) -> u32
     ensures { result ≡ Σ₀ x }
 {
-    (x >> 2 | x << 30) ^ (x >> 13 | x << 19) ^ (x >> 22 | x << 10)
+    x.rotate_right(2) ^ x.rotate_right(13) ^ x.rotate_right(22)
 }
 
 fn upper_sigma1(x: u32) -> u32
     ensures { result ≡ Σ₁ x }
 {
-    (x >> 6 | x << 26) ^ (x >> 11 | x << 21) ^ (x >> 25 | x << 7)
+    x.rotate_right(6) ^ x.rotate_right(11) ^ x.rotate_right(25)
 }
 
 fn lower_sigma0(x: u32) -> u32
     ensures { result ≡ σ₀ x }
 {
-    (x >> 7 | x << 25) ^ (x >> 18 | x << 14) ^ x >> 3
+    x.rotate_right(7) ^ x.rotate_right(18) ^ (x >> 3)
 }
 
 fn lower_sigma1(x: u32) -> u32
     ensures { result ≡ σ₁ x }
 {
-    (x >> 17 | x << 15) ^ (x >> 19 | x << 13) ^ x >> 10
-}
-
-// A byte as a word. A call, since a cast in place asks that the byte fits.
-fn wide(x: u8) -> u32
-    ensures { (result ≡ x) × (result < 256) }
-{
-    x as u32
+    x.rotate_right(17) ^ x.rotate_right(19) ^ (x >> 10)
 }
 
 // Word t of a block.
@@ -152,8 +143,7 @@ fn word_at(block: &[u8], t: usize) -> u32
     ensures { result ≡ block_word block.now t }
 {
     let at = 4 * t;
-    ((wide(block[at]) * 256 + wide(block[at + 1])) * 256 + wide(block[at + 2])) * 256
-        + wide(block[at + 3])
+    u32::from_be_bytes([block[at], block[at + 1], block[at + 2], block[at + 3]])
 }
 
 // The schedule's first sixteen words, in an array for all.
@@ -162,10 +152,8 @@ fn first_words(block: &[u8]) -> [u32; 64]
     ensures { Filled (take 64 block.now) 16 result }
 {
     let mut w = [0u32; 64];
-    let mut t = 0;
-    while t < 16 {
+    for t in 0..16 {
         w[t] = word_at(block, t);
-        t += 1;
     }
     w
 }
@@ -175,9 +163,10 @@ fn next_word(w: &[u32; 64], t: usize) -> u32
     requires { (16 ≤ t) × (t < 64) }
     ensures { result ≡ next_word w.now t }
 {
-    let x = wrapping_add_u32(lower_sigma1(w[t - 2]), w[t - 7]);
-    let y = wrapping_add_u32(x, lower_sigma0(w[t - 15]));
-    wrapping_add_u32(y, w[t - 16])
+    lower_sigma1(w[t - 2])
+        .wrapping_add(w[t - 7])
+        .wrapping_add(lower_sigma0(w[t - 15]))
+        .wrapping_add(w[t - 16])
 }
 
 // The schedule of a block.
@@ -186,10 +175,8 @@ fn schedule(block: &[u8]) -> [u32; 64]
     ensures { result ≡ scheduled (take 64 block.now) 64 }
 {
     let mut w = first_words(block);
-    let mut t = 16;
-    while t < 64 {
+    for t in 16..64 {
         w[t] = next_word(&w, t);
-        t += 1;
     }
     w
 }
@@ -199,16 +186,19 @@ fn turn(v: Words, k: &[u32; 64], w: &[u32; 64], t: usize) -> Words
     requires { t < 64 }
     ensures { result ≡ turned v (slice_index k.now t) (slice_index w.now t) }
 {
-    let x = wrapping_add_u32(v.h, upper_sigma1(v.e));
-    let y = wrapping_add_u32(x, choose(v.e, v.f, v.g));
-    let t1 = wrapping_add_u32(wrapping_add_u32(y, k[t]), w[t]);
-    let t2 = wrapping_add_u32(upper_sigma0(v.a), majority(v.a, v.b, v.c));
+    let t1 = v
+        .h
+        .wrapping_add(upper_sigma1(v.e))
+        .wrapping_add(choose(v.e, v.f, v.g))
+        .wrapping_add(k[t])
+        .wrapping_add(w[t]);
+    let t2 = upper_sigma0(v.a).wrapping_add(majority(v.a, v.b, v.c));
     Words {
-        a: wrapping_add_u32(t1, t2),
+        a: t1.wrapping_add(t2),
         b: v.a,
         c: v.b,
         d: v.c,
-        e: wrapping_add_u32(v.d, t1),
+        e: v.d.wrapping_add(t1),
         f: v.e,
         g: v.f,
         h: v.g,
@@ -235,10 +225,8 @@ fn turns(v: Words, w: &[u32; 64]) -> Words
     ensures { result ≡ after_turns w.now v 64 }
 {
     let mut v = v;
-    let mut t = 0;
-    while t < 64 {
-        v = eight_turns(v, &CONSTANTS, w, t);
-        t += 8;
+    for eighth in 0..8 {
+        v = eight_turns(v, &CONSTANTS, w, 8 * eighth);
     }
     v
 }
@@ -248,14 +236,14 @@ fn plus(v: Words, u: Words) -> Words
     ensures { result ≡ added_words v u }
 {
     Words {
-        a: wrapping_add_u32(u.a, v.a),
-        b: wrapping_add_u32(u.b, v.b),
-        c: wrapping_add_u32(u.c, v.c),
-        d: wrapping_add_u32(u.d, v.d),
-        e: wrapping_add_u32(u.e, v.e),
-        f: wrapping_add_u32(u.f, v.f),
-        g: wrapping_add_u32(u.g, v.g),
-        h: wrapping_add_u32(u.h, v.h),
+        a: u.a.wrapping_add(v.a),
+        b: u.b.wrapping_add(v.b),
+        c: u.c.wrapping_add(v.c),
+        d: u.d.wrapping_add(v.d),
+        e: u.e.wrapping_add(v.e),
+        f: u.f.wrapping_add(v.f),
+        g: u.g.wrapping_add(v.g),
+        h: u.h.wrapping_add(v.h),
     }
 }
 
@@ -273,12 +261,8 @@ pub fn compress_all(v: Words, bytes: &[u8]) -> Words
     ensures { result ≡ hashed v bytes.now (length bytes.now / 64) }
 {
     let mut v = v;
-    let count = bytes.len() / 64;
-    let mut i = 0;
-    while i < count {
-        let at = 64 * i;
-        v = compress(v, &bytes[at..]);
-        i += 1;
+    for i in 0..bytes.len() / 64 {
+        v = compress(v, &bytes[64 * i..]);
     }
     v
 }

@@ -18,14 +18,12 @@ use Rattle.guess_evidence.specs.Evidence.{line_evidence}
 use Rattle.guess.specs.Guess.{any_evidence, evidence}
 use Rattle.word_search.specs.Find.{word_in}
 use Rattle.word_search.specs.declared.Match.{Match}
-use Rattle.word_search.specs.declared.Match.TheVariants.{Word, Nothing}
+use Rattle.std.specs.Prelude.{Option, Some, None, is_some}
 use Rattle.word_tables.specs.Tsb.{tsb_words}
 use Rattle.editor_findings.specs.Deciding.{decided_behind, deciding_line, tsb_length}
-use Rattle.editor_findings.specs.declared.deciding.Decided.{Decided}
-use Rattle.editor_findings.specs.declared.deciding.Decided.TheVariants.{ByLine, ByNone}
 
 -- k lines are passed that decide nothing: those from a place on decide what the text's do, w
-pub record Undecided (rule : LineRule) (t : List ℕ) (w : Decided) (at k : ℕ) : Type 0 where
+pub record Undecided (rule : LineRule) (t : List ℕ) (w : Option ℕ) (at k : ℕ) : Type 0 where
   pub gives : decided_behind k (text_lines rule (drop at t)) ≡ w
   pub few : k ≤ at
 
@@ -33,8 +31,8 @@ pub undecided_start : (rule : LineRule) (t : List ℕ) → Undecided rule t (dec
 unfolding deciding_line
 undecided_start rule t = record { gives = refl; few = omega arith }
 
-module _ {rule : LineRule} {t : List ℕ} {w : Decided} {at k : ℕ} where
-  pub undecided_end : length t ≤ at → Undecided rule t w at k → ByNone ≡ w
+module _ {rule : LineRule} {t : List ℕ} {w : Option ℕ} {at k : ℕ} where
+  pub undecided_end : length t ≤ at → Undecided rule t w at k → None ≡ w
   unfolding decided_behind
   undecided_end h u = rw (lines_end rule t at h) at u.gives
 
@@ -42,7 +40,7 @@ module _ {rule : LineRule} {t : List ℕ} {w : Decided} {at k : ℕ} where
   count_fits h u f = record { fits = omega (arith, f.fits, u.few) }
 
   module _ {r : TextLine} {x : Bool} where
-    pub undecided_found : x ≡ true → x ≡ line_evidence (take (r.end - at) (drop at t)) → r ≡ line_from rule t at → at < length t → Undecided rule t w at k → ByLine (k + 1) ≡ w
+    pub undecided_found : x ≡ true → x ≡ line_evidence (take (r.end - at) (drop at t)) → r ≡ line_from rule t at → at < length t → Undecided rule t w at k → Some (k + 1) ≡ w
     unfolding decided_behind
     undecided_found e p q h u = sym (ap (decided_behind k) (line_step rule t at h q).lines ∙ taken _ _ (sym p ∙ e)) ∙ u.gives
 
@@ -56,31 +54,27 @@ module _ {rule : LineRule} {t : List ℕ} {w : Decided} {at k : ℕ} where
 
 -- ---- a line decides exactly where the evidence holds
 
-abbrev pub is_decided : Decided → Bool
-is_decided (ByLine k) = true
-is_decided ByNone = false
-
-any_decided : (k : ℕ) (ls : List (List ℕ)) → is_decided (decided_behind k ls) ≡ any_evidence ls
+any_decided : (k : ℕ) (ls : List (List ℕ)) → is_some (decided_behind k ls) ≡ any_evidence ls
 unfolding decided_behind any_evidence
 any_decided k [] = refl
 any_decided k (l ∷ ls) = go (any_decided (k + 1) ls) (line_evidence l)
   where
-    go : is_decided (decided_behind (k + 1) ls) ≡ any_evidence ls → (x : Bool)
-        → is_decided (elim x [ true ↦ ByLine (k + 1) | false ↦ decided_behind (k + 1) ls ]) ≡ elim x [ true ↦ true | false ↦ any_evidence ls ]
+    go : is_some (decided_behind (k + 1) ls) ≡ any_evidence ls → (x : Bool)
+        → is_some (elim x [ true ↦ Some (k + 1) | false ↦ decided_behind (k + 1) ls ]) ≡ elim x [ true ↦ true | false ↦ any_evidence ls ]
     go e true = refl
     go e false = e
 
-pub decided_by_evidence : (rule : LineRule) (t : List ℕ) → is_decided (deciding_line rule t) ≡ evidence rule t
+pub decided_by_evidence : (rule : LineRule) (t : List ℕ) → is_some (deciding_line rule t) ≡ evidence rule t
 unfolding deciding_line evidence
 decided_by_evidence rule t = any_decided 0 (text_lines rule t)
 
 -- ---- the length of a TSB word
 
 module _ (t : List ℕ) {m : Option Match} where
-  pub length_found : {index used token : ℕ} → m ≡ Word index used token → m ≡ word_in tsb_words t → used ≡ tsb_length t
+  pub length_found : {n : Match} → m ≡ Some n → m ≡ word_in tsb_words t → n.used ≡ tsb_length t
   unfolding tsb_length
   length_found e q = rw (sym q ∙ e)
 
-  pub length_none : m ≡ Nothing → m ≡ word_in tsb_words t → 0 ≡ tsb_length t
+  pub length_none : m ≡ None → m ≡ word_in tsb_words t → 0 ≡ tsb_length t
   unfolding tsb_length
   length_none e q = rw (sym q ∙ e)

@@ -23,23 +23,26 @@ use Rattle.editor_steps.specs.StepFindings.{finding_of, is_usual}
 use Rattle.editor_findings.specs.Sights.{step_from, spot_behind, told_or, sight_on, first_sight}
 use Rattle.editor_steps.specs.declared.Finding.{Finding}
 use Rattle.editor_findings.specs.declared.sights.Sighting.{Sighting}
-use Rattle.editor_findings.specs.declared.sights.Sighting.TheVariants.{Seen, Over}
+use Rattle.std.specs.Prelude.{Option, Some, None}
 use Rattle.editor_findings.specs.declared.sights.Spot.{Spot}
+
+abbrev pub Seen : Finding → ℕ → Spot → Option Sighting
+Seen finding from to = Some (record { finding = finding; from = from; to = to })
 
 module _ (l : Lexicon) (t : List ℕ) (g : T (proper l)) where
   takes : (s : Spot) → s.at < length t → Takes (drop s.at t) (step_from l t s).used
   takes s h = step_takes l g s.mode (drop s.at t) (omega (arith, length-drop s.at t))
 
-  near : Nearer {S = Spot} {R = Sighting} (λ s. length t - s.at) (sight_on l t)
+  near : Nearer {S = Spot} {R = Option Sighting} (λ s. length t - s.at) (sight_on l t)
   unfolding sight_on
   near s f h k = go (ltb s.at (length t)) refl
     where
       go : (x : Bool) → ltb s.at (length t) ≡ x
-          → ◌≡◌ {A = Sighting} (elim x [ true ↦ told_or f t s (step_from l t s) | false ↦ Over ]) (elim x [ true ↦ told_or h t s (step_from l t s) | false ↦ Over ])
+          → ◌≡◌ {A = Option Sighting} (elim x [ true ↦ told_or f t s (step_from l t s) | false ↦ None ]) (elim x [ true ↦ told_or h t s (step_from l t s) | false ↦ None ])
       go true e =
           let p : s.at < length t = ltb-true _ _ e in
           let o = step_from l t s in
-          ap (λ (r : Sighting). elim (is_usual (finding_of s.mode (get_or t s.at 0) o)) [
+          ap (λ (r : Option Sighting). elim (is_usual (finding_of s.mode (get_or t s.at 0) o)) [
             | true ↦ r
             | false ↦ Seen (finding_of s.mode (get_or t s.at 0) o) s.at (spot_behind s o)
           ]) (k (spot_behind s o) (omega (arith, (takes s p).more, (takes s p).most, length-drop s.at t)))
@@ -47,13 +50,13 @@ module _ (l : Lexicon) (t : List ℕ) (g : T (proper l)) where
 
   once : (s : Spot) → first_sight l t s ≡ sight_on l t (first_sight l t) s
   unfolding first_sight
-  once s = again_on near Over (λ y. suc (length t - y.at)) (λ y. omega arith) s
+  once s = again_on near None (λ y. suc (length t - y.at)) (λ y. omega arith) s
 
   there : (s : Spot) → s.at < length t → first_sight l t s ≡ told_or (first_sight l t) t s (step_from l t s)
   unfolding sight_on
   there s h = once s ∙ taken _ _ (lt-ltb _ _ h)
 
-  none_left : (s : Spot) → length t ≤ s.at → first_sight l t s ≡ Over
+  none_left : (s : Spot) → length t ≤ s.at → first_sight l t s ≡ None
   unfolding sight_on
   none_left s h = once s ∙ left _ _ (le-ltb _ _ h)
 
@@ -90,7 +93,7 @@ pub walked_start : (w : Sets) (t : List ℕ) (first : Spot) → Walked w t first
 walked_start w t first = record { gives = refl }
 
 module _ {w : Sets} {t : List ℕ} {first : Spot} {mode : Mode} {at : ℕ} where
-  pub walked_end : length t ≤ at → Walked w t first mode at → Over ≡ first_sight (lexicon w) t first
+  pub walked_end : length t ≤ at → Walked w t first mode at → None ≡ first_sight (lexicon w) t first
   walked_end h k = sym (none_left (lexicon w) t (document_proper w) (spot_at mode at) h) ∙ k.gives
 
   module _ {o : Move} (e : o ≡ crunch_step (lexicon w) mode (drop at t)) (h : at < length t) (k : Walked w t first mode at) where

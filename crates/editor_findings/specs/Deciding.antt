@@ -7,16 +7,14 @@ use Rattle.word_tables.specs.Tsb.{tsb_words}
 use Rattle.text_lines.specs.TextLines.{text_lines}
 use Rattle.text_lines.specs.declared.LineRule.{LineRule}
 use Rattle.guess_evidence.specs.Evidence.{line_evidence}
-use Rattle.editor_findings.specs.declared.deciding.Decided.{Decided}
-use Rattle.editor_findings.specs.declared.deciding.Decided.TheVariants.{ByLine, ByNone}
 
 -- the first line that proves it, where so many lines stand before them
-unfoldable pub decided_behind : ℕ → List (List ℕ) → Decided
+unfoldable pub decided_behind : ℕ → List (List ℕ) → Option ℕ
 unfolding line_evidence
-decided_behind k [] = ByNone
-decided_behind k (l ∷ ls) = elim (line_evidence l) [ true ↦ ByLine (k + 1) | false ↦ decided_behind (k + 1) ls ]
+decided_behind k [] = None
+decided_behind k (l ∷ ls) = elim (line_evidence l) [ true ↦ Some (k + 1) | false ↦ decided_behind (k + 1) ls ]
 
-unfoldable pub deciding_line : LineRule → List ℕ → Decided
+unfoldable pub deciding_line : LineRule → List ℕ → Option ℕ
 unfolding decided_behind text_lines
 deciding_line rule t = decided_behind 0 (text_lines rule t)
 

@@ -1,13 +1,12 @@
 -- The steps of a body that an editor is told of before it is crunched, by what crunching makes of them (document 01, "Crunching one body").
 -- Assumes nothing.
-use Rattle.std.specs.Prelude.{ℕ, suc, ◌+◌, ◌-◌, true, false, List, ltb, length, get_or, drop}
+use Rattle.std.specs.Prelude.{ℕ, suc, ◌+◌, ◌-◌, true, false, List, ltb, length, get_or, drop, Option, Some, None}
 use Rattle.base_steps.specs.Again.{again}
 use Rattle.body_rules.specs.Lexicon.{Lexicon}
 use Rattle.body_rules.specs.Steps.{crunch_step}
 use Rattle.body_rules.specs.declared.Move.{Move}
 use Rattle.editor_steps.specs.StepFindings.{finding_of, is_usual}
 use Rattle.editor_findings.specs.declared.sights.Sighting.{Sighting}
-use Rattle.editor_findings.specs.declared.sights.Sighting.TheVariants.{Seen, Over}
 use Rattle.editor_findings.specs.declared.sights.Spot.{Spot}
 
 -- the step at a spot of a body
@@ -19,18 +18,18 @@ abbrev pub spot_behind : Spot → Move → Spot
 spot_behind s o = record { mode = o.mode; at = s.at + o.used }
 
 -- a step that is told, or what follows it
-abbrev pub told_or : (Spot → Sighting) → List ℕ → Spot → Move → Sighting
+abbrev pub told_or : (Spot → Option Sighting) → List ℕ → Spot → Move → Option Sighting
 told_or more t s o =
     elim (is_usual (finding_of s.mode (get_or t s.at 0) o)) [
       | true ↦ more (spot_behind s o)
-      | false ↦ Seen (finding_of s.mode (get_or t s.at 0) o) s.at (spot_behind s o)
+      | false ↦ Some (record { finding = finding_of s.mode (get_or t s.at 0) o; from = s.at; to = spot_behind s o })
     ]
 
-unfoldable pub sight_on : Lexicon → List ℕ → (Spot → Sighting) → Spot → Sighting
+unfoldable pub sight_on : Lexicon → List ℕ → (Spot → Option Sighting) → Spot → Option Sighting
 unfolding crunch_step finding_of
-sight_on l t more s = elim (ltb s.at (length t)) [ true ↦ told_or more t s (step_from l t s) | false ↦ Over ]
+sight_on l t more s = elim (ltb s.at (length t)) [ true ↦ told_or more t s (step_from l t s) | false ↦ None ]
 
 -- the first step from a spot of a body on that is told
-unfoldable pub first_sight : Lexicon → List ℕ → Spot → Sighting
+unfoldable pub first_sight : Lexicon → List ℕ → Spot → Option Sighting
 unfolding again sight_on
-first_sight l t s = again Over (sight_on l t) (suc (length t - s.at)) s
+first_sight l t s = again None (sight_on l t) (suc (length t - s.at)) s

@@ -1,12 +1,11 @@
 -- For whoever walks over a body from one step that is told to the next: where the walk stands.
 -- Assumes nothing.
-use Rattle.std.specs.Prelude.{ℕ, ◌≡◌, List}
+use Rattle.std.specs.Prelude.{ℕ, ◌≡◌, List, Option, Some, None}
 use Rattle.body_steps.specs.BraceHelpers.{Spans}
 use Rattle.body_rules.specs.Lexicon.{Lexicon}
 use Rattle.body.specs.declared.at.Stand.{Stand}
 use Rattle.editor_findings.specs.Sights.{first_sight}
 use Rattle.editor_findings.specs.declared.sights.Sighting.{Sighting}
-use Rattle.editor_findings.specs.declared.sights.Sighting.TheVariants.{Seen, Over}
 use Rattle.editor_findings.specs.declared.sights.Spot.{Spot}
 use Rattle.editor_findings.specs.declared.sights.Told.{Told}
 
@@ -14,9 +13,9 @@ abbrev pub spot_of : Stand → Spot
 spot_of s = record { mode = s.mode; at = s.at }
 
 -- a walk stands behind the step that is told
-abbrev pub Behind : Sighting → Spot → Type 0
-Behind (Seen finding from to) s = to ≡ s
-Behind Over s = Unit {0}
+abbrev pub Behind : Option Sighting → Spot → Type 0
+Behind (Some seen) s = seen.to ≡ s
+Behind None s = Unit {0}
 
 -- what is told from where a walk stands on, and where it stands then, with a span that is known there
 pub record Tells (l : Lexicon) (t : List ℕ) (from : Stand) (r : Told) : Type 0 where

@@ -18,10 +18,7 @@ pub enum Inside {
 fn near(text: &[u8]) -> &[u8]
     ensures { result.now ≡ take 64 text.now }
 {
-    if text.len() < 64 {
-        return text;
-    }
-    &text[0..64]
+    &text[..text.len().min(64)]
 }
 
 // What stands behind a {, in front of a text.
@@ -29,13 +26,13 @@ pub fn behind_brace(text: &[u8]) -> Inside
     ensures { result ≡ inside_of text.now }
 {
     let front = near(text);
-    let closing = search::before(front, Kind::Is(0x7D));
-    let quote = search::before(front, Kind::Is(0x22));
+    let closing = search::before(front, Kind::Is(b'}'));
+    let quote = search::before(front, Kind::Is(b'"'));
     if closing < quote {
-        return Inside::Closed(closing);
+        Inside::Closed(closing)
+    } else if quote < 64 {
+        Inside::Unclosed(quote)
+    } else {
+        Inside::Long
     }
-    if quote < 64 {
-        return Inside::Unclosed(quote);
-    }
-    Inside::Long
 }

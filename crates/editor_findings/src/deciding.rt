@@ -10,26 +10,13 @@ use guess::resolve;
 use text_lines::LineRule;
 use word_dialects::Dialect;
 use word_match::sets::Sets;
-use word_search::Match;
-use word_tables::{Words, spellings};
+use word_tables::spellings;
 
-// The first text line, from 1, that proves a text to be TSB; or none does.
-#[derive(Clone, Copy)]
-pub enum Decided {
-    ByLine(usize),
-    ByNone,
-}
-
-pub fn deciding_line(text: &[u8], rule: LineRule) -> Decided
+// The first text line, from 1, that proves a text to be TSB.
+pub fn deciding_line(text: &[u8], rule: LineRule) -> Option<usize>
     ensures { result ≡ deciding_line rule text.now }
 {
-    deciding_with(text, rule, spellings::stored_words())
-}
-
-// The same, with the tables lent.
-fn deciding_with(text: &[u8], rule: LineRule, words: Words) -> Decided
-    ensures { result ≡ deciding_line rule text.now }
-{
+    let words = spellings::stored_words();
     let mut at: usize = 0;
     let mut k: usize = 0;
     while at < text.len() {
@@ -37,30 +24,19 @@ fn deciding_with(text: &[u8], rule: LineRule, words: Words) -> Decided
         let end = line.end;
         k += 1;
         if guess_evidence::line_evidence(&text[at..end], words) {
-            return Decided::ByLine(k);
+            return Some(k);
         }
         at = line.next;
     }
-    Decided::ByNone
+    None
 }
 
 // How many bytes the TSB word takes that a text begins with; 0 where there is none.
 pub fn tsb_length(text: &[u8]) -> usize
     ensures { result ≡ tsb_length text.now }
 {
-    length_with(text, spellings::stored_words())
-}
-
-// The same, with the tables lent.
-fn length_with(text: &[u8], words: Words) -> usize
-    ensures { result ≡ tsb_length text.now }
-{
-    match word_match::match_tsb(text, words) {
-        Some(Match {
-            index: _,
-            used,
-            token: _,
-        }) => used,
+    match word_match::match_tsb(text, spellings::stored_words()) {
+        Some(found) => found.used,
         None => 0,
     }
 }
@@ -69,11 +45,7 @@ fn length_with(text: &[u8], words: Words) -> usize
 pub fn words_of(text: &[u8]) -> Sets
     ensures { result ≡ word_sets Auto text.now }
 {
-    resolve::word_sets(
-        text,
-        Dialect::Auto,
-        spellings::stored_words(),
-    )
+    resolve::word_sets(text, Dialect::Auto, spellings::stored_words())
 }
 
 // The length of a body once it is crunched, or 65,536 where it is that or more.

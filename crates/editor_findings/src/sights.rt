@@ -6,11 +6,11 @@ ghost use Rattle.editor_findings.specs.Sights.{first_sight};
 ghost use Rattle.editor_findings.specs.ToldHelpers.{Tells};
 
 use body::at;
-use body::at::Stand;
+use body::at::{Stand, Stepped};
 use body_rules::Mode;
 use editor_steps::Finding;
 use word_match::sets::Sets;
-use word_tables::{Words, spellings};
+use word_tables::spellings;
 
 // A place of a body, and the mode in which it is crunched from there on.
 #[derive(Clone, Copy)]
@@ -19,32 +19,27 @@ pub struct Spot {
     pub at: usize,
 }
 
-// A step that is told: it goes from a place to a spot. Or no such step is left.
+// A step that is told: it goes from a place to a spot.
 #[derive(Clone, Copy)]
-pub enum Sighting {
-    Seen {
-        finding: Finding,
-        from: usize,
-        to: Spot,
-    },
-    Over,
+pub struct Sighting {
+    pub finding: Finding,
+    pub from: usize,
+    pub to: Spot,
 }
 
-// What is told, and where the walk stands behind it.
+// What is told, if such a step is left, and where the walk stands behind it.
 #[derive(Clone, Copy)]
 pub struct Told {
-    pub sighting: Sighting,
+    pub sighting: Option<Sighting>,
     pub stand: Stand,
 }
 
 // The first step from a spot of a body on that is told.
-pub fn next_sight(text: &[u8], from: Spot, sets: Sets) -> Sighting
+pub fn next_sight(text: &[u8], from: Spot, sets: Sets) -> Option<Sighting>
     ensures { result ≡ first_sight (lexicon sets) text.now from }
 {
-    let mode = from.mode;
-    let told = sight_from(text, at::stand_at(text, from.at, mode), sets);
-    let sighting = told.sighting;
-    sighting
+    let stand = at::stand_at(text, from.at, from.mode);
+    sight_from(text, stand, sets).sighting
 }
 
 // The same from where a walk stands. Whoever goes on from where it stands behind that looks at no byte for two braces.
@@ -52,52 +47,34 @@ pub fn sight_from(text: &[u8], from: Stand, sets: Sets) -> Told
     requires { Spans text.now from.at from.span }
     ensures { Tells (lexicon sets) text.now from result }
 {
-    sight_with(
-        text,
-        from,
-        spellings::stored_words(),
-        sets,
-    )
-}
-
-// The same, with the tables lent.
-fn sight_with(text: &[u8], from: Stand, words: Words, sets: Sets) -> Told
-    requires { Spans text.now from.at from.span }
-    ensures { Tells (lexicon sets) text.now from result }
-{
-    let mut at = from.at;
-    let mut mode = from.mode;
-    let mut span = from.span;
-    while at < text.len() {
-        let taken = at::step_at(text, Stand { at, mode, span }, words, sets);
-        let step = taken.step;
-        let finding = editor_steps::finding_of(mode, text[at], step);
-        let next = step.mode;
-        let behind = at + step.used;
-        let known = taken.span;
+    let words = spellings::stored_words();
+    let mut stand = from;
+    while stand.at < text.len() {
+        let Stepped { step, span } = at::step_at(text, stand, words, sets);
+        let finding = editor_steps::finding_of(stand.mode, text[stand.at], step);
+        let behind = Stand {
+            at: stand.at + step.used,
+            mode: step.mode,
+            span,
+        };
         if !editor_steps::is_usual(finding) {
+            let to = Spot {
+                mode: behind.mode,
+                at: behind.at,
+            };
             return Told {
-                sighting: Sighting::Seen {
+                sighting: Some(Sighting {
                     finding,
-                    from: at,
-                    to: Spot {
-                        mode: next,
-                        at: behind,
-                    },
-                },
-                stand: Stand {
-                    at: behind,
-                    mode: next,
-                    span: known,
-                },
+                    from: stand.at,
+                    to,
+                }),
+                stand: behind,
             };
         }
-        at = behind;
-        mode = next;
-        span = known;
+        stand = behind;
     }
     Told {
-        sighting: Sighting::Over,
-        stand: Stand { at, mode, span },
+        sighting: None,
+        stand,
     }
 }

@@ -6,6 +6,7 @@ use mathlib.Core.Bool.{Bool}
 use mathlib.Core.List.{List, []}
 use native.Mathlib.Omega.{arith}
 use lib.ListN.{length, take, drop, drop_of_length-le}
+use lib.Seq.{length-take-le}
 use borrow.Author.Tests.{lt-ltb, le-ltb}
 use Rattle.base_ascii.specs.Bytes.{is_digit}
 use Rattle.base_ascii.specs.Search.{equals, front, before, past_end}
@@ -17,14 +18,14 @@ use Rattle.editor_near_names.specs.Parts.{digits_of, name_within, count_within, 
 pub before_within : (p : ℕ → Bool) (s : List ℕ) {n : ℕ} → n ≡ before p s → n ≤ length s
 before_within p s e = omega (arith, before_le p s)
 
--- a part from the front on, as it is lent
-part : (n : ℕ) (t : List ℕ) → take (n - 0) t ≡ take n t
-part n t = let e : n - 0 ≡ n = omega arith in ap (λ (i : ℕ). take i t) e
+-- a part from the front on is as long as was asked
+pub part_long : (t : List ℕ) {n : ℕ} → n ≤ length t → n ≡ length (take n t)
+part_long t {n} h = sym (length-take-le n t h)
 
-pub digits_told : (t : List ℕ) {n z : ℕ} → z ≡ front (equals 48) (take (n - 0) t) → n ≡ front is_digit t
-    → take (length (take (n - 0) t) - z) (drop z (take (n - 0) t)) ≡ digits_of t
+pub digits_told : (t : List ℕ) {n z : ℕ} → z ≡ front (equals 48) (take n t) → n ≡ front is_digit t
+    → take (length (take n t) - z) (drop z (take n t)) ≡ digits_of t
 unfolding digits_of
-digits_told t {n} {z} e f = tail (take (n - 0) t) z ∙ rw (e, part n t, f)
+digits_told t {n} {z} e f = tail (take n t) z ∙ rw (e, f)
 
 module _ (s : List ℕ) {text : List ℕ} {d : ℕ} (e : text ≡ trim s) (f : d ≡ front is_digit text) where
   pub name_behind_lem : {r : List ℕ} → r ≡ trim (take (length text - d) (drop d text)) → 0 < d → r ≡ name_part s
@@ -35,11 +36,11 @@ module _ (s : List ℕ) {text : List ℕ} {d : ℕ} (e : text ≡ trim s) (f : d
       ∙ sym (taken _ _ (lt-ltb 0 (front is_digit text) (omega arith)))
       ∙ ap name_within e
 
-  pub name_before : {r : List ℕ} {star : ℕ} → r ≡ trim (take (star - 0) text) → d ≤ 0 → star ≡ before (equals 42) text → r ≡ name_part s
+  pub name_before : {r : List ℕ} {star : ℕ} → r ≡ trim (take star text) → d ≤ 0 → star ≡ before (equals 42) text → r ≡ name_part s
   unfolding name_part name_within
   name_before {star = star} q h b =
       q
-      ∙ ap trim (part star text ∙ ap (λ (n : ℕ). take n text) b)
+      ∙ ap trim (ap (λ (n : ℕ). take n text) b)
       ∙ sym (left _ _ (le-ltb 0 (front is_digit text) (omega arith)))
       ∙ ap name_within e
 

@@ -11,11 +11,11 @@ pub fn name_part(inside: &[u8]) -> &[u8]
 {
     let text = base_ascii::trim(inside);
     let digits = search::front(text, Kind::Digit);
-    if 0 < digits {
+    if digits > 0 {
         return base_ascii::trim(&text[digits..]);
     }
     let star = search::before(text, Kind::Is(b'*'));
-    base_ascii::trim(&text[0..star])
+    base_ascii::trim(&text[..star])
 }
 
 // The digits of the count, without zeros in front; none where there is no count.
@@ -23,15 +23,14 @@ pub fn count_part(inside: &[u8]) -> &[u8]
     ensures { result.now ≡ count_part inside.now }
 {
     let text = base_ascii::trim(inside);
-    if 0 < search::front(text, Kind::Digit) {
+    if search::front(text, Kind::Digit) > 0 {
         return digits_of(text);
     }
     let star = search::before(text, Kind::Is(b'*'));
     if text.len() <= star {
-        return &text[0..0];
+        return b"";
     }
-    let from = star + 1;
-    digits_of(base_ascii::trim(&text[from..]))
+    digits_of(base_ascii::trim(&text[star + 1..]))
 }
 
 // The digits in front of a text, without the zeros in front of them.
@@ -39,7 +38,7 @@ fn digits_of(text: &[u8]) -> &[u8]
     ensures { result.now ≡ digits_of text.now }
 {
     let n = search::front(text, Kind::Digit);
-    let digits = &text[0..n];
+    let digits = &text[..n];
     let zeros = search::front(digits, Kind::Is(b'0'));
     &digits[zeros..]
 }

@@ -24,40 +24,20 @@ pub enum Finding {
 fn is_code(mode: Mode) -> bool
     ensures { result ≡ is_code mode }
 {
-    match mode {
-        Mode::Plain => true,
-        Mode::String => false,
-        Mode::Remark => false,
-        Mode::Data => true,
-        Mode::DataQuote => false,
-    }
+    matches!(mode, Mode::Plain | Mode::Data)
 }
 
 fn is_control(b: u8) -> bool
     ensures { result ≡ is_control b }
 {
-    if b < 0x20 {
-        return true;
-    }
-    b == 0x7F
+    b < 0x20 || b == 0x7F
 }
 
 // Whether a byte is a { of a string that gives itself: an escape takes two bytes at least.
 fn is_kept(mode: Mode, b: u8, used: usize) -> bool
     ensures { result ≡ is_kept mode b used }
 {
-    match mode {
-        Mode::Plain => false,
-        Mode::String => {
-            if b != 0x7B {
-                return false;
-            }
-            used == 1
-        }
-        Mode::Remark => false,
-        Mode::Data => false,
-        Mode::DataQuote => false,
-    }
+    matches!(mode, Mode::String) && b == b'{' && used == 1
 }
 
 // What a step at a byte is.
@@ -65,32 +45,21 @@ pub fn finding_of(mode: Mode, b: u8, step: Move) -> Finding
     ensures { result ≡ finding_of mode b step }
 {
     if step.prefixed {
-        return Finding::TsbWord;
+        Finding::TsbWord
+    } else if step.byte == 0 {
+        Finding::Zero
+    } else if is_kept(mode, b, step.used) {
+        Finding::Brace
+    } else if is_code(mode) && is_control(b) {
+        Finding::Control
+    } else {
+        Finding::Usual
     }
-    if step.byte == 0 {
-        return Finding::Zero;
-    }
-    if is_kept(mode, b, step.used) {
-        return Finding::Brace;
-    }
-    if !is_code(mode) {
-        return Finding::Usual;
-    }
-    if is_control(b) {
-        return Finding::Control;
-    }
-    Finding::Usual
 }
 
 // Whether nothing is told of it.
 pub fn is_usual(finding: Finding) -> bool
     ensures { result ≡ is_usual finding }
 {
-    match finding {
-        Finding::Usual => true,
-        Finding::TsbWord => false,
-        Finding::Zero => false,
-        Finding::Brace => false,
-        Finding::Control => false,
-    }
+    matches!(finding, Finding::Usual)
 }

@@ -2,11 +2,14 @@
 -- Assumes nothing.
 use Prim.Native.Nat.{ℕ, ◌+◌, ◌-◌, ◌≤◌, ◌<◌}
 use mathlib.Core.Path.{◌≡◌, refl, sym, ap, ◌∙◌}
-use mathlib.Core.Bool.{Bool, true, false, cond, not, false≢true, true≢false}
+use mathlib.Core.Bool.{Bool, true, false, cond}
 use mathlib.Core.List.{List, [], ◌∷◌}
 use native.Mathlib.Omega.{arith}
 use lib.Dec.{ltb}
-use lib.ListN.{length, get_or, take, drop, get_or-eq_default, drop_of_length-le, length-drop}
+use denote.Bor.{Bor}
+use Rattle.std.specs.List.{prefix_len}
+use Rattle.std.specs.Option.{option_copied, option_map}
+use lib.ListN.{length, get_or, take, drop, drop_of_length-le, length-drop}
 use borrow.Author.Tests.{le-leb, lt-leb, lt-ltb, le-ltb, ltb-true}
 use mir.Syntax.{w64}
 use mir.Val.{Fits}
@@ -16,6 +19,7 @@ use Rattle.base_refusals.specs.Numbers.{Numbered, bad_byte}
 use Rattle.base_refusals.specs.declared.Code.{Code}
 use Rattle.base_refusals.specs.declared.Refusal.{Refusal}
 use Rattle.base_ascii.specs.Bytes.{between}
+use Rattle.base_ascii.proofs.Ranges.{in_between}
 use Rattle.base_ascii.proofs.Searching.{tail}
 use Rattle.word_search.specs.Compare.{begins}
 use Rattle.text_domain.specs.Domain.{domain_length, checked_text}
@@ -23,63 +27,71 @@ use Rattle.base_ascii.proofs.Choice.{taken, left}
 use Rattle.editor_strange_bytes.specs.Foreign.{is_inner, inner_behind, inner_asked, width_of, is_utf16, is_mark_of_order, is_curly_quote, is_no_break_space, is_long_dash, kind_of, stranger_in, first_stranger}
 use Rattle.editor_strange_bytes.specs.declared.Foreign.{Foreign}
 use Rattle.editor_strange_bytes.specs.declared.Foreign.TheVariants.{OrderMark, CurlyQuote, NoBreakSpace, LongDash, Character, LoneByte}
-use Rattle.editor_strange_bytes.specs.declared.Stranger.TheVariants.{There, Nowhere, TooLong}
-use Rattle.std.specs.Prelude.{Result, Ok, Err}
+use Rattle.editor_strange_bytes.specs.declared.Stranger.{Stranger}
+use Rattle.editor_strange_bytes.specs.declared.TooLong.{TooLong}
+use Rattle.std.specs.Prelude.{Result, Ok, Err, Option, Some, None}
 
-pub byte_behind : (t : List ℕ) {i : ℕ} → length t ≤ i → 0 ≡ get_or t i 0
-byte_behind t {i} h = sym (get_or-eq_default t 0 {n = i} h)
+-- what is found at a place
+abbrev There : ℕ → Foreign → ℕ → Result (Option Stranger) TooLong
+There offset kind used = Ok (Some (record { offset = offset; kind = kind; used = used }))
+
+pub copied_is : (r : Option (Bor ℕ)) → option_copied r ≡ option_map (λ x. x.now) r
+copied_is (Some x) = refl
+copied_is None = refl
 
 -- ---- the width of a character
 
-module _ (b : ℕ) {x : Bool} where
-  pub asked_one : x ≡ true → x ≡ between 0xC2 0xDF b → 1 ≡ inner_asked b
+-- a byte below a range and above it
+below_range : (low high b : ℕ) → b < low → between low high b ≡ false
+unfolding between
+below_range low high b h = simp (lt-leb _ _ h)
+
+above_range : (low high b : ℕ) → low ≤ b → high < b → between low high b ≡ false
+unfolding between
+above_range low high b l h = simp (le-leb _ _ l, lt-leb _ _ h)
+
+module _ (b : ℕ) where
+  pub asked_one : 0xC2 ≤ b → b < 0xE0 → 1 ≡ inner_asked b
   unfolding inner_asked
-  asked_one e p = rw (sym p ∙ e)
+  asked_one l h = rw (in_between 0xC2 0xDF b l (omega arith))
 
-  module _ {y : Bool} where
-    pub asked_two : y ≡ true → y ≡ between 0xE0 0xEF b → x ≡ false → x ≡ between 0xC2 0xDF b → 2 ≡ inner_asked b
-    unfolding inner_asked
-    asked_two f q e p = rw (sym p ∙ e, sym q ∙ f)
+  pub asked_two : 0xE0 ≤ b → b < 0xF0 → 2 ≡ inner_asked b
+  unfolding inner_asked
+  asked_two l h = rw (above_range 0xC2 0xDF b (omega arith) (omega arith), in_between 0xE0 0xEF b l (omega arith))
 
-    module _ {z : Bool} where
-      pub asked_three : z ≡ true → z ≡ between 0xF0 0xF4 b → y ≡ false → y ≡ between 0xE0 0xEF b → x ≡ false → x ≡ between 0xC2 0xDF b → 3 ≡ inner_asked b
-      unfolding inner_asked
-      asked_three g r f q e p = rw (sym p ∙ e, sym q ∙ f, sym r ∙ g)
+  pub asked_three : 0xF0 ≤ b → b < 0xF5 → 3 ≡ inner_asked b
+  unfolding inner_asked
+  asked_three l h =
+      rw (above_range 0xC2 0xDF b (omega arith) (omega arith), above_range 0xE0 0xEF b (omega arith) (omega arith), in_between 0xF0 0xF4 b l (omega arith))
 
-      pub asked_none : z ≡ false → z ≡ between 0xF0 0xF4 b → y ≡ false → y ≡ between 0xE0 0xEF b → x ≡ false → x ≡ between 0xC2 0xDF b → 0 ≡ inner_asked b
-      unfolding inner_asked
-      asked_none g r f q e p = rw (sym p ∙ e, sym q ∙ f, sym r ∙ g)
+  pub asked_low : b < 0xC2 → 0 ≡ inner_asked b
+  unfolding inner_asked
+  asked_low h = rw (below_range 0xC2 0xDF b h, below_range 0xE0 0xEF b (omega arith), below_range 0xF0 0xF4 b (omega arith))
 
-not_true : (x : Bool) → not x ≡ true → x ≡ false
-not_true true e = absurd (false≢true e)
-not_true false e = refl
+  pub asked_high : 0xF5 ≤ b → 0 ≡ inner_asked b
+  unfolding inner_asked
+  asked_high h =
+      rw (above_range 0xC2 0xDF b (omega arith) (omega arith), above_range 0xE0 0xEF b (omega arith) (omega arith), above_range 0xF0 0xF4 b (omega arith) (omega arith))
 
-not_false : (x : Bool) → not x ≡ false → x ≡ true
-not_false true e = refl
-not_false false e = absurd (true≢false e)
-
--- the test of a byte that was read
-inner_at : (t : List ℕ) (i : ℕ) {b : ℕ} {x r : Bool} → x ≡ r → x ≡ is_inner b → b ≡ get_or t i 0 → is_inner (get_or t i 0) ≡ r
-inner_at t i e p q = ap is_inner (sym q) ∙ sym p ∙ e
-
-module _ (t : List ℕ) {b : ℕ} {x : Bool} where
-  pub behind_none : not x ≡ true → x ≡ is_inner b → b ≡ get_or t 1 0 → 0 ≡ inner_behind t
-  unfolding inner_behind
-  behind_none e p q = rw (inner_at t 1 (not_true x e) p q)
-
-  module _ {c : ℕ} {y : Bool} where
-    pub behind_one : not y ≡ true → y ≡ is_inner c → c ≡ get_or t 2 0 → not x ≡ false → x ≡ is_inner b → b ≡ get_or t 1 0 → 1 ≡ inner_behind t
-    unfolding inner_behind
-    behind_one f r s e p q = rw (inner_at t 1 (not_false x e) p q, inner_at t 2 (not_true y f) r s)
-
-    module _ {d : ℕ} {z : Bool} where
-      pub behind_two : not z ≡ true → z ≡ is_inner d → d ≡ get_or t 3 0 → not y ≡ false → y ≡ is_inner c → c ≡ get_or t 2 0 → not x ≡ false → x ≡ is_inner b → b ≡ get_or t 1 0 → 2 ≡ inner_behind t
-      unfolding inner_behind
-      behind_two g u v f r s e p q = rw (inner_at t 1 (not_false x e) p q, inner_at t 2 (not_false y f) r s, inner_at t 3 (not_true z g) u v)
-
-      pub behind_three : not z ≡ false → z ≡ is_inner d → d ≡ get_or t 3 0 → not y ≡ false → y ≡ is_inner c → c ≡ get_or t 2 0 → not x ≡ false → x ≡ is_inner b → b ≡ get_or t 1 0 → 3 ≡ inner_behind t
-      unfolding inner_behind
-      behind_three g u v f r s e p q = rw (inner_at t 1 (not_false x e) p q, inner_at t 2 (not_false y f) r s, inner_at t 3 (not_false z g) u v)
+-- the bytes behind the first one, as they are counted
+pub behind_counted : (t : List ℕ) → prefix_len is_inner (take 3 (drop 1 t)) ≡ inner_behind t
+unfolding inner_behind between
+behind_counted [] = refl
+behind_counted (a ∷ []) = refl
+behind_counted (a ∷ b ∷ []) = refl
+behind_counted (a ∷ b ∷ c ∷ []) = two (is_inner b) (is_inner c)
+  where
+    two : (x y : Bool) → cond x (1 + cond y 1 0) 0 ≡ cond x (cond y 2 1) 0
+    two false y = refl
+    two true false = refl
+    two true true = refl
+behind_counted (a ∷ b ∷ c ∷ d ∷ t) = three (is_inner b) (is_inner c) (is_inner d)
+  where
+    three : (x y z : Bool) → cond x (1 + cond y (1 + cond z 1 0) 0) 0 ≡ cond x (cond y (cond z 3 2) 1) 0
+    three false y z = refl
+    three true false z = refl
+    three true true false = refl
+    three true true true = refl
 
 asked_few : (b : ℕ) {n : ℕ} → n ≡ inner_asked b → n ≤ 3
 unfolding inner_asked
@@ -106,25 +118,25 @@ module _ (t : List ℕ) {b n m : ℕ} where
 -- ---- what it is
 
 module _ (t : List ℕ) {x : Bool} where
-  pub utf16_low : x ≡ true → x ≡ begins (0xFF ∷ 0xFE ∷ []) t → true ≡ is_utf16 t
+  pub utf16_low : x ≡ true → x ≡ begins (0xFF ∷ 0xFE ∷ []) t → x ≡ is_utf16 t
   unfolding is_utf16
-  utf16_low e p = rw (sym p ∙ e)
+  utf16_low e p = rw (sym p ∙ e) e
 
   pub utf16_high : {y : Bool} → y ≡ begins (0xFE ∷ 0xFF ∷ []) t → x ≡ false → x ≡ begins (0xFF ∷ 0xFE ∷ []) t → y ≡ is_utf16 t
   unfolding is_utf16
   utf16_high q e p = rw (sym p ∙ e) q
 
-  pub space_wide : x ≡ true → x ≡ begins (0xC2 ∷ 0xA0 ∷ []) t → true ≡ is_no_break_space t
+  pub space_wide : x ≡ true → x ≡ begins (0xC2 ∷ 0xA0 ∷ []) t → x ≡ is_no_break_space t
   unfolding is_no_break_space
-  space_wide e p = rw (sym p ∙ e)
+  space_wide e p = rw (sym p ∙ e) e
 
   pub space_single : {y : Bool} → y ≡ begins (0xA0 ∷ []) t → x ≡ false → x ≡ begins (0xC2 ∷ 0xA0 ∷ []) t → y ≡ is_no_break_space t
   unfolding is_no_break_space
   space_single q e p = rw (sym p ∙ e) q
 
-  pub dash_none : x ≡ false → x ≡ begins (0xE2 ∷ 0x80 ∷ []) t → false ≡ is_long_dash t
+  pub dash_none : x ≡ false → x ≡ begins (0xE2 ∷ 0x80 ∷ []) t → x ≡ is_long_dash t
   unfolding is_long_dash
-  dash_none e p = rw (sym p ∙ e)
+  dash_none e p = rw (sym p ∙ e) e
 
   module _ {y : Bool} {b : ℕ} where
     pub dash_third : y ≡ between 0x92 0x95 b → b ≡ get_or t 2 0 → x ≡ true → x ≡ begins (0xE2 ∷ 0x80 ∷ []) t → y ≡ is_long_dash t
@@ -193,12 +205,12 @@ abbrev rest : List ℕ → ℕ → List ℕ
 rest t i = take (length t - i) (drop i t)
 
 module _ (from : ℕ) (s : List ℕ) (h : length s ≤ 1048576) where
-  fine_in : {c : (Result (Unit {0}) Refusal)} → c ≡ (Ok tt) → answered c ≡ checked_text s → Nowhere ≡ stranger_in from s
+  fine_in : {c : (Result (Unit {0}) Refusal)} → c ≡ (Ok tt) → answered c ≡ checked_text s → Ok None ≡ stranger_in from s
   unfolding stranger_in checked_text
   fine_in e p = go (ltb (domain_length s) (length s)) refl (sym (ap answered e) ∙ p ∙ taken _ _ (le-leb _ _ h))
     where
       go : (r : Bool) → ltb (domain_length s) (length s) ≡ r → ◌≡◌ {A = Answer (Unit {0})} (done tt) (elim r [ true ↦ refused (bad_byte (domain_length s)) | false ↦ done tt ])
-          → Nowhere ≡ stranger_in from s
+          → Ok None ≡ stranger_in from s
       go true f a = let z : ◌≡◌ {A = ℕ} 0 1 = cc in absurd (omega arith)
       go false f a = sym (taken _ _ (le-leb _ _ h) ∙ left _ _ f)
 
@@ -207,16 +219,16 @@ module _ (from : ℕ) (s : List ℕ) (h : length s ≤ 1048576) where
   there_in b = rw b.is (sym (taken _ _ (le-leb _ _ h) ∙ taken _ _ (lt-ltb (domain_length s) (length s) (omega (arith, b.is, b.within)))))
 
 module _ (t : List ℕ) (from : ℕ) where
-  pub stranger_none : length t ≤ from → Nowhere ≡ first_stranger t from
+  pub stranger_none : length t ≤ from → Ok None ≡ first_stranger t from
   unfolding first_stranger stranger_in domain_length
   stranger_none h = rw (drop_of_length-le t h)
 
-  pub stranger_long : 1048576 < length (rest t from) → TooLong ≡ first_stranger t from
+  pub stranger_long : 1048576 < length (rest t from) → Err (record {}) ≡ first_stranger t from
   unfolding first_stranger stranger_in
   stranger_long h = sym (left _ _ (lt-leb _ _ (rw (tail t from) at h)))
 
   module _ {c : (Result (Unit {0}) Refusal)} where
-    pub stranger_fine : c ≡ (Ok tt) → answered c ≡ checked_text (rest t from) → length (rest t from) ≤ 1048576 → Nowhere ≡ first_stranger t from
+    pub stranger_fine : c ≡ (Ok tt) → answered c ≡ checked_text (rest t from) → length (rest t from) ≤ 1048576 → Ok None ≡ first_stranger t from
     unfolding first_stranger
     stranger_fine e p h = fine_in from (rest t from) h e p ∙ ap (stranger_in from) (tail t from)
 

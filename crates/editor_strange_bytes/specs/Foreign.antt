@@ -1,14 +1,14 @@
 -- What stands where a text has a byte that is not in the domain (document 01, "What the build covers"). UTF-8 is RFC 3629's: a first byte C2 to DF, E0
 -- to EF or F0 to F4 is followed by one, two or three bytes from 80 to BF. Single bytes are those of Windows-1252, where they are told apart.
 -- Assumes nothing.
-use Rattle.std.specs.Prelude.{ℕ, ◌+◌, Bool, true, false, cond, ◌&&◌, ◌||◌, List, [], ◌∷◌, leb, ltb, length, get_or, drop}
+use Rattle.std.specs.Prelude.{ℕ, ◌+◌, Bool, true, false, cond, ◌&&◌, ◌||◌, List, [], ◌∷◌, leb, ltb, length, get_or, drop, Option, Some, None, Result, Ok, Err}
 use Rattle.base_ascii.specs.Bytes.{between}
 use Rattle.word_search.specs.Compare.{begins}
 use Rattle.text_domain.specs.Domain.{domain_length}
 use Rattle.editor_strange_bytes.specs.declared.Foreign.{Foreign}
 use Rattle.editor_strange_bytes.specs.declared.Foreign.TheVariants.{OrderMark, CurlyQuote, NoBreakSpace, LongDash, Character, LoneByte}
 use Rattle.editor_strange_bytes.specs.declared.Stranger.{Stranger}
-use Rattle.editor_strange_bytes.specs.declared.Stranger.TheVariants.{There, Nowhere, TooLong}
+use Rattle.editor_strange_bytes.specs.declared.TooLong.{TooLong}
 
 -- ---- how many bytes a character of UTF-8 takes
 
@@ -70,18 +70,19 @@ kind_of t =
 -- ---- where the first one stands
 
 -- from a place on, in what is left of a text
-unfoldable pub stranger_in : ℕ → List ℕ → Stranger
+unfoldable pub stranger_in : ℕ → List ℕ → Result (Option Stranger) TooLong
 unfolding domain_length kind_of width_of
 stranger_in from s =
     elim (leb (length s) 1048576) [
       | true ↦
           elim (ltb (domain_length s) (length s)) [
-            | true ↦ There (from + domain_length s) (kind_of (drop (domain_length s) s)) (width_of (drop (domain_length s) s))
-            | false ↦ Nowhere
+            | true ↦
+                Ok (Some (record { offset = from + domain_length s; kind = kind_of (drop (domain_length s) s); used = width_of (drop (domain_length s) s) }))
+            | false ↦ Ok None
           ]
-      | false ↦ TooLong
+      | false ↦ Err (record {})
     ]
 
-unfoldable pub first_stranger : List ℕ → ℕ → Stranger
+unfoldable pub first_stranger : List ℕ → ℕ → Result (Option Stranger) TooLong
 unfolding stranger_in
 first_stranger t from = stranger_in from (drop from t)

@@ -4,7 +4,6 @@
 ghost use Rattle.std.specs.Prelude.{◌≡◌, get_or};
 ghost use Rattle.editor_strange_bytes.specs.Foreign.{is_inner, inner_behind, inner_asked, width_of, is_utf16, is_mark_of_order, is_curly_quote, is_no_break_space, is_long_dash, kind_of, first_stranger};
 
-
 // What stands at a byte outside the domain.
 #[derive(Clone, Copy)]
 pub enum Foreign {
@@ -18,27 +17,23 @@ pub enum Foreign {
     LoneByte,
 }
 
-// The first bytes from a place on that lie outside the domain: where they stand, what they are, and how many. Or there are none; or the
-// text is longer than one may be.
+// Bytes that lie outside the domain: where they stand, what they are, and how many.
 #[derive(Clone, Copy)]
-pub enum Stranger {
-    There {
-        offset: usize,
-        kind: Foreign,
-        used: usize,
-    },
-    Nowhere,
-    TooLong,
+pub struct Stranger {
+    pub offset: usize,
+    pub kind: Foreign,
+    pub used: usize,
 }
+
+// A text is longer than one may be.
+#[derive(Clone, Copy)]
+pub struct TooLong;
 
 // The byte at a place; 0 behind the end.
 fn byte_at(text: &[u8], i: usize) -> u8
     ensures { result ≡ get_or text.now i 0 }
 {
-    if i < text.len() {
-        return text[i];
-    }
-    0
+    text.get(i).copied().unwrap_or(0)
 }
 
 // Whether a byte stands within a character of UTF-8, and not in front of it.
@@ -52,32 +47,23 @@ fn is_inner(b: u8) -> bool
 fn inner_behind(text: &[u8]) -> usize
     ensures { result ≡ inner_behind text.now }
 {
-    if !is_inner(byte_at(text, 1)) {
-        return 0;
-    }
-    if !is_inner(byte_at(text, 2)) {
-        return 1;
-    }
-    if !is_inner(byte_at(text, 3)) {
-        return 2;
-    }
-    3
+    text.iter()
+        .skip(1)
+        .take(3)
+        .take_while(|b| is_inner(**b))
+        .count()
 }
 
 // How many a first byte asks for; 0 where it begins no character of several bytes.
 fn inner_asked(b: u8) -> usize
     ensures { result ≡ inner_asked b }
 {
-    if base_ascii::between(0xC2, 0xDF, b) {
-        return 1;
+    match b {
+        0xC2..=0xDF => 1,
+        0xE0..=0xEF => 2,
+        0xF0..=0xF4 => 3,
+        _ => 0,
     }
-    if base_ascii::between(0xE0, 0xEF, b) {
-        return 2;
-    }
-    if base_ascii::between(0xF0, 0xF4, b) {
-        return 3;
-    }
-    0
 }
 
 // How many bytes the character in front takes.
@@ -86,46 +72,39 @@ fn width(text: &[u8]) -> usize
 {
     let asked = inner_asked(byte_at(text, 0));
     if asked <= inner_behind(text) {
-        return asked + 1;
+        asked + 1
+    } else {
+        1
     }
-    1
 }
 
 // Whether a text begins as one in UTF-16 does.
 pub fn is_utf16(text: &[u8]) -> bool
     ensures { result ≡ is_utf16 text.now }
 {
-    if word_search::begins(&[0xFF, 0xFE], text) {
-        return true;
-    }
-    word_search::begins(&[0xFE, 0xFF], text)
+    word_search::begins(&[0xFF, 0xFE], text) || word_search::begins(&[0xFE, 0xFF], text)
 }
 
 fn is_curly_quote(text: &[u8]) -> bool
     ensures { result ≡ is_curly_quote text.now }
 {
     if word_search::begins(&[0xE2, 0x80], text) {
-        return base_ascii::between(0x98, 0x9F, byte_at(text, 2));
+        base_ascii::between(0x98, 0x9F, byte_at(text, 2))
+    } else {
+        base_ascii::between(0x91, 0x94, byte_at(text, 0))
     }
-    base_ascii::between(0x91, 0x94, byte_at(text, 0))
 }
 
 fn is_no_break_space(text: &[u8]) -> bool
     ensures { result ≡ is_no_break_space text.now }
 {
-    if word_search::begins(&[0xC2, 0xA0], text) {
-        return true;
-    }
-    word_search::begins(&[0xA0], text)
+    word_search::begins(&[0xC2, 0xA0], text) || word_search::begins(&[0xA0], text)
 }
 
 fn is_long_dash(text: &[u8]) -> bool
     ensures { result ≡ is_long_dash text.now }
 {
-    if word_search::begins(&[0xE2, 0x80], text) {
-        return base_ascii::between(0x92, 0x95, byte_at(text, 2));
-    }
-    false
+    word_search::begins(&[0xE2, 0x80], text) && base_ascii::between(0x92, 0x95, byte_at(text, 2))
 }
 
 // What stands in front of a text.
@@ -133,46 +112,42 @@ fn kind_of(text: &[u8]) -> Foreign
     ensures { result ≡ kind_of text.now }
 {
     if word_search::begins(&[0xEF, 0xBB, 0xBF], text) {
-        return Foreign::OrderMark;
+        Foreign::OrderMark
+    } else if is_curly_quote(text) {
+        Foreign::CurlyQuote
+    } else if is_no_break_space(text) {
+        Foreign::NoBreakSpace
+    } else if is_long_dash(text) {
+        Foreign::LongDash
+    } else if width(text) > 1 {
+        Foreign::Character
+    } else {
+        Foreign::LoneByte
     }
-    if is_curly_quote(text) {
-        return Foreign::CurlyQuote;
-    }
-    if is_no_break_space(text) {
-        return Foreign::NoBreakSpace;
-    }
-    if is_long_dash(text) {
-        return Foreign::LongDash;
-    }
-    if width(text) > 1 {
-        return Foreign::Character;
-    }
-    Foreign::LoneByte
 }
 
-// The first bytes from a place on that no text may hold.
-pub fn next_stranger(text: &[u8], from: usize) -> Stranger
+// The first bytes from a place on that no text may hold, if there are any.
+pub fn next_stranger(text: &[u8], from: usize) -> Result<Option<Stranger>, TooLong>
     ensures { result ≡ first_stranger text.now from }
 {
     if text.len() <= from {
-        return Stranger::Nowhere;
+        return Ok(None);
     }
     let rest = &text[from..];
     if rest.len() > 1048576 {
-        return Stranger::TooLong;
+        return Err(TooLong);
     }
     match text_domain::check_text(rest) {
-        Ok(()) => Stranger::Nowhere,
+        Ok(()) => Ok(None),
         Err(refusal) => {
             // It is a byte outside the domain: the length is in order.
-            let code = base_refusals::refusal_code(refusal);
-            let fine = code.first;
+            let fine = base_refusals::refusal_code(refusal).first;
             let strange = &rest[fine..];
-            Stranger::There {
+            Ok(Some(Stranger {
                 offset: from + fine,
                 kind: kind_of(strange),
                 used: width(strange),
-            }
+            }))
         }
     }
 }

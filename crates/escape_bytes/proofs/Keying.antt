@@ -2,14 +2,15 @@
 -- Assumes nothing.
 use Prim.Native.Nat.{ℕ, ◌+◌, ◌-◌, ◌%◌}
 use mathlib.Core.Path.{◌≡◌, sym, ◌∙◌}
-use mathlib.Core.Bool.{Bool, true, false, not}
+use mathlib.Core.Bool.{Bool, true, false}
 use lib.ListN.{get_or}
-use borrow.Author.Tests.{not-true, not-false}
 use Rattle.base_ascii.specs.Bytes.{is_digit, is_letter, upper}
 use Rattle.escape_bytes.specs.KeyCodes.{cbm_letters, ctrl_digits}
-use Rattle.escape_bytes.specs.Keys.{control_byte, key_with}
+use Rattle.escape_bytes.specs.Keys.{control_byte, known, key_with}
+use Rattle.escape_bytes.specs.declared.Escape.{Escape}
+use Rattle.escape_bytes.specs.declared.Key.{Key}
 use Rattle.escape_bytes.specs.declared.Key.TheVariants.{Commodore, Shift}
-use Rattle.escape_bytes.specs.declared.Escape.TheVariants.{Byte, Unknown}
+use Rattle.std.specs.Prelude.{Option, None}
 
 module _ (b : ℕ) {d : Bool} where
   pub control_digit : {k w : ℕ} → k ≡ get_or ctrl_digits w 0 → w ≡ b - 48 → d ≡ true → d ≡ is_digit b → k ≡ control_byte b
@@ -25,20 +26,24 @@ module _ (b : ℕ) {d : Bool} where
     unfolding control_byte
     control_other f q e p = simp (sym p ∙ e, sym q ∙ f)
 
+-- what is known where a `match` found the key
+pub for_key : (b count : ℕ) {key k : Key} {r : Option Escape} → key ≡ k → r ≡ key_with k b count → r ≡ key_with key b count
+for_key b count e q = rw e q
+
 module _ (b : ℕ) where
   module _ (count : ℕ) {r : Bool} where
-    pub commodore_other : not r ≡ true → r ≡ is_letter b → Unknown ≡ key_with Commodore b count
+    pub commodore_letter : {k u w : ℕ} → k ≡ get_or cbm_letters w 0 → w ≡ u - 65 → u ≡ upper b → r ≡ true → r ≡ is_letter b → known k count ≡ key_with Commodore b count
     unfolding key_with
-    commodore_other n e = rw (key_with, sym e ∙ not-true r n)
+    commodore_letter p q v n e = rw (key_with, sym e ∙ n, p, q, v)
 
-    pub commodore_letter : {k u w : ℕ} → k ≡ get_or cbm_letters w 0 → w ≡ u - 65 → u ≡ upper b → not r ≡ false → r ≡ is_letter b → Byte k count ≡ key_with Commodore b count
+    pub shift_letter : {u : ℕ} → u ≡ upper b → r ≡ true → r ≡ is_letter b → known (0xC0 + (u - 64)) count ≡ key_with Shift b count
     unfolding key_with
-    commodore_letter p q v n e = rw (key_with, sym e ∙ not-false r n, p, q, v)
+    shift_letter v n e = rw (key_with, sym e ∙ n, v)
 
-    pub shift_other : not r ≡ true → r ≡ is_letter b → Unknown ≡ key_with Shift b count
+    pub commodore_other : r ≡ false → r ≡ is_letter b → None ≡ key_with Commodore b count
     unfolding key_with
-    shift_other n e = rw (key_with, sym e ∙ not-true r n)
+    commodore_other n e = rw (key_with, sym e ∙ n)
 
-    pub shift_letter : {u : ℕ} → u ≡ upper b → not r ≡ false → r ≡ is_letter b → Byte (0xC0 + (u - 64)) count ≡ key_with Shift b count
+    pub shift_other : r ≡ false → r ≡ is_letter b → None ≡ key_with Shift b count
     unfolding key_with
-    shift_letter v n e = rw (key_with, sym e ∙ not-false r n, v)
+    shift_other n e = rw (key_with, sym e ∙ n)

@@ -13,35 +13,32 @@ use Rattle.base_ascii.proofs.Searching.{front_le, front_drop, before_take, end_t
 use Rattle.base_ascii.specs.Trim.{trim}
 use Rattle.word_search.specs.Find.{name_in, meaning}
 use Rattle.word_search.specs.declared.Match.{Match}
-use Rattle.word_search.specs.declared.Match.TheVariants.{Word, Nothing}
 use Rattle.word_tables.specs.Escapes.{escape_names}
 use Rattle.escape_numbers.specs.Numbers.{number_of, hex_of}
-use Rattle.escape_bytes.specs.Keys.{key_names, key_with, keyed, key_escape}
+use Rattle.escape_bytes.specs.Keys.{key_names, known, key_with, keyed, key_escape}
 use Rattle.escape_bytes.specs.Escape.{name_escape, counted_name, escape_of}
 use Rattle.escape_bytes.specs.declared.Key.{Key}
 use Rattle.escape_bytes.specs.declared.Key.TheVariants.{Control, Commodore, Shift}
 use Rattle.escape_bytes.specs.declared.Escape.{Escape}
-use Rattle.escape_bytes.specs.declared.Escape.TheVariants.{Byte, Unknown}
-use Rattle.std.specs.Prelude.{Some, None}
 
 -- ---- how often a byte is given
 
 abbrev pub Often : ℕ → Option Escape → Type 0
-Often n (Byte b count) = count ≡ n
-Often n Unknown = Unit {0}
+Often n (Some e) = e.count ≡ n
+Often n None = Unit {0}
 
 module _ (n : ℕ) where
-  by_test : (r : Bool) (b : ℕ) → Often n (elim r [ true ↦ Byte b n | false ↦ Unknown ])
+  by_test : (r : Bool) (b : ℕ) → Often n (elim r [ true ↦ known b n | false ↦ None ])
   by_test true b = refl
   by_test false b = tt
 
-  by_number_lem : (x : Option ℕ) (r : Option Escape) → Often n r → Often n (elim x [ Some v ↦ Byte v n | None ↦ r ])
+  by_number_lem : (x : Option ℕ) (r : Option Escape) → Often n r → Often n (elim x [ Some v ↦ known v n | None ↦ r ])
   by_number_lem (Some v) r f = refl
   by_number_lem None r f = f
 
-  by_match : (m : Option Match) (r : Option Escape) → Often n r → Often n (elim m [ Word i u code ↦ Byte code n | Nothing ↦ r ])
-  by_match (Word i u code) r f = refl
-  by_match Nothing r f = f
+  by_match : (m : Option Match) (r : Option Escape) → Often n r → Often n (elim m [ Some w ↦ known w.token n | None ↦ r ])
+  by_match (Some w) r f = refl
+  by_match None r f = f
 
   key_often : (key : Key) (b : ℕ) → Often n (key_with key b n)
   unfolding key_with
@@ -55,7 +52,7 @@ module _ (n : ℕ) where
   keyed_often prefix (b ∷ c ∷ s) = tt
   keyed_often prefix (b ∷ []) = go (meaning key_names prefix)
     where
-      go : (k : Option Key) → Often n (elim k [ Some key ↦ key_with key b n | None ↦ Unknown ])
+      go : (k : Option Key) → Often n (elim k [ Some key ↦ key_with key b n | None ↦ None ])
       go (Some key) = key_often key b
       go None = tt
 
@@ -73,7 +70,7 @@ module _ (p : ℕ → Bool) where
   none_last (b ∷ s) e = go (p b) e (none_last s)
     where
       go : (r : Bool) → elim (not r) [ true ↦ suc (before p s) | false ↦ 0 ] ≡ suc (length s) → (before p s ≡ length s → last p s ≡ None)
-          → elim (last p s) [ Some n ↦ Some (suc n) | None ↦ cond r (Some 0) None ] ≡ None
+          → ◌≡◌ {A = Option ℕ} (elim (last p s) [ Some n ↦ Some (suc n) | None ↦ cond r (Some 0) None ]) None
       go true q f = absurd (omega arith)
       go false q f = rw (f (omega arith))
 
@@ -82,9 +79,9 @@ module _ (p : ℕ → Bool) where
   none_trimmed s e =
       let rest = past is_space s in
       let m = length (past_end is_space rest) in
-      let None : before p rest ≡ length rest =
+      let none : before p rest ≡ length rest =
       omega (arith, e, front_drop (other p) (front is_space s) s (omega (arith, e, front_le is_space s)), length-drop (front is_space s) s) in
-      rw (← end_take is_space rest) (before_take p m rest ∙ ap (min m) None ∙ sym (length-take m rest))
+      rw (← end_take is_space rest) (before_take p m rest ∙ ap (min m) none ∙ sym (length-take m rest))
 
 pub given_once : (s : List ℕ) → before (equals 42) s ≡ length s → Often 1 (escape_of s)
 unfolding escape_of counted_name

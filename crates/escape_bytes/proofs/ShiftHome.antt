@@ -14,20 +14,21 @@ use Rattle.base_ascii.proofs.Ranges.{between_in}
 use Rattle.word_search.specs.Compare.{begins, alike, same, passes}
 use Rattle.word_search.specs.Find.{Entry, first_that, name_in}
 use Rattle.word_search.specs.declared.Match.{Match}
-use Rattle.word_search.specs.declared.Match.TheVariants.{Word, Nothing}
 use Rattle.word_search.specs.declared.Test.TheVariants.{Alike}
 use Rattle.word_search.proofs.Sameness.{same_eq}
 use Rattle.word_tables.specs.Escapes.{escape_names, recoded, rust_names}
 use Rattle.word_search.specs.Spelling.{bytes_of}
 use Rattle.escape_numbers.specs.Numbers.{number_after, number_of, hex_of}
-use Rattle.escape_bytes.specs.Keys.{key_escape}
+use Rattle.escape_bytes.specs.Keys.{known, key_escape}
 use Rattle.escape_bytes.specs.Escape.{name_escape_in, name_escape, Counted, counted_name, escape_in, escape_of}
 use Rattle.escape_bytes.specs.declared.Escape.{Escape}
-use Rattle.escape_bytes.specs.declared.Escape.TheVariants.{Byte}
 use Rattle.escape_numbers.proofs.Counting.{no_digit}
-use Rattle.std.specs.Prelude.{Some, None}
+use Rattle.std.specs.Prelude.{Option, Some, None}
 
 -- ---- a list with another code for one name
+
+abbrev found : ℕ → List ℕ → ℕ → Option Match
+found k w t = Some (record { index = k; used = length w; token = t })
 
 -- a test that this name does not pass finds the same
 recoded_kept : (w : List ℕ) (t : ℕ) (p : List ℕ → Bool) → p w ≡ false → (es : List Entry) (k : ℕ) → first_that (λ i x. p x) (recoded w t es) k ≡ first_that (λ i x. p x) es k
@@ -36,8 +37,8 @@ recoded_kept w t p n [] k = refl
 recoded_kept w t p n (e ∷ es) k = go (p e.word) (same w e.word) refl refl (recoded_kept w t p n es (suc k))
   where
     go : (q s : Bool) → p e.word ≡ q → same w e.word ≡ s → first_that (λ i x. p x) (recoded w t es) (suc k) ≡ first_that (λ i x. p x) es (suc k)
-        → ◌≡◌ {A = Match} (elim q [ true ↦ Word k (length e.word) (elim s [ true ↦ t | false ↦ e.token ]) | false ↦ first_that (λ i x. p x) (recoded w t es) (suc k) ])
-        (elim q [ true ↦ Word k (length e.word) e.token | false ↦ first_that (λ i x. p x) es (suc k) ])
+        → ◌≡◌ {A = Option Match} (elim q [ true ↦ found k e.word (elim s [ true ↦ t | false ↦ e.token ]) | false ↦ first_that (λ i x. p x) (recoded w t es) (suc k) ])
+        (elim q [ true ↦ found k e.word e.token | false ↦ first_that (λ i x. p x) es (suc k) ])
     go true true u v h = absurd (false≢true (sym n ∙ ap p (same_eq w e.word v) ∙ u))
     go true false u v h = refl
     go false s u v h = h
@@ -88,8 +89,8 @@ module _ (w n : List ℕ) (a : alike w n ≡ true) where
   first_for (e ∷ es) k = go (alike e.word n) (alike e.word w) (alike_for e.word) (first_for es (suc k))
     where
       go : (q r : Bool) → q ≡ r → first_that (λ i x. passes Alike x n) es (suc k) ≡ first_that (λ i x. passes Alike x w) es (suc k)
-          → ◌≡◌ {A = Match} (elim q [ true ↦ Word k (length e.word) e.token | false ↦ first_that (λ i x. passes Alike x n) es (suc k) ])
-          (elim r [ true ↦ Word k (length e.word) e.token | false ↦ first_that (λ i x. passes Alike x w) es (suc k) ])
+          → ◌≡◌ {A = Option Match} (elim q [ true ↦ found k e.word e.token | false ↦ first_that (λ i x. passes Alike x n) es (suc k) ])
+          (elim r [ true ↦ found k e.word e.token | false ↦ first_that (λ i x. passes Alike x w) es (suc k) ])
       go true true u h = refl
       go true false u h = absurd (false≢true (sym u))
       go false true u h = absurd (false≢true u)
@@ -139,7 +140,7 @@ module _ (b : ℕ) (s : List ℕ) where
       go false u h = absurd (false≢true h)
 
 -- the name gives its code in the list, whichever it is
-clears : (es : List Entry) (name : List ℕ) (count : ℕ) {i u code : ℕ} → name_in es shift_home ≡ Word i u code → alike shift_home name ≡ true → name_escape_in es name count ≡ Byte code count
+clears : (es : List Entry) (name : List ℕ) (count : ℕ) {m : Match} → name_in es shift_home ≡ Some m → alike shift_home name ≡ true → name_escape_in es name count ≡ known m.token count
 unfolding name_escape_in
 clears es [] count f a = absurd (false≢true (no_name_lem a))
   where
@@ -161,19 +162,19 @@ unfolding name_escape_in
 kept [] count n = refl
 kept (b ∷ s) count n =
     ap (λ (m : Option Match). elim (number_of 10 255 (b ∷ s)) as (λ _. Option Escape) [
-      | Some v ↦ Byte v count
+      | Some v ↦ known v count
       | None ↦ elim (hex_of (b ∷ s)) as (λ _. Option Escape) [
-        | Some v ↦ Byte v count
-        | None ↦ elim m as (λ _. Option Escape) [ Word i u code ↦ Byte code count | Nothing ↦ key_escape (b ∷ s) count ]
+        | Some v ↦ known v count
+        | None ↦ elim m as (λ _. Option Escape) [ Some w ↦ known w.token count | None ↦ key_escape (b ∷ s) count ]
       ]
     ]) (names_kept (b ∷ s) n)
 
 -- its place in the list, its length, and its code: now, and in the Rust's list
-new_code : name_in escape_names shift_home ≡ Word 101 7 0x93
+new_code : name_in escape_names shift_home ≡ found 101 shift_home 0x93
 unfolding name_in first_that passes alike begins upper between escape_names
 new_code = refl
 
-old_code : name_in rust_names shift_home ≡ Word 101 7 0x53
+old_code : name_in rust_names shift_home ≡ found 101 shift_home 0x53
 unfolding name_in first_that passes alike begins upper between rust_names
 old_code = refl
 
@@ -182,7 +183,7 @@ module _ (inside : List ℕ) where
   named = counted_name (trim inside)
 
   -- the name `sh home` gives 93 as often as its count says, where it gave 53
-  pub shift_home_clears : alike shift_home named.name ≡ true → (escape_of inside ≡ Byte 0x93 named.count) × (escape_in rust_names inside ≡ Byte 0x53 named.count)
+  pub shift_home_clears : alike shift_home named.name ≡ true → (escape_of inside ≡ known 0x93 named.count) × (escape_in rust_names inside ≡ known 0x53 named.count)
   unfolding escape_of escape_in name_escape
   shift_home_clears a = (clears escape_names named.name named.count new_code a, clears rust_names named.name named.count old_code a)
 

@@ -4,14 +4,11 @@ use Rattle.std.specs.Prelude.{ℕ, zero, suc, List, [], ◌∷◌, take, drop}
 use Rattle.base_ascii.specs.Trim.{trim}
 use Rattle.base_ascii.specs.Search.{equals, last}
 use Rattle.word_search.specs.Find.{Entry, name_in}
-use Rattle.std.specs.Prelude.{Option, Some, None}
 use Rattle.word_tables.specs.Escapes.{escape_names}
 use Rattle.escape_numbers.specs.Numbers.{number_of, hex_of, count_of}
-use Rattle.escape_bytes.specs.Keys.{key_escape}
+use Rattle.escape_bytes.specs.Keys.{known, key_escape}
 use Rattle.escape_bytes.specs.declared.Escape.{Escape}
 use Rattle.std.specs.Prelude.{Option, Some, None}
-use Rattle.std.specs.Prelude.{Some, None}
-use Rattle.std.specs.Prelude.{Option}
 
 -- a name and its count, by a list of names: digits, $ and hex digits, one of the names, a key with one byte, in this order; an empty
 -- name is unknown
@@ -19,10 +16,10 @@ unfoldable pub name_escape_in : List Entry → List ℕ → ℕ → Option Escap
 name_escape_in es [] count = None
 name_escape_in es (b ∷ s) count =
     elim (number_of 10 255 (b ∷ s)) [
-      | Some v ↦ Some (record { byte = v; count = count })
+      | Some v ↦ known v count
       | None ↦ elim (hex_of (b ∷ s)) [
-        | Some v ↦ Some (record { byte = v; count = count })
-        | None ↦ elim (name_in es (b ∷ s)) [ Some m ↦ Some (record { byte = m.token; count = count }) | None ↦ key_escape (b ∷ s) count ]
+        | Some v ↦ known v count
+        | None ↦ elim (name_in es (b ∷ s)) [ Some m ↦ known m.token count | None ↦ key_escape (b ∷ s) count ]
       ]
     ]
 

@@ -2,7 +2,6 @@
 -- follows that mark is one byte after trimming").
 -- Assumes nothing.
 use Rattle.std.specs.Prelude.{ℕ, suc, ◌+◌, ◌-◌, ◌%◌, true, false, cond, List, [], ◌∷◌, take, drop, get_or}
-use Rattle.std.specs.Prelude.{None, Some}
 use Rattle.base_ascii.specs.Bytes.{is_digit, is_letter, upper}
 use Rattle.base_ascii.specs.Search.{is_mark, before}
 use Rattle.base_ascii.specs.Trim.{trim}
@@ -30,11 +29,15 @@ key_names =
 unfoldable pub control_byte : ℕ → ℕ
 control_byte b = cond (is_digit b) (get_or ctrl_digits (b - 48) 0) (cond (is_letter b) (upper b - 64) (b % 32))
 
+-- a known escape: a byte, so often
+abbrev pub known : ℕ → ℕ → Option Escape
+known b count = Some (record { byte = b; count = count })
+
 -- the byte that a key gives with another, so often
 unfoldable pub key_with : Key → ℕ → ℕ → Option Escape
-key_with Control b count = Some (record { byte = control_byte b; count = count })
-key_with Commodore b count = elim (is_letter b) [ true ↦ Some (record { byte = get_or cbm_letters (upper b - 65) 0; count = count }) | false ↦ None ]
-key_with Shift b count = elim (is_letter b) [ true ↦ Some (record { byte = 0xC0 + (upper b - 64); count = count }) | false ↦ None ]
+key_with Control b count = known (control_byte b) count
+key_with Commodore b count = elim (is_letter b) [ true ↦ known (get_or cbm_letters (upper b - 65) 0) count | false ↦ None ]
+key_with Shift b count = elim (is_letter b) [ true ↦ known (0xC0 + (upper b - 64)) count | false ↦ None ]
 
 -- a prefix and what follows its mark: one byte, or nothing is known
 unfoldable pub keyed : List ℕ → List ℕ → ℕ → Option Escape

@@ -4,7 +4,6 @@
 ghost use Rattle.std.specs.Prelude.{◌≡◌, ◌<◌, get_or};
 ghost use Rattle.escape_bytes.specs.KeyCodes.{cbm_letters, ctrl_digits};
 ghost use Rattle.escape_bytes.specs.Keys.{control_byte, key_with};
-ghost use Rattle.escape_bytes.specs.declared.Key.TheVariants.{Commodore, Shift};
 
 // What an escape stands for: a byte, so many times.
 #[derive(Clone, Copy)]
@@ -49,7 +48,7 @@ fn control_byte(b: u8) -> u8
     ensures { result ≡ control_byte b }
 {
     if base_ascii::is_digit(b) {
-        return ctrl_digit_byte(base_ascii::wide(b - 48));
+        return ctrl_digit_byte(usize::from(b - b'0'));
     }
     if base_ascii::is_letter(b) {
         return base_ascii::upper(b) - 64;
@@ -57,33 +56,7 @@ fn control_byte(b: u8) -> u8
     b % 32
 }
 
-// What the Commodore key gives with a byte.
-fn commodore_with(b: u8, count: u64) -> Option<Escape>
-    ensures { result ≡ key_with Commodore b count }
-{
-    if !base_ascii::is_letter(b) {
-        return None;
-    }
-    Some(Escape {
-        byte: cbm_letter_byte(base_ascii::wide(base_ascii::upper(b) - 65)),
-        count,
-    })
-}
-
-// What the shift key gives with a byte.
-fn shift_with(b: u8, count: u64) -> Option<Escape>
-    ensures { result ≡ key_with Shift b count }
-{
-    if !base_ascii::is_letter(b) {
-        return None;
-    }
-    Some(Escape {
-        byte: 0xC0 + (base_ascii::upper(b) - 64),
-        count,
-    })
-}
-
-// What a key gives with a byte.
+// What a key gives with a byte: the Commodore key and the shift key give one with a letter alone.
 pub fn key_with(key: Key, b: u8, count: u64) -> Option<Escape>
     ensures { result ≡ key_with key b count }
 {
@@ -92,7 +65,14 @@ pub fn key_with(key: Key, b: u8, count: u64) -> Option<Escape>
             byte: control_byte(b),
             count,
         }),
-        Key::Commodore => commodore_with(b, count),
-        Key::Shift => shift_with(b, count),
+        Key::Commodore if base_ascii::is_letter(b) => Some(Escape {
+            byte: cbm_letter_byte(usize::from(base_ascii::upper(b) - b'A')),
+            count,
+        }),
+        Key::Shift if base_ascii::is_letter(b) => Some(Escape {
+            byte: 0xC0 + (base_ascii::upper(b) - 64),
+            count,
+        }),
+        _ => None,
     }
 }

@@ -2,9 +2,8 @@
 -- Assumes nothing.
 use Prim.Native.Nat.{ℕ, ◌+◌, ◌-◌, ◌≤◌, ◌<◌}
 use mathlib.Core.Path.{◌≡◌, sym, ◌∙◌}
-use mathlib.Core.Bool.{Bool, true, false, not}
+use mathlib.Core.Bool.{Bool, true}
 use native.Mathlib.Omega.{arith}
-use borrow.Author.Tests.{not-false}
 use mir.Syntax.{w8}
 use mir.Val.{Fits}
 use Rattle.base_ascii.specs.Bytes.{is_digit, is_letter, upper}
@@ -24,15 +23,11 @@ module _ (b : ℕ) {r : Bool} where
     pub letter_digit : u ≡ upper b → r ≡ true → r ≡ is_letter b → 55 ≤ u
     letter_digit v e p = omega (arith, between_in 65 90 (upper b) (sym p ∙ e))
 
-    -- the same behind a test that passed where there is no letter
-    pub letter_first : u ≡ upper b → not r ≡ false → r ≡ is_letter b → 65 ≤ u
-    letter_first v e p = omega (arith, between_in 65 90 (upper b) (sym p ∙ not-false r e))
+    pub letter_first : u ≡ upper b → r ≡ true → r ≡ is_letter b → 65 ≤ u
+    letter_first v e p = omega (arith, between_in 65 90 (upper b) (sym p ∙ e))
 
-    pub letter_from : u ≡ upper b → not r ≡ false → r ≡ is_letter b → 64 ≤ u
-    letter_from v e p = omega (arith, letter_first v e p)
+    pub letter_place : {w : ℕ} → w ≡ u - 65 → u ≡ upper b → r ≡ true → r ≡ is_letter b → w < 26
+    letter_place q v e p = omega (arith, between_in 65 90 (upper b) (sym p ∙ e))
 
-    pub letter_place : {w : ℕ} → w ≡ u - 65 → u ≡ upper b → not r ≡ false → r ≡ is_letter b → w < 26
-    letter_place q v e p = omega (arith, between_in 65 90 (upper b) (sym p ∙ not-false r e))
-
-    pub letter_shifted : u ≡ upper b → not r ≡ false → r ≡ is_letter b → Fits w8 (0xC0 + (u - 64))
-    letter_shifted v e p = record { fits = omega (arith, between_in 65 90 (upper b) (sym p ∙ not-false r e)) }
+    pub letter_shifted : u ≡ upper b → r ≡ true → r ≡ is_letter b → Fits w8 (0xC0 + (u - 64))
+    letter_shifted v e p = record { fits = omega (arith, between_in 65 90 (upper b) (sym p ∙ e)) }

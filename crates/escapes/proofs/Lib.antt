@@ -1,3 +1,4 @@
 pub mod Marks
+pub mod Prefixes
 pub mod Resolving
 pub mod Tails

@@ -3,7 +3,8 @@
 use Prim.Native.Nat.{ℕ, zero, suc, ◌+◌, ◌-◌, ◌≤◌, ◌<◌, min}
 use mathlib.Core.Path.{◌≡◌, refl, sym, ap, ◌∙◌}
 use mathlib.Core.Bool.{Bool, true, false, not, ◌&&◌, false≢true, and-false}
-use mathlib.Core.List.{List, [], ◌∷◌, map}
+use mathlib.Core.List.{List, [], ◌∷◌}
+use mathlib.Core.Logic.{◌⊎◌, inl, inr}
 use Rattle.std.specs.Prelude.{Option, None, Some}
 use native.Mathlib.Decide.{dec_le}
 use native.Mathlib.Numerals.{add-one}
@@ -19,43 +20,35 @@ use Rattle.base_ascii.proofs.Searching.{before_le, before_take, tail}
 use Rattle.base_ascii.specs.Trim.{trim}
 use Rattle.word_search.specs.Compare.{begins, alike}
 use Rattle.word_search.specs.Find.{Name, meaning}
-use Rattle.word_search.specs.RunHelpers.{passes_at, first_from}
-use Rattle.word_search.specs.declared.Test.TheVariants.{Alike}
-use Rattle.word_search.proofs.Storing.{spells_names, name_means, name_unknown}
 use Rattle.word_search.proofs.Search.{and_left, and_right}
 use Rattle.word_search.proofs.Sameness.{T_true}
 use Rattle.escape_bytes.specs.Keys.{key_names, key_with, keyed, key_escape}
 use Rattle.escape_bytes.specs.declared.Key.{Key}
-use Rattle.escape_bytes.specs.declared.Key.TheVariants.{Control}
 use Rattle.escape_bytes.specs.declared.Escape.{Escape}
-use Rattle.escape_bytes.specs.declared.Escape.TheVariants.{Unknown}
 use Rattle.escapes.specs.KeyHelpers.{is_key_letter, begins_key}
 
 -- ---- the first byte of a name
 
-begins_with_lem : (t : List ℕ) → (length t ≡ 0 → ⊥) → begins_key t ≡ is_key_letter (upper (get_or t 0 0))
+begins_with_lem : (t : List ℕ) → 1 ≤ length t → begins_key t ≡ is_key_letter (upper (get_or t 0 0))
 unfolding begins_key
-begins_with_lem [] n = absurd (n refl)
+begins_with_lem [] n = absurd (omega arith)
 begins_with_lem (b ∷ t) n = refl
 
-module _ (t : List ℕ) where
-  pub begins_empty : length t ≡ 0 → false ≡ begins_key t
-  unfolding begins_key
-  begins_empty e = go t e
-    where
-      go : (s : List ℕ) → length s ≡ 0 → false ≡ begins_key s
-      go [] h = refl
-      go (b ∷ s) h = absurd (omega arith)
+pub begins_empty : (t : List ℕ) → length t < 1 → false ≡ begins_key t
+unfolding begins_key
+begins_empty [] h = refl
+begins_empty (b ∷ t) h = absurd (omega arith)
 
-  module _ {u : ℕ} (q : u ≡ upper (get_or t 0 0)) (n : length t ≡ 0 → ⊥) where
-    told : {r : Bool} → r ≡ is_key_letter u → r ≡ begins_key t
-    told e = e ∙ ap is_key_letter q ∙ sym (begins_with_lem t n)
+module _ (t : List ℕ) {u : ℕ} (q : u ≡ upper (get_or t 0 0)) (n : 1 ≤ length t) where
+  told : {r : Bool} → r ≡ is_key_letter u → r ≡ begins_key t
+  told e = e ∙ ap is_key_letter q ∙ sym (begins_with_lem t n)
 
-    pub begins_c : u ≡ 0x43 → true ≡ begins_key t
-    begins_c e = told (simp (eq-eqb _ _ e))
+  pub begins_one : (u ≡ 0x43) ⊎ (u ≡ 0x53) → true ≡ begins_key t
+  begins_one (inl e) = told (simp (eq-eqb _ _ e))
+  begins_one (inr e) = told (rw e)
 
-    pub begins_s : (u ≡ 0x43 → ⊥) → eqb u 0x53 ≡ begins_key t
-    begins_s e = told (simp (ne_eqb _ _ e))
+  pub begins_other : ((u ≡ 0x43) ⊎ (u ≡ 0x53) → ⊥) → false ≡ begins_key t
+  begins_other e = told (simp (ne_eqb u 0x43 (λ f. e (inl f)), ne_eqb u 0x53 (λ f. e (inr f))))
 
 -- ---- a name split at its first mark
 
@@ -66,13 +59,13 @@ reach_taken name {reach} r = sym (length-take-le reach name (omega arith))
 pub mark_taken : (name : List ℕ) {mark reach : ℕ} → mark < reach → reach ≡ min (length name) 8 → mark ≡ length (take mark name)
 mark_taken name {mark} h r = sym (length-take-le mark name (omega arith))
 
-keyed_other : (prefix arg : List ℕ) (count : ℕ) → (length arg ≡ 1 → ⊥) → Unknown ≡ keyed prefix arg count
+keyed_not_one : (prefix arg : List ℕ) (count : ℕ) → (length arg ≡ 1 → ⊥) → None ≡ keyed prefix arg count
 unfolding keyed
-keyed_other prefix [] count n = refl
-keyed_other prefix (b ∷ []) count n = absurd (n refl)
-keyed_other prefix (b ∷ c ∷ s) count n = refl
+keyed_not_one prefix [] count n = refl
+keyed_not_one prefix (b ∷ []) count n = absurd (n refl)
+keyed_not_one prefix (b ∷ c ∷ s) count n = refl
 
-keyed_none : (prefix rest : List ℕ) (count : ℕ) → rest ≡ [] → Unknown ≡ keyed prefix (trim rest) count
+keyed_none : (prefix rest : List ℕ) (count : ℕ) → rest ≡ [] → None ≡ keyed prefix (trim rest) count
 unfolding keyed trim
 keyed_none prefix rest count e = rw e
 
@@ -123,7 +116,7 @@ unfolding all_begin begins_key upper key_names
 other_prefix prefix n = other_unnamed prefix n key_names tt
 
 -- what is no prefix gives nothing
-unprefixed : (prefix arg : List ℕ) (count : ℕ) → meaning key_names prefix ≡ None → Unknown ≡ keyed prefix arg count
+unprefixed : (prefix arg : List ℕ) (count : ℕ) → meaning key_names prefix ≡ None → None ≡ keyed prefix arg count
 unfolding keyed
 unprefixed prefix [] count h = refl
 unprefixed prefix (b ∷ []) count h = rw (keyed, h)
@@ -136,7 +129,7 @@ front_begins zero t h = refl
 front_begins (suc n) [] h = refl
 front_begins (suc n) (b ∷ t) h = h
 
-pub key_begins_not : (name : List ℕ) (count : ℕ) {r : Bool} → not r ≡ true → r ≡ begins_key name → Unknown ≡ key_escape name count
+pub key_begins_not : (name : List ℕ) (count : ℕ) {r : Bool} → not r ≡ true → r ≡ begins_key name → None ≡ key_escape name count
 unfolding key_escape
 key_begins_not name count {r} e q =
     unprefixed (take (before is_mark name) name) (trim (drop (suc (before is_mark name)) name)) count
@@ -147,15 +140,15 @@ module _ (name : List ℕ) (count : ℕ) {mark reach : ℕ} where
   marked : mark < reach → mark ≡ before is_mark (take reach name) → mark ≡ before is_mark name
   marked h m = omega (arith, before_take is_mark reach name)
 
-  -- where there is None among them, the prefix is too long, or there is no mark
-  pub key_unreached : reach ≤ mark → mark ≡ before is_mark (take reach name) → reach ≡ min (length name) 8 → Unknown ≡ key_escape name count
+  -- where there is none among them, the prefix is too long, or there is no mark
+  pub key_unreached : reach ≤ mark → mark ≡ before is_mark (take reach name) → reach ≡ min (length name) 8 → None ≡ key_escape name count
   unfolding key_escape
   key_unreached h m r = go (dec_le (length name) 7)
     where
       beyond : reach ≤ before is_mark name
       beyond = omega (arith, before_take is_mark reach name)
 
-      go : Dec (length name ≤ 7) → Unknown ≡ key_escape name count
+      go : Dec (length name ≤ 7) → None ≡ key_escape name count
       go (yes s) =
           keyed_none (take (before is_mark name) name) (drop (suc (before is_mark name)) name) count
           (drop_of_length-le name {i = suc (before is_mark name)} (omega (arith, beyond)))
@@ -170,27 +163,28 @@ module _ (name : List ℕ) (count : ℕ) {mark reach : ℕ} where
     unfolding key_escape
     split a h m = rw (a, tail name (mark + 1), add-one, marked h m)
 
-    pub key_long : (length arg ≡ 1 → ⊥) → arg ≡ trim (take (length name - (mark + 1)) (drop (mark + 1) name)) → mark < reach → mark ≡ before is_mark (take reach name)
-        → Unknown ≡ key_escape name count
-    key_long n a h m = keyed_other (take mark name) arg count n ∙ split a h m
+    keyed_other : (length arg ≡ 1 → ⊥) → arg ≡ trim (take (length name - (mark + 1)) (drop (mark + 1) name)) → mark < reach → mark ≡ before is_mark (take reach name)
+        → None ≡ key_escape name count
+    keyed_other n a h m = keyed_not_one (take mark name) arg count n ∙ split a h m
 
-    -- the prefix has its own function
-    pub key_split : {e : Option Escape} → e ≡ keyed (take mark name) (get_or arg 0 0 ∷ []) count → length arg ≡ 1
-        → arg ≡ trim (take (length name - (mark + 1)) (drop (mark + 1) name)) → mark < reach → mark ≡ before is_mark (take reach name)
-        → e ≡ key_escape name count
-    key_split e one a l m = e ∙ sym (keyed_one (take mark name) arg count one) ∙ split a l m
+    pub key_short : length arg < 1 → arg ≡ trim (take (length name - (mark + 1)) (drop (mark + 1) name)) → mark < reach → mark ≡ before is_mark (take reach name)
+        → None ≡ key_escape name count
+    key_short l a h m = keyed_other (λ e. omega arith) a h m
 
--- ---- a prefix, looked for among those stored
+    pub key_long : 2 ≤ length arg → arg ≡ trim (take (length name - (mark + 1)) (drop (mark + 1) name)) → mark < reach → mark ≡ before is_mark (take reach name)
+        → None ≡ key_escape name count
+    key_long l a h m = keyed_other (λ e. omega arith) a h m
 
-module _ (prefix : List ℕ) (c count : ℕ) (b s : List ℕ) {r : ℕ} where
-  pub prefix_known : {e : Option Escape} → e ≡ key_with (get_or (map (λ k. k.means) key_names) r Control) c count → r < 7
-      → r ≡ first_from (passes_at Alike prefix b s) 0 (7 - 0) → T (spells_names b s 0 key_names) → e ≡ keyed prefix (c ∷ []) count
-  unfolding keyed key_names
-  prefix_known e h f spelt =
-      e ∙ sym (ap (λ (k : Option Key). elim k as (λ _. Option Escape) [ Some key ↦ key_with key c count | None ↦ Unknown ])
-      (sym (name_means b s prefix key_names spelt f Control h)))
+    -- one byte behind the mark, and the key that the prefix names
+    module _ (l : 1 ≤ length arg) (s : length arg < 2) (a : arg ≡ trim (take (length name - (mark + 1)) (drop (mark + 1) name))) (h : mark < reach)
+        (m : mark ≡ before is_mark (take reach name)) where
+      one : keyed (take mark name) (get_or arg 0 0 ∷ []) count ≡ key_escape name count
+      one = sym (keyed_one (take mark name) arg count (omega arith)) ∙ split a h m
 
-  pub prefix_unknown : 7 ≤ r → r ≡ first_from (passes_at Alike prefix b s) 0 (7 - 0) → T (spells_names b s 0 key_names) → Unknown ≡ keyed prefix (c ∷ []) count
-  unfolding keyed key_names
-  prefix_unknown h f spelt =
-      ap (λ (k : Option Key). elim k as (λ _. Option Escape) [ Some key ↦ key_with key c count | None ↦ Unknown ]) (name_unknown b s prefix key_names spelt f h)
+      pub key_known : {key : Key} {e : Option Escape} → e ≡ key_with key (get_or arg 0 0) count → Some key ≡ meaning key_names (take mark name) → e ≡ key_escape name count
+      unfolding keyed
+      key_known q k = rw (← one, keyed, ← k) q
+
+      pub key_unknown : {e : Option Escape} → e ≡ None → None ≡ meaning key_names (take mark name) → e ≡ key_escape name count
+      unfolding keyed
+      key_unknown q k = rw (← one, keyed, ← k) q

@@ -19,8 +19,9 @@ use Rattle.base_ascii.proofs.Searching.{tail, front_more, front_none, front_le, 
 use Rattle.escape_numbers.specs.Numbers.{count_of}
 use Rattle.escape_numbers.specs.NumbersHelpers.{countable}
 use Rattle.escape_bytes.specs.Escape.{Counted, name_escape, repeated, starred, counted_name, counted_escape, escape_of}
-use Rattle.escapes.specs.TailHelpers.{tail_escape, TailOf, whole_tail, number_tail, starred_tail}
+use Rattle.escapes.specs.TailHelpers.{tail_escape, TailOf, counted, repeat_of}
 use Rattle.escape_bytes.specs.declared.Escape.{Escape}
+use Rattle.escapes.specs.declared.Repeat.{Repeat}
 use Rattle.escapes.specs.declared.Tail.{Tail}
 use Rattle.escape_numbers.proofs.Counting.{uncounted}
 use Rattle.std.specs.Prelude.{Option, Some, None}
@@ -180,15 +181,17 @@ module _ (t : List ℕ) where
   escape_end k = ap (λ (l : List ℕ). counted_escape (counted_name l)) (trim_drop k t) ∙ ap counted_escape (name_past (drop k solid))
 
   -- no count at any end
-  whole_tail_lem : {end : ℕ} → end ≡ length solid → ((k : ℕ) → named_at k ≡ entire_at k) → TailOf t (whole_tail end)
+  whole_tail : ((k : ℕ) → named_at k ≡ entire_at k) → TailOf t (record { end = length solid; repeat = None })
   unfolding tail_escape
-  whole_tail_lem q f =
+  whole_tail f =
       record {
-        end_within = within q;
-        name_within_lem = omega arith;
-        gives = λ k.
-            escape_end k ∙ ap counted_escape (f k) ∙ rw (tail_escape, le-ltb k 0 (omega arith)) (ap (λ (l : List ℕ). name_escape (past is_space (drop k l)) 1) (sym (is_solid q)));
+        end_within = within refl;
+        name_within = λ r e. absurd (none_some e);
+        gives = λ k. escape_end k ∙ ap counted_escape (f k) ∙ ap (λ (l : List ℕ). name_escape (past is_space (drop k l)) 1) (sym (is_solid refl));
       }
+    where
+      none_some : {r : Repeat} → None ≡ Some r → ⊥
+      none_some e = cc
 
   -- the number behind the * is the same at every end that the * is in
   same_number : (n k : ℕ) → k ≤ n → drop (suc (n - k)) (drop k solid) ≡ drop (suc n) solid
@@ -230,24 +233,29 @@ module _ (t : List ℕ) where
 
     -- a number that is no count
     uncounted_tail : {c : (Option ℕ)} → count_of (trim (drop (suc n) solid)) ≡ c → ((entire part : List ℕ) → split entire part c ≡ record { name = entire; count = 1 })
-        → TailOf t (whole_tail (length solid))
-    uncounted_tail {c} f g = whole_tail_lem refl (λ k. named_by f k ∙ go k (ltb k (suc n)))
+        → TailOf t (record { end = length solid; repeat = None })
+    uncounted_tail {c} f g = whole_tail (λ k. named_by f k ∙ go k (ltb k (suc n)))
       where
         go : (k : ℕ) (b : Bool) → elim b [ true ↦ split (past is_space (drop k solid)) (trim (drop k (take n solid))) c | false ↦ entire_at k ] ≡ entire_at k
         go k true = g (past is_space (drop k solid)) (trim (drop k (take n solid)))
         go k false = refl
 
-    counted_tail : (c : Option ℕ) → count_of (trim (drop (suc n) solid)) ≡ c → TailOf t (number_tail solid n c)
-    unfolding number_tail tail_escape split
+    counted_tail : (c : Option ℕ) → count_of (trim (drop (suc n) solid)) ≡ c → TailOf t (record { end = length solid; repeat = counted solid n c })
+    unfolding counted tail_escape split
     counted_tail (Some zero) f = uncounted_tail f (λ entire part. refl)
     counted_tail None f = uncounted_tail f (λ entire part. refl)
     counted_tail (Some (suc c)) f =
         record {
           end_within = within refl;
-          name_within_lem = omega (arith, end_le is_space (take n solid), length-take n solid, within refl);
+          name_within = λ r q. named_within r q;
           gives = λ k. escape_end k ∙ ap counted_escape (named_by f k) ∙ go k (ltb k (suc n));
         }
       where
+        named_within : (r : Repeat) → Some (record { from = suc n; name = length (past_end is_space (take n solid)); count = suc c }) ≡ Some r → r.name ≤ length t
+        named_within r q =
+            let z : length (past_end is_space (take n solid)) ≡ r.name = cc in
+            omega (arith, end_le is_space (take n solid), length-take n solid, within refl)
+
         go : (k : ℕ) (b : Bool)
             → counted_escape (elim b [ true ↦ record { name = trim (drop k (take n solid)); count = suc c } | false ↦ entire_at k ])
             ≡ elim b [
@@ -259,66 +267,77 @@ module _ (t : List ℕ) where
             (trim_drop k (take n solid) ∙ ap (λ (l : List ℕ). past is_space (drop k l)) (sym (before_star (last_within (equals 42) solid e))))
         go k false = ap (λ (l : List ℕ). name_escape (past is_space (drop k l)) 1) (sym (end_take is_space t))
 
+  repeated_tail : (f : Option ℕ) → last (equals 42) solid ≡ f
+      → TailOf t (record { end = length solid; repeat = elim f [ Some n ↦ counted solid n (count_of (trim (drop (suc n) solid))) | None ↦ None ] })
+  repeated_tail (Some n) e = counted_tail e (count_of (trim (drop (suc n) solid))) refl
+  repeated_tail None e = whole_tail (λ k. named_none k (rw e tt))
+
 -- ---- as the code asks
 
-module _ (t : List ℕ) {end : ℕ} where
-  pub solid_taken : end ≡ length (past_end is_space t) → end ≡ length (take end t)
-  solid_taken q = sym (length-take-le end t (within t q))
+module _ (t : List ℕ) {end : ℕ} (q : end ≡ length (past_end is_space t)) where
+  pub solid_taken : end ≡ length (take end t)
+  solid_taken = sym (length-take-le end t (within t q))
 
-  pub tail_countless : {w : Tail} {b : Bool} → w ≡ whole_tail end → not b ≡ true → b ≡ countable (take end t) → end ≡ length (past_end is_space t) → TailOf t w
-  unfolding named split
-  tail_countless {b = b} g n p q = rw g (whole_tail_lem t q (λ k. go k (last (equals 42) (drop k (past_end is_space t)))))
+  pub tail_told : {r : Option Repeat} → r ≡ repeat_of (take end t) → TailOf t (record { end = end; repeat = r })
+  unfolding repeat_of
+  tail_told e =
+      let r : repeat_of (take end t) ≡ repeat_of (past_end is_space t) = ap repeat_of (is_solid t q) in
+      rw (e, r, q) (repeated_tail t (last (equals 42) (past_end is_space t)) refl)
+
+module _ (t : List ℕ) where
+  pub repeat_countless : {b : Bool} → not b ≡ true → b ≡ countable t → None ≡ repeat_of t
+  unfolding repeat_of counted
+  repeat_countless {b} n p = go (last (equals 42) t)
     where
-      none : countable (past_end is_space t) ≡ false
-      none = ap countable (sym (is_solid t q)) ∙ sym p ∙ not-true b n
+      go : (f : Option ℕ) → ◌≡◌ {A = Option Repeat} None (elim f [ Some m ↦ counted t m (count_of (trim (drop (suc m) t))) | None ↦ None ])
+      go (Some m) = rw (uncounted t (sym p ∙ not-true b n) (suc m))
+      go None = refl
 
-      go : (k : ℕ) (f : Option ℕ) → named (drop k (past_end is_space t)) f ≡ record { name = past is_space (drop k (past_end is_space t)); count = 1 }
-      go k (Some m) = rw (drop-drop (suc m) k (past_end is_space t), uncounted (past_end is_space t) none (k + suc m))
-      go k None = refl
+  pub repeat_starless : {r : Option Repeat} → r ≡ None → None ≡ last (equals 42) t → r ≡ repeat_of t
+  unfolding repeat_of
+  repeat_starless q l = q ∙ rw (repeat_of, sym l)
 
-  module _ {w : Tail} {f : (Option ℕ)} where
-    pub tail_unstarred : w ≡ whole_tail end → f ≡ None → f ≡ last (equals 42) (take end t) → end ≡ length (past_end is_space t) → TailOf t w
-    tail_unstarred g e l q =
-        let none : last (equals 42) (past_end is_space t) ≡ None = ap (last (equals 42)) (sym (is_solid t q)) ∙ sym l ∙ e in
-        rw g (whole_tail_lem t q (λ k. named_none t k (rw none tt)))
+  module _ {n : ℕ} (l : Some n ≡ last (equals 42) t) {c : Option ℕ} {a : List ℕ} (k : c ≡ count_of a) (b : a ≡ trim (take (length t - (n + 1)) (drop (n + 1) t))) where
+    behind : counted t n c ≡ repeat_of t
+    unfolding repeat_of
+    behind =
+        let g : c ≡ count_of (trim (drop (suc n) t)) = k ∙ ap count_of (b ∙ ap trim (tail t (n + 1) ∙ rw add-one)) in
+        rw (repeat_of, sym l) (ap (counted t n) g)
 
-    pub tail_starred : {n : ℕ} → w ≡ starred_tail (take end t) n → f ≡ Some n → f ≡ last (equals 42) (take end t) → end ≡ length (past_end is_space t) → TailOf t w
-    unfolding starred_tail
-    tail_starred {n} g e l q =
-        let star : last (equals 42) (past_end is_space t) ≡ Some n = ap (last (equals 42)) (sym (is_solid t q)) ∙ sym l ∙ e in
-        rw (g, is_solid t q) (counted_tail t star (count_of (trim (drop (suc n) (past_end is_space t)))) refl)
+  module _ {n : ℕ} (l : Some n ≡ last (equals 42) t) {a : List ℕ} (b : a ≡ trim (take (length t - (n + 1)) (drop (n + 1) t))) where
+    pub repeat_missing : {r : Option Repeat} → r ≡ None → None ≡ count_of a → r ≡ repeat_of t
+    unfolding counted
+    repeat_missing q k = q ∙ behind l {c = None} k b
 
-module _ (t : List ℕ) (n : ℕ) {c : (Option ℕ)} {a : List ℕ} where
-  number_behind : c ≡ count_of a → a ≡ trim (take (length t - (n + 1)) (drop (n + 1) t)) → c ≡ count_of (trim (drop (suc n) t))
-  number_behind k b = k ∙ ap count_of (b ∙ ap trim (tail t (n + 1) ∙ rw add-one))
+    pub repeat_zero : {m : ℕ} → m ≡ 0 → Some m ≡ count_of a → None ≡ repeat_of t
+    unfolding counted
+    repeat_zero {m} z k = ap (counted t n) (sym (ap Some z)) ∙ behind l {c = Some m} k b
 
-  pub starred_counted : {m i : ℕ} → i ≡ length (past_end is_space (take n t)) → (m ≡ 0 → ⊥) → c ≡ Some m → c ≡ count_of a → a ≡ trim (take (length t - (n + 1)) (drop (n + 1) t))
-      → ◌≡◌ {A = Tail} (record { end = length t; star = n + 1; name = i; count = m }) (starred_tail t n)
-  unfolding starred_tail number_tail
-  starred_counted {m} {i} q z e k b = go m z ∙ ap (number_tail t n) (sym e ∙ number_behind k b)
-    where
-      go : (m : ℕ) → (m ≡ 0 → ⊥) → ◌≡◌ {A = Tail} (record { end = length t; star = n + 1; name = i; count = m }) (number_tail t n (Some m))
-      go zero z = absurd (z refl)
-      go (suc m) z = rw (q, add-one)
-
-  module _ {w : Tail} where
-    pub starred_zero : {m : ℕ} → w ≡ whole_tail (length t) → m ≡ 0 → c ≡ Some m → c ≡ count_of a → a ≡ trim (take (length t - (n + 1)) (drop (n + 1) t)) → w ≡ starred_tail t n
-    unfolding starred_tail number_tail
-    starred_zero g z e k b = g ∙ ap (number_tail t n) (sym (e ∙ ap Some z) ∙ number_behind k b)
-
-    pub starred_missing : w ≡ whole_tail (length t) → c ≡ None → c ≡ count_of a → a ≡ trim (take (length t - (n + 1)) (drop (n + 1) t)) → w ≡ starred_tail t n
-    unfolding starred_tail number_tail
-    starred_missing g e k b = g ∙ ap (number_tail t n) (sym e ∙ number_behind k b)
+    pub repeat_told : {m i : ℕ} → i ≡ length (past_end is_space (take n t)) → (m ≡ 0 → ⊥) → Some m ≡ count_of a
+        → ◌≡◌ {A = Option Repeat} (Some (record { from = n + 1; name = i; count = m })) (repeat_of t)
+    unfolding counted
+    repeat_told {m} {i} q z k = go m z ∙ behind l {c = Some m} k b
+      where
+        go : (m : ℕ) → (m ≡ 0 → ⊥) → ◌≡◌ {A = Option Repeat} (Some (record { from = n + 1; name = i; count = m })) (counted t n (Some m))
+        go zero z = absurd (z refl)
+        go (suc m) z = rw (q, add-one)
 
 -- an end by its tail
 module _ (t : List ℕ) {w : Tail} (k : ℕ) {name : List ℕ} {r : Option Escape} where
-  pub end_counted : r ≡ name_escape name w.count → name ≡ past is_space (drop k (take w.name t)) → k < w.star → TailOf t w → r ≡ escape_of (drop k t)
+  pub end_counted : {p : Repeat} → r ≡ name_escape name p.count → name ≡ past is_space (drop k (take p.name t)) → k < p.from → w.repeat ≡ Some p → TailOf t w → r ≡ escape_of (drop k t)
   unfolding tail_escape
-  end_counted g q h f = g ∙ sym (f.gives k ∙ rw (tail_escape, lt-ltb k w.star h, sym q))
+  end_counted {p} g q h e f = g ∙ sym (f.gives k ∙ rw (e, tail_escape, lt-ltb k p.from h, sym q))
 
-  pub end_whole : r ≡ name_escape name 1 → name ≡ past is_space (drop k (take w.end t)) → w.star ≤ k → TailOf t w → r ≡ escape_of (drop k t)
+  pub end_late : {p : Repeat} → r ≡ name_escape name 1 → name ≡ past is_space (drop k (take w.end t)) → p.from ≤ k → w.repeat ≡ Some p → TailOf t w → r ≡ escape_of (drop k t)
   unfolding tail_escape
-  end_whole g q h f = g ∙ sym (f.gives k ∙ rw (tail_escape, le-ltb k w.star h, sym q))
+  end_late {p} g q h e f = g ∙ sym (f.gives k ∙ rw (e, tail_escape, le-ltb k p.from h, sym q))
+
+  pub end_whole : r ≡ name_escape name 1 → name ≡ past is_space (drop k (take w.end t)) → w.repeat ≡ None → TailOf t w → r ≡ escape_of (drop k t)
+  unfolding tail_escape
+  end_whole g q e f = g ∙ sym (f.gives k ∙ rw (e, sym q))
+
+pub name_fits : {t : List ℕ} {w : Tail} {p : Repeat} → w.repeat ≡ Some p → TailOf t w → p.name ≤ length t
+name_fits {p = p} e f = f.name_within p e
 
 -- a part without the white space in front
 module _ (t : List ℕ) (from to : ℕ) where

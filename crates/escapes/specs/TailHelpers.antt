@@ -3,39 +3,38 @@
 -- Assumes nothing.
 use Rattle.std.specs.Prelude.{ℕ, zero, suc, ◌≤◌, ◌≡◌, true, false, List, ltb, length, take, drop}
 use Rattle.base_ascii.specs.Bytes.{is_space}
-use Rattle.base_ascii.specs.Search.{past, past_end}
+use Rattle.base_ascii.specs.Search.{equals, past, last, past_end}
 use Rattle.base_ascii.specs.Trim.{trim}
 use Rattle.escape_bytes.specs.Escape.{escape_of, name_escape}
 use Rattle.escape_numbers.specs.Numbers.{count_of}
 use Rattle.escape_bytes.specs.declared.Escape.{Escape}
+use Rattle.escapes.specs.declared.Repeat.{Repeat}
 use Rattle.escapes.specs.declared.Tail.{Tail}
 use Rattle.std.specs.Prelude.{Option, Some, None}
 
--- what a tail makes of a text from place k on: the name before the *, so often as its count says, where the * is in what is left; else
--- the whole is the name
-unfoldable pub tail_escape : List ℕ → Tail → ℕ → Option Escape
-tail_escape t w k =
-    elim (ltb k w.star) [
-      | true ↦ name_escape (past is_space (drop k (take w.name t))) w.count
-      | false ↦ name_escape (past is_space (drop k (take w.end t))) 1
+-- what a text is from place k on, where it ends at place end, and a count may stand there: the name before the *, so often as its count
+-- says, where the * is in what is left; else the whole is the name
+unfoldable pub tail_escape : List ℕ → ℕ → Option Repeat → ℕ → Option Escape
+tail_escape t end (Some r) k =
+    elim (ltb k r.from) [
+      | true ↦ name_escape (past is_space (drop k (take r.name t))) r.count
+      | false ↦ name_escape (past is_space (drop k (take end t))) 1
     ]
+tail_escape t end None k = name_escape (past is_space (drop k (take end t))) 1
 
 -- the tail of a text: what it makes of each end is the escape that document 01 gives it
 pub record TailOf (t : List ℕ) (w : Tail) : Type 0 where
   pub end_within : w.end ≤ length t
-  pub name_within_lem : w.name ≤ length t
-  pub gives : (k : ℕ) → escape_of (drop k t) ≡ tail_escape t w k
-
--- a text without a count
-abbrev pub whole_tail : ℕ → Tail
-whole_tail n = record { end = n; star = 0; name = 0; count = 0 }
+  pub name_within : (r : Repeat) → w.repeat ≡ Some r → r.name ≤ length t
+  pub gives : (k : ℕ) → escape_of (drop k t) ≡ tail_escape t w.end w.repeat k
 
 -- a text that ends in no white space, with a * at place n, and the number behind it
-unfoldable pub number_tail : List ℕ → ℕ → Option ℕ → Tail
-number_tail t n (Some zero) = whole_tail (length t)
-number_tail t n (Some (suc k)) = record { end = length t; star = suc n; name = length (past_end is_space (take n t)); count = suc k }
-number_tail t n None = whole_tail (length t)
+unfoldable pub counted : List ℕ → ℕ → Option ℕ → Option Repeat
+counted t n (Some zero) = None
+counted t n (Some (suc k)) = Some (record { from = suc n; name = length (past_end is_space (take n t)); count = suc k })
+counted t n None = None
 
-unfoldable pub starred_tail : List ℕ → ℕ → Tail
-unfolding number_tail
-starred_tail t n = number_tail t n (count_of (trim (drop (suc n) t)))
+-- the count at the end of such a text
+unfoldable pub repeat_of : List ℕ → Option Repeat
+unfolding counted
+repeat_of t = elim (last (equals 42) t) [ Some n ↦ counted t n (count_of (trim (drop (suc n) t))) | None ↦ None ]

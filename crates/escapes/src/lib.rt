@@ -1,16 +1,15 @@
 // What stands between braces in a string: a byte and how often it is repeated, or nothing known.
 #![tactic(auto)]
 
-ghost use Rattle.std.specs.Prelude.{◌≡◌, ◌≤◌, ◌<◌, length, take, drop};
+ghost use Rattle.std.specs.Prelude.{◌≡◌, ◌≤◌, length, take, drop};
 ghost use Rattle.base_ascii.specs.Bytes.{is_space};
 ghost use Rattle.base_ascii.specs.Search.{past};
 ghost use Rattle.escape_bytes.specs.Escape.{escape_of, name_escape};
-ghost use Rattle.escapes.specs.TailHelpers.{TailOf, whole_tail, starred_tail};
+ghost use Rattle.escapes.specs.TailHelpers.{TailOf, repeat_of};
 
 use base_ascii::search;
 use base_ascii::search::Kind;
 use escape_bytes::Escape;
-use word_search::Match;
 use word_tables::{Words, spellings};
 
 mod keys;
@@ -20,9 +19,16 @@ mod keys;
 pub struct Tail {
     // How many bytes are left without the white space at the end.
     pub end: usize,
-    // The place behind the `*` of a count; 0 where there is no count.
-    pub star: usize,
-    // How many bytes before that `*` are left without the white space in front of it.
+    // The count that stands there, if any.
+    pub repeat: Option<Repeat>,
+}
+
+// A count above 0, behind a `*`.
+#[derive(Clone, Copy)]
+pub struct Repeat {
+    // The place behind the `*`.
+    pub from: usize,
+    // How many bytes before the `*` are left without the white space in front of it.
     pub name: usize,
     pub count: u64,
 }
@@ -46,49 +52,31 @@ pub fn tail_of(inside: &[u8]) -> Tail
     ensures { TailOf inside.now result }
 {
     let end = base_ascii::solid_length(inside);
-    let text = &inside[..end];
-    // A count ends in a digit: most escapes have none, and no `*` is looked for.
-    if !escape_numbers::may_end_in_count(text) {
-        return whole(end);
-    }
-    match search::last(text, Kind::Is(b'*')) {
-        Some(star) => starred_tail(text, star),
-        None => whole(end),
-    }
-}
-
-// The tail of a text without a count.
-fn whole(end: usize) -> Tail
-    ensures { result ≡ whole_tail end }
-{
     Tail {
         end,
-        star: 0,
-        name: 0,
-        count: 0,
+        repeat: repeat_of(&inside[..end]),
     }
 }
 
-// The tail of a text that ends in no white space, and whose last `*` stands at a place.
-fn starred_tail(text: &[u8], star: usize) -> Tail
-    requires { star < length text.now }
-    ensures { result ≡ starred_tail text.now star }
+// The count at the end of a text that ends in no white space.
+fn repeat_of(text: &[u8]) -> Option<Repeat>
+    ensures { result ≡ repeat_of text.now }
 {
-    let from = star + 1;
-    match escape_numbers::count_of(base_ascii::trim(&text[from..])) {
-        Some(count) => {
-            if count == 0 {
-                return whole(text.len());
-            }
-            Tail {
-                end: text.len(),
-                star: from,
-                name: base_ascii::solid_length(&text[..star]),
-                count,
-            }
-        }
-        None => whole(text.len()),
+    // A count ends in a digit: most escapes have none, and no `*` is looked for.
+    if !escape_numbers::may_end_in_count(text) {
+        return None;
     }
+    let star = search::last(text, Kind::Is(b'*'))?;
+    let from = star + 1;
+    let count = escape_numbers::count_of(base_ascii::trim(&text[from..]))?;
+    if count == 0 {
+        return None;
+    }
+    Some(Repeat {
+        from,
+        name: base_ascii::solid_length(&text[..star]),
+        count,
+    })
 }
 
 // The escape that a text is from a place on, by the text's tail.
@@ -96,10 +84,12 @@ pub fn escape_from(inside: &[u8], at: usize, tail: Tail, words: Words) -> Option
     requires { TailOf inside.now tail }
     ensures { result ≡ escape_of (drop at inside.now) }
 {
-    if at < tail.star {
-        return resolve_name(part(inside, at, tail.name), tail.count, words);
+    match tail.repeat {
+        Some(repeat) if at < repeat.from => {
+            resolve_name(part(inside, at, repeat.name), repeat.count, words)
+        }
+        _ => resolve_name(part(inside, at, tail.end), 1, words),
     }
-    resolve_name(part(inside, at, tail.end), 1, words)
 }
 
 // A text from one place up to another, without the white space in front.
@@ -119,27 +109,26 @@ fn part(text: &[u8], from: usize, to: usize) -> &[u8]
 fn resolve_name(name: &[u8], count: u64, words: Words) -> Option<Escape>
     ensures { result ≡ name_escape name.now count }
 {
-    if name.len() == 0 {
+    if name.is_empty() {
         return None;
     }
-    match escape_numbers::number_in(name, 10, 255) {
-        Some(v) => Some(Escape {
-            byte: v as u8,
+    if let Some(code) = escape_numbers::number_in(name, 10, 255) {
+        return Some(Escape {
+            byte: code as u8,
             count,
-        }),
-        None => match escape_numbers::hex_number(name) {
-            Some(v) => Some(Escape {
-                byte: v as u8,
-                count,
-            }),
-            None => match word_match::match_escape(name, words) {
-                Some(Match {
-                    index: _,
-                    used: _,
-                    token,
-                }) => Some(Escape { byte: token, count }),
-                None => keys::key_escape(name, count),
-            },
-        },
+        });
     }
+    if let Some(code) = escape_numbers::hex_number(name) {
+        return Some(Escape {
+            byte: code as u8,
+            count,
+        });
+    }
+    if let Some(found) = word_match::match_escape(name, words) {
+        return Some(Escape {
+            byte: found.token,
+            count,
+        });
+    }
+    keys::key_escape(name, count)
 }

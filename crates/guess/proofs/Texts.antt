@@ -8,7 +8,7 @@ use native.Mathlib.Omega.{arith}
 use lib.ListN.{length, take, drop}
 use Rattle.base_refusals.specs.Answer.{done, refused, numbered, answered}
 use Rattle.base_refusals.specs.declared.Refusal.{Refusal}
-use Rattle.word_dialects.specs.Dialects.{is_basic35}
+use Rattle.word_match.specs.declared.sets.Sets.{Sets}
 use Rattle.word_dialects.specs.declared.Dialect.{Dialect}
 use Rattle.word_dialects.specs.declared.Dialect.TheVariants.{Auto, BasicV2, Tsb, Basic35}
 use Rattle.text_domain.specs.Domain.{checked_text}
@@ -96,17 +96,12 @@ module _ {d : Dialect} (t : List ℕ) where
     unfolding guessed_dialect
     auto_v2 e p a = rw a (sym (left _ _ (sym p ∙ e)))
 
-  pub as_v2 : d ≡ BasicV2 → BasicV2 ≡ guessed_dialect d t
-  unfolding guessed_dialect
-  as_v2 e = rw e
-
-  pub as_tsb : d ≡ Tsb → Tsb ≡ guessed_dialect d t
-  unfolding guessed_dialect
-  as_tsb e = rw e
-
-  pub as_basic35 : d ≡ Basic35 → Basic35 ≡ guessed_dialect d t
-  unfolding guessed_dialect
-  as_basic35 e = rw e
+pub as_given : (d : Dialect) (t : List ℕ) → (d ≡ Auto → ⊥) → d ≡ guessed_dialect d t
+unfolding guessed_dialect
+as_given Auto t n = absurd (n refl)
+as_given BasicV2 t n = refl
+as_given Tsb t n = refl
+as_given Basic35 t n = refl
 
 module _ (d : Dialect) (t : List ℕ) {c : (Result (Unit {0}) Refusal)} where
   pub resolved_fine : {r : Dialect} → r ≡ guessed_dialect d t → c ≡ (Ok tt) → answered c ≡ checked_text t → done r ≡ resolved d t
@@ -119,28 +114,32 @@ module _ (d : Dialect) (t : List ℕ) {c : (Result (Unit {0}) Refusal)} where
 
 -- ---- the words that are live, and those that are demoted
 
-module _ (t : List ℕ) {d : Dialect} {own : Bool} (o : own ≡ is_basic35 d) where
-  pub sets_v2 : d ≡ BasicV2 → record { tsb = false; demoted = none_demoted; basic35 = own; forms = false } ≡ word_sets d t
-  unfolding word_sets
-  sets_v2 e = rw (o, e)
+-- no word is live
+abbrev pub quiet_sets : Sets
+quiet_sets = record { tsb = false; demoted = none_demoted; basic35 = false; forms = false }
 
-  pub sets_tsb : d ≡ Tsb → record { tsb = true; demoted = none_demoted; basic35 = own; forms = false } ≡ word_sets d t
+module _ (t : List ℕ) {d : Dialect} where
+  pub sets_v2 : d ≡ BasicV2 → quiet_sets ≡ word_sets d t
   unfolding word_sets
-  sets_tsb e = rw (o, e)
+  sets_v2 e = rw e
 
-  pub sets_basic35 : d ≡ Basic35 → record { tsb = false; demoted = none_demoted; basic35 = own; forms = false } ≡ word_sets d t
+  pub sets_tsb : d ≡ Tsb → record { tsb = true; demoted = none_demoted; basic35 = false; forms = false } ≡ word_sets d t
   unfolding word_sets
-  sets_basic35 e = rw (o, e)
+  sets_tsb e = rw e
+
+  pub sets_basic35 : d ≡ Basic35 → record { tsb = false; demoted = none_demoted; basic35 = true; forms = false } ≡ word_sets d t
+  unfolding word_sets
+  sets_basic35 e = rw e
 
   module _ {x : Bool} where
-    pub sets_quiet : x ≡ false → x ≡ evidence AfterCr t → d ≡ Auto → record { tsb = false; demoted = none_demoted; basic35 = own; forms = false } ≡ word_sets d t
+    pub sets_quiet : x ≡ false → x ≡ evidence AfterCr t → d ≡ Auto → quiet_sets ≡ word_sets d t
     unfolding word_sets
-    sets_quiet f r e = rw (o, e) (sym (left _ _ (sym r ∙ f)))
+    sets_quiet f r e = rw e (sym (left _ _ (sym r ∙ f)))
 
     pub sets_guessed : {m : List Bool} → m ≡ all_names (text_lines AfterCr t) none_demoted → x ≡ true → x ≡ evidence AfterCr t → d ≡ Auto
-        → record { tsb = true; demoted = m; basic35 = own; forms = false } ≡ word_sets d t
+        → record { tsb = true; demoted = m; basic35 = false; forms = false } ≡ word_sets d t
     unfolding word_sets names
-    sets_guessed q f r e = rw (o, e) (ap (λ (s : List Bool). record { tsb = true; demoted = s; basic35 = false; forms = false }) q ∙ sym (taken _ _ (sym r ∙ f)))
+    sets_guessed q f r e = rw e (ap (λ (s : List Bool). record { tsb = true; demoted = s; basic35 = false; forms = false }) q ∙ sym (taken _ _ (sym r ∙ f)))
 
 -- ---- the lines of a text, one after the other
 

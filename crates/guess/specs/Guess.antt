@@ -2,7 +2,7 @@
 -- it", "No TSB word is live under it").
 -- Assumes nothing.
 use Rattle.std.specs.Prelude.{ℕ, Bool, true, false, List, [], ◌∷◌, replicate}
-use Rattle.base_refusals.specs.Answer.{Answer, done, refused, numbered, and_then}
+use Rattle.base_refusals.specs.Answer.{Answer, done, and_then}
 use Rattle.word_dialects.specs.declared.Dialect.{Dialect}
 use Rattle.word_dialects.specs.declared.Dialect.TheVariants.{Auto, BasicV2, Tsb, Basic35}
 use Rattle.word_match.specs.declared.sets.Sets.{Sets}
@@ -12,8 +12,6 @@ use Rattle.text_lines.specs.declared.LineRule.{LineRule}
 use Rattle.text_lines.specs.declared.LineRule.TheVariants.{AsGiven, AfterCr}
 use Rattle.guess_evidence.specs.Evidence.{line_evidence}
 use Rattle.guess_variables.specs.Variables.{line_names}
-use Rattle.std.specs.Prelude.{Result, Ok, Err}
-use Rattle.base_refusals.specs.declared.Refusal.{Refusal}
 
 -- ---- over the lines of a text
 

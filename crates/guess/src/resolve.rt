@@ -48,19 +48,13 @@ fn guessed(text: &[u8], dialect: Dialect) -> Dialect
 {
     match dialect {
         Dialect::Auto => {
-            if text_evidence(
-                text,
-                LineRule::AsGiven,
-                spellings::stored_words(),
-            ) {
+            if text_evidence(text, LineRule::AsGiven, spellings::stored_words()) {
                 Dialect::Tsb
             } else {
                 Dialect::BasicV2
             }
         }
-        Dialect::BasicV2 => Dialect::BasicV2,
-        Dialect::Tsb => Dialect::Tsb,
-        Dialect::Basic35 => Dialect::Basic35,
+        _ => dialect,
     }
 }
 
@@ -68,10 +62,8 @@ fn guessed(text: &[u8], dialect: Dialect) -> Dialect
 pub fn resolved_dialect(text: &[u8], dialect: Dialect) -> Result<Dialect, Refusal>
     ensures { answered result ≡ resolved dialect text.now }
 {
-    match text_domain::check_text(text) {
-        Ok(()) => Ok(guessed(text, dialect)),
-        Err(refusal) => Err(refusal),
-    }
+    text_domain::check_text(text)?;
+    Ok(guessed(text, dialect))
 }
 
 // The TSB words that are live when a text is crunched, those that are demoted, and whether the words of BASIC 3.5 are looked for. The guess
@@ -79,42 +71,29 @@ pub fn resolved_dialect(text: &[u8], dialect: Dialect) -> Result<Dialect, Refusa
 pub fn word_sets(text: &[u8], dialect: Dialect, words: Words) -> Sets
     ensures { result ≡ word_sets dialect text.now }
 {
-    let basic35 = word_dialects::is_basic35(dialect);
-    let mut demoted = [false; 123];
+    let quiet = Sets {
+        tsb: false,
+        demoted: [false; 123],
+        basic35: false,
+        forms: false,
+    };
     match dialect {
-        Dialect::BasicV2 => Sets {
-            tsb: false,
-            demoted,
-            basic35,
-            forms: false,
-        },
-        Dialect::Tsb => Sets {
-            tsb: true,
-            demoted,
-            basic35,
-            forms: false,
-        },
+        Dialect::BasicV2 => quiet,
+        Dialect::Tsb => Sets { tsb: true, ..quiet },
         Dialect::Basic35 => Sets {
-            tsb: false,
-            demoted,
-            basic35,
-            forms: false,
+            basic35: true,
+            ..quiet
         },
         Dialect::Auto => {
-            if text_evidence(text, LineRule::AfterCr, words) {
-                text_names(text, LineRule::AfterCr, words, &mut demoted);
-                return Sets {
-                    tsb: true,
-                    demoted,
-                    basic35,
-                    forms: false,
-                };
+            if !text_evidence(text, LineRule::AfterCr, words) {
+                return quiet;
             }
+            let mut demoted = quiet.demoted;
+            text_names(text, LineRule::AfterCr, words, &mut demoted);
             Sets {
-                tsb: false,
+                tsb: true,
                 demoted,
-                basic35,
-                forms: false,
+                ..quiet
             }
         }
     }

@@ -20,7 +20,6 @@ use Rattle.base_ascii.proofs.Searching.{tail, front_le, front_more}
 use Rattle.word_search.specs.Compare.{begins}
 use Rattle.word_search.specs.Find.{word_in}
 use Rattle.word_search.specs.declared.Match.{Match}
-use Rattle.word_search.specs.declared.Match.TheVariants.{Word, Nothing}
 use Rattle.word_search.specs.Spelling.{bytes_of}
 use Rattle.word_tables.specs.Tsb.{tsb_words}
 use Rattle.text_lines.proofs.Blanks.{blank_white}
@@ -33,24 +32,24 @@ use Rattle.guess_places.specs.declared.place.Place.{Place}
 use Rattle.guess_places.specs.declared.place.Place.TheVariants.{Start, Within, Quoted, Data}
 use Rattle.guess_evidence.specs.declared.EvidenceStep.{EvidenceStep}
 use Rattle.guess_evidence.specs.declared.EvidenceStep.TheVariants.{Proved, Remark, On}
-use Rattle.guess_evidence.specs.declared.DecidingWord.TheVariants.{Decides, NoneDecides}
+use Rattle.guess_evidence.specs.declared.DecidingWord.{DecidingWord}
 use Rattle.guess_uses.proofs.Behind.{rest, rest_long}
 use Rattle.guess_places.proofs.Places.{Same, stretch}
 use Rattle.guess_places.proofs.Words.{begins_long, word_bounds, no_letter, not_rem, not_data, letter_high, letter_not_white}
-use Rattle.std.specs.Prelude.{Option, Some, None}
+use Rattle.std.specs.Prelude.{Option, Some, None, is_some}
 
 -- ---- what a word proves
 
 module _ (place : Place) (t : List ℕ) {m : Option Match} where
-  pub word_proves_lem : {index used token : ℕ} {s y : Bool} → y ≡ proves s t used → s ≡ is_start place → m ≡ Word index used token → m ≡ word_in tsb_words t → y ≡ word_proves place t
+  pub word_proves_lem : {n : Match} {s y : Bool} → y ≡ proves s t n.used → s ≡ is_start place → m ≡ Some n → m ≡ word_in tsb_words t → y ≡ word_proves place t
   unfolding word_proves
-  word_proves_lem {index} {used} {token} r q e p = r ∙ ap (λ (b : Bool). proves b t used) q ∙ rw (sym p ∙ e)
+  word_proves_lem {n} r q e p = r ∙ ap (λ (b : Bool). proves b t n.used) q ∙ rw (sym p ∙ e)
 
-  pub no_word_proves : m ≡ Nothing → m ≡ word_in tsb_words t → false ≡ word_proves place t
+  pub no_word_proves : m ≡ None → m ≡ word_in tsb_words t → false ≡ word_proves place t
   unfolding word_proves
   no_word_proves e p = rw (sym p ∙ e)
 
-pub word_within : (t : List ℕ) {m : Option Match} {index used token : ℕ} → m ≡ Word index used token → m ≡ word_in tsb_words t → used ≤ length t
+pub word_within : (t : List ℕ) {m : Option Match} {n : Match} → m ≡ Some n → m ≡ word_in tsb_words t → n.used ≤ length t
 word_within t e p = (word_bounds t (sym p ∙ e)).within
 
 -- ---- a step on through a statement
@@ -319,24 +318,20 @@ module _ (line : List ℕ) (place : Place) (i : ℕ) {s : EvidenceStep} {used : 
 
 -- ---- a word decides exactly where there is evidence, and stands within the line
 
-abbrev is_at : Option ℕ → Bool
-is_at (Some i) = true
-is_at None = false
-
-same_walk : (k i : ℕ) (place : Place) (t : List ℕ) → is_at (again None deciding_on k (i, place, t)) ≡ again false evidence_on k (place, t)
+same_walk : (k i : ℕ) (place : Place) (t : List ℕ) → is_some (again None deciding_on k (i, place, t)) ≡ again false evidence_on k (place, t)
 unfolding again deciding_on evidence_on
 same_walk zero i place t = refl
 same_walk (suc k) i place [] = refl
 same_walk (suc k) i place (b ∷ s) = go (evidence_step place (b ∷ s)) (λ j next u. same_walk k j next u)
   where
-    go : (x : EvidenceStep) → ((j : ℕ) (next : Place) (u : List ℕ) → is_at (again None deciding_on k (j, next, u)) ≡ again false evidence_on k (next, u))
-        → is_at (elim x [ Proved ↦ Some i | Remark ↦ None | On used next ↦ again None deciding_on k (i + used, next, drop used (b ∷ s)) ])
+    go : (x : EvidenceStep) → ((j : ℕ) (next : Place) (u : List ℕ) → is_some (again None deciding_on k (j, next, u)) ≡ again false evidence_on k (next, u))
+        → is_some (elim x [ Proved ↦ Some i | Remark ↦ None | On used next ↦ again None deciding_on k (i + used, next, drop used (b ∷ s)) ])
         ≡ elim x [ Proved ↦ true | Remark ↦ false | On used next ↦ again false evidence_on k (next, drop used (b ∷ s)) ]
     go Proved f = refl
     go Remark f = refl
     go (On used next) f = f (i + used) next (drop used (b ∷ s))
 
-place_by_evidence : (l : List ℕ) → is_at (deciding_place l) ≡ line_evidence l
+place_by_evidence : (l : List ℕ) → is_some (deciding_place l) ≡ line_evidence l
 unfolding deciding_place deciding_from line_evidence evidence_from
 place_by_evidence l = same_walk (suc (length (drop (number_length l) l))) (number_length l) Start (drop (number_length l) l)
 
@@ -344,7 +339,7 @@ pub word_by_evidence : (l : List ℕ) → decides (deciding_word l) ≡ line_evi
 unfolding deciding_word decides
 word_by_evidence l = go (deciding_place l) ∙ place_by_evidence l
   where
-    go : (f : Option ℕ) → decides (elim f [ Some i ↦ Decides i (list_place (drop i l)) | None ↦ NoneDecides ]) ≡ is_at f
+    go : (f : Option ℕ) → decides (elim f [ Some i ↦ Some (record { offset = i; word = list_place (drop i l) }) | None ↦ None ]) ≡ is_some f
     go (Some i) = refl
     go None = refl
 
@@ -362,31 +357,28 @@ walk_within (suc k) i place (b ∷ s) {j} e = go (evidence_step place (b ∷ s))
     go (On used next) d f q = omega (arith, f (i + used) next (drop used (b ∷ s)) q, length-drop used (b ∷ s), d.1)
 
 module _ (l : List ℕ) {f : (Option ℕ)} where
-  pub evidence_somewhere : {i : ℕ} → f ≡ Some i → f ≡ deciding_place l → true ≡ line_evidence l
-  evidence_somewhere e q = sym (ap is_at (sym q ∙ e)) ∙ place_by_evidence l
-
-  pub evidence_nowhere : f ≡ None → f ≡ deciding_place l → false ≡ line_evidence l
-  evidence_nowhere e q = sym (ap is_at (sym q ∙ e)) ∙ place_by_evidence l
+  pub evidence_told : {x : Bool} → x ≡ is_some f → f ≡ deciding_place l → x ≡ line_evidence l
+  evidence_told e q = e ∙ ap is_some q ∙ place_by_evidence l
 
   pub place_within : {i : ℕ} → f ≡ Some i → f ≡ deciding_place l → i ≤ length l
   unfolding deciding_place deciding_from
   place_within e q =
       omega (arith, walk_within (suc (length (drop (number_length l) l))) (number_length l) Start (drop (number_length l) l) (sym q ∙ e), length-drop (number_length l) l, number_le l)
 
-  pub word_told : {i n : ℕ} → n ≡ list_place (rest l i) → f ≡ Some i → f ≡ deciding_place l → Decides i n ≡ deciding_word l
+  pub word_told : {i n : ℕ} → n ≡ list_place (rest l i) → f ≡ Some i → f ≡ deciding_place l → ◌≡◌ {A = Option DecidingWord} (Some (record { offset = i; word = n })) (deciding_word l)
   unfolding deciding_word
-  word_told {i} p e q = rw (deciding_word, sym q ∙ e) (ap (Decides i) (p ∙ ap list_place (tail l i)))
+  word_told {i} p e q = rw (deciding_word, sym q ∙ e) (ap (λ (k : ℕ). Some (record { offset = i; word = k })) (p ∙ ap list_place (tail l i)))
 
-  pub no_word_told : f ≡ None → f ≡ deciding_place l → NoneDecides ≡ deciding_word l
+  pub no_word_told : f ≡ None → f ≡ deciding_place l → None ≡ deciding_word l
   unfolding deciding_word
   no_word_told e q = rw (deciding_word, sym q ∙ e)
 
 module _ (t : List ℕ) {m : Option Match} where
-  pub place_listed : {index used token : ℕ} → m ≡ Word index used token → m ≡ word_in tsb_words t → index ≡ list_place t
+  pub place_listed : {n : Match} → m ≡ Some n → m ≡ word_in tsb_words t → n.index ≡ list_place t
   unfolding list_place
   place_listed e q = rw (sym q ∙ e)
 
-  pub place_none : m ≡ Nothing → m ≡ word_in tsb_words t → 0 ≡ list_place t
+  pub place_none : m ≡ None → m ≡ word_in tsb_words t → 0 ≡ list_place t
   unfolding list_place
   place_none e q = rw (sym q ∙ e)
 

@@ -17,8 +17,6 @@ use Rattle.guess_places.specs.declared.place.Place.TheVariants.{Start, Within, Q
 use Rattle.guess_evidence.specs.declared.EvidenceStep.{EvidenceStep}
 use Rattle.guess_evidence.specs.declared.EvidenceStep.TheVariants.{Proved, Remark, On}
 use Rattle.guess_evidence.specs.declared.DecidingWord.{DecidingWord}
-use Rattle.guess_evidence.specs.declared.DecidingWord.TheVariants.{Decides, NoneDecides}
-use Rattle.std.specs.Prelude.{Option, Some, None}
 
 -- a TSB word in front of a text proves it
 unfoldable pub word_proves : Place → List ℕ → Bool
@@ -101,11 +99,11 @@ unfoldable pub list_place : List ℕ → ℕ
 unfolding word_in tsb_words
 list_place t = elim (word_in tsb_words t) [ Some m ↦ m.index | None ↦ 0 ]
 
-unfoldable pub deciding_word : List ℕ → DecidingWord
+unfoldable pub deciding_word : List ℕ → Option DecidingWord
 unfolding deciding_place list_place
-deciding_word l = elim (deciding_place l) [ Some i ↦ Decides i (list_place (drop i l)) | None ↦ NoneDecides ]
+deciding_word l = elim (deciding_place l) [ Some i ↦ Some (record { offset = i; word = list_place (drop i l) }) | None ↦ None ]
 
 -- a word decides
-unfoldable pub decides : DecidingWord → Bool
-decides (Decides offset word) = true
-decides NoneDecides = false
+unfoldable pub decides : Option DecidingWord → Bool
+decides (Some word) = true
+decides None = false

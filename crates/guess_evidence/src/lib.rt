@@ -1,7 +1,7 @@
 // Whether a line uses a TSB word as a statement, as a function or as ELSE; and where.
 #![tactic(auto)]
 
-ghost use Rattle.std.specs.Prelude.{◌≡◌, ◌≤◌, ◌<◌, true, false, ◌&&◌, eqb, length, get_or};
+ghost use Rattle.std.specs.Prelude.{◌≡◌, ◌*◌, ◌≤◌, ◌<◌, true, false, ◌&&◌, eqb, length, get_or};
 ghost use Rattle.base_ascii.specs.Bytes.{is_letter};
 ghost use Rattle.base_ascii.specs.declared.search.Kind.TheVariants.{White};
 ghost use Rattle.guess_evidence.specs.Evidence.{word_proves, statement_step, evidence_step, number_length, line_evidence, list_place, deciding_place, deciding_word};
@@ -13,15 +13,13 @@ use base_ascii::search::Kind;
 use guess_places::place::Place;
 use guess_places::{beginnings, place};
 use guess_uses::{lists, proving};
-use word_search::Match;
 use word_tables::{Words, spellings};
 
-// The first word of a line that proves that a text is TSB.
+// The first word of a line that proves that a text is TSB: where it stands in the line, and its place in the TSB list.
 #[derive(Clone, Copy)]
-pub enum DecidingWord {
-    // Where it stands in the line, and its place in the TSB list.
-    Decides { offset: usize, word: usize },
-    NoneDecides,
+pub struct DecidingWord {
+    pub offset: usize,
+    pub word: usize,
 }
 
 #[derive(Clone, Copy)]
@@ -39,11 +37,7 @@ fn word_proves(place: Place, text: &[u8], marks: &[u8], words: Words) -> bool
     ensures { result ≡ word_proves place text.now }
 {
     match beginnings::tsb_word(text, words) {
-        Some(Match {
-            index: _,
-            used,
-            token: _,
-        }) => proving::proves(place::is_start(place), text, used, marks),
+        Some(found) => proving::proves(place::is_start(place), text, found.used, marks),
         None => false,
     }
 }
@@ -66,9 +60,10 @@ fn letter_step(place: Place, text: &[u8], marks: &[u8], words: Words) -> Evidenc
         return on(4, Place::Data);
     }
     if word_proves(place, text, marks, words) {
-        return EvidenceStep::Proved;
+        EvidenceStep::Proved
+    } else {
+        on(1, Place::Within)
     }
-    on(1, Place::Within)
 }
 
 // A step at another byte.
@@ -77,47 +72,38 @@ fn other_step(place: Place, text: &[u8]) -> EvidenceStep
     ensures { result ≡ statement_step place text.now }
 {
     let b = text[0];
-    if b == 0x22 {
-        return on(1, Place::Quoted);
+    if b == b'"' {
+        on(1, Place::Quoted)
+    } else if b == b':' {
+        on(1, Place::Start)
+    } else if search::is_kind(b, Kind::White) {
+        on(1, place)
+    } else {
+        on(1, Place::Within)
     }
-    if b == 0x3A {
-        return on(1, Place::Start);
-    }
-    if search::is_kind(b, Kind::White) {
-        return on(1, place);
-    }
-    on(1, Place::Within)
 }
 
 // A step outside strings and DATA.
-fn statement_step(
-    place: Place,
-    text: &[u8],
-    marks: &[u8],
-    words: Words,
-) -> EvidenceStep
+fn statement_step(place: Place, text: &[u8], marks: &[u8], words: Words) -> EvidenceStep
     requires { (0 < length text.now) × MarksOf White text.now marks.now }
     ensures { result ≡ statement_step place text.now }
 {
     if base_ascii::is_letter(text[0]) {
-        return letter_step(place, text, marks, words);
+        letter_step(place, text, marks, words)
+    } else {
+        other_step(place, text)
     }
-    other_step(place, text)
 }
 
-fn evidence_step(
-    place: Place,
-    text: &[u8],
-    marks: &[u8],
-    words: Words,
-) -> EvidenceStep
+fn evidence_step(place: Place, text: &[u8], marks: &[u8], words: Words) -> EvidenceStep
     requires { (0 < length text.now) × MarksOf White text.now marks.now }
     ensures { result ≡ evidence_step place text.now }
 {
     if place::is_plain(place) {
-        return statement_step(place, text, marks, words);
+        statement_step(place, text, marks, words)
+    } else {
+        on(1, place::aside(place, text[0]))
     }
-    on(1, place::aside(place, text[0]))
 }
 
 // Where the first statement of a line begins: behind white space and digits.
@@ -133,11 +119,7 @@ fn list_place(text: &[u8], words: Words) -> usize
     ensures { result ≡ list_place text.now }
 {
     match beginnings::tsb_word(text, words) {
-        Some(Match {
-            index: word,
-            used: _,
-            token: _,
-        }) => word,
+        Some(found) => found.index,
         None => 0,
     }
 }
@@ -146,10 +128,7 @@ fn list_place(text: &[u8], words: Words) -> usize
 fn is_gap(place: Place, b: u8) -> bool
     ensures { result ≡ (eqb b 0x20 && is_plain place) }
 {
-    if b != 0x20 {
-        return false;
-    }
-    place::is_plain(place)
+    b == b' ' && place::is_plain(place)
 }
 
 // A space is passed without a step, since no byte is more frequent.
@@ -164,12 +143,8 @@ fn marked_place(line: &[u8], marks: &[u8], words: Words) -> Option<usize>
             i += 1;
         } else {
             match evidence_step(place, &line[i..], marks, words) {
-                EvidenceStep::Proved => {
-                    return Some(i);
-                }
-                EvidenceStep::Remark => {
-                    return None;
-                }
+                EvidenceStep::Proved => return Some(i),
+                EvidenceStep::Remark => return None,
                 EvidenceStep::On { used, place: next } => {
                     let behind = i + used;
                     i = behind + place::stretch(next, &line[behind..]);
@@ -181,23 +156,14 @@ fn marked_place(line: &[u8], marks: &[u8], words: Words) -> Option<usize>
     None
 }
 
-fn long_place(line: &[u8], words: Words) -> Option<usize>
-    requires { (length line.now ≤ 16384) }
+// The same, with marks, which a line has room for that has at most eight bytes to each of so many.
+fn place_by_marks<const N: usize>(line: &[u8], words: Words) -> Option<usize>
+    requires { (length line.now ≤ 8 * N) × (N ≤ 131072) }
     ensures { result ≡ deciding_place line.now }
 {
-    let mut marks = [0u8; 2048];
-    let mut levels = [0u8; 2048];
-    lists::mark_long(line, Kind::White, &mut marks, &mut levels);
-    marked_place(line, &marks, words)
-}
-
-fn longest_place(line: &[u8], words: Words) -> Option<usize>
-    requires { (length line.now ≤ 1048576) }
-    ensures { result ≡ deciding_place line.now }
-{
-    let mut marks = [0u8; 131072];
-    let mut levels = [0u8; 131072];
-    lists::mark_longest(line, Kind::White, &mut marks, &mut levels);
+    let mut marks = [0u8; N];
+    let mut levels = [0u8; N];
+    lists::mark(line, Kind::White, &mut marks, &mut levels);
     marked_place(line, &marks, words)
 }
 
@@ -206,48 +172,28 @@ fn longest_place(line: &[u8], words: Words) -> Option<usize>
 fn deciding_place(line: &[u8], words: Words) -> Option<usize>
     ensures { result ≡ deciding_place line.now }
 {
-    let n = line.len();
-    // Of a line of blanks nothing is left.
-    if n == 0 {
-        return None;
+    match line.len() {
+        // Of a line of blanks nothing is left.
+        0 => None,
+        257..=16384 => place_by_marks::<2048>(line, words),
+        16385..=1048576 => place_by_marks::<131072>(line, words),
+        _ => marked_place(line, b"", words),
     }
-    if n > 256 {
-        if n <= 16384 {
-            return long_place(line, words);
-        }
-        if n <= 1048576 {
-            return longest_place(line, words);
-        }
-    }
-    marked_place(line, b"", words)
 }
 
 // Whether a line proves that a text is TSB.
 pub fn line_evidence(line: &[u8], words: Words) -> bool
     ensures { result ≡ line_evidence line.now }
 {
-    match deciding_place(line, words) {
-        Some(_) => true,
-        None => false,
-    }
+    deciding_place(line, words).is_some()
 }
 
-// The word that proves it, with the tables lent.
-fn word_with(line: &[u8], words: Words) -> DecidingWord
+// The first TSB word of a line that proves it.
+pub fn deciding_word(line: &[u8]) -> Option<DecidingWord>
     ensures { result ≡ deciding_word line.now }
 {
-    match deciding_place(line, words) {
-        Some(offset) => DecidingWord::Decides {
-            offset,
-            word: list_place(&line[offset..], words),
-        },
-        None => DecidingWord::NoneDecides,
-    }
-}
-
-// The first TSB word of a line that proves it: where it stands in the line, and its place in the list.
-pub fn deciding_word(line: &[u8]) -> DecidingWord
-    ensures { result ≡ deciding_word line.now }
-{
-    word_with(line, spellings::stored_words())
+    let words = spellings::stored_words();
+    let offset = deciding_place(line, words)?;
+    let word = list_place(&line[offset..], words);
+    Some(DecidingWord { offset, word })
 }

@@ -6,48 +6,84 @@ use mathlib.Core.Bool.{Bool, true, false, not, cond, ◌&&◌, false≢true}
 use mathlib.Core.List.{List, [], ◌∷◌}
 use native.Mathlib.Omega.{arith}
 use lib.Dec.{eqb}
+use Rattle.std.proofs.Common.{◌⊎◌, inl, inr}
 use lib.ListN.{length, get_or, drop, length-drop}
 use lib.Seq.{get_or-drop}
 use borrow.Author.Tests.{eq-eqb, ne_eqb}
 use mir.Syntax.{w64}
 use mir.Val.{Fits}
 use Rattle.base_ascii.specs.Search.{equals, front, before}
-use Rattle.base_ascii.proofs.Searching.{Onward, tail, front_le, front_turn, front_found}
-use Rattle.guess_places.specs.Places.{is_plain, aside}
+use Rattle.base_ascii.proofs.Searching.{tail, front_le}
+use Rattle.guess_places.specs.Places.{is_plain, is_start, aside}
 use Rattle.guess_places.specs.PlaceHelpers.{stays}
 use Rattle.guess_places.specs.declared.place.Place.{Place}
 use Rattle.guess_places.specs.declared.place.Place.TheVariants.{Start, Within, Quoted, Data, QuotedData}
 use Rattle.guess_uses.proofs.Behind.{rest, rest_long}
 
-module _ (b : ℕ) where
-  pub data_quote : b ≡ 0x22 → QuotedData ≡ aside Data b
+-- what a pair of a place and a byte gives, arm by arm
+module _ (b : ℕ) {place : Place} where
+  pub behind_quoted : place ≡ Quoted → b ≡ 0x22 → Within ≡ aside place b
   unfolding aside
-  data_quote e = simp (eq-eqb _ _ e)
+  behind_quoted p e = rw p (simp (eq-eqb _ _ e))
 
-  pub data_colon : (b ≡ 0x22 → ⊥) → b ≡ 0x3A → Start ≡ aside Data b
+  pub data_quote : place ≡ Data → b ≡ 0x22 → QuotedData ≡ aside place b
   unfolding aside
-  data_colon n e = simp (ne_eqb _ _ n, eq-eqb _ _ e)
+  data_quote p e = rw p (simp (eq-eqb _ _ e))
 
-  pub data_other : (b ≡ 0x22 → ⊥) → (b ≡ 0x3A → ⊥) → Data ≡ aside Data b
+  pub data_colon : place ≡ Data → b ≡ 0x3A → Start ≡ aside place b
   unfolding aside
-  data_other n m = simp (ne_eqb _ _ n, ne_eqb _ _ m)
+  data_colon p e = rw (p, e)
 
-  module _ {place : Place} where
-    pub behind_quoted : place ≡ Quoted → b ≡ 0x22 → Within ≡ aside place b
-    unfolding aside
-    behind_quoted p e = rw p (simp (eq-eqb _ _ e))
+  pub behind_quoted_data : place ≡ QuotedData → b ≡ 0x22 → Data ≡ aside place b
+  unfolding aside
+  behind_quoted_data p e = rw p (simp (eq-eqb _ _ e))
 
-    pub still_quoted : place ≡ Quoted → (b ≡ 0x22 → ⊥) → Quoted ≡ aside place b
-    unfolding aside
-    still_quoted p n = rw p (simp (ne_eqb _ _ n))
+  pub still_quoted : place ≡ Quoted → (b ≡ 0x22 → ⊥) → place ≡ aside place b
+  unfolding aside
+  still_quoted p n = rw p (simp (ne_eqb _ _ n))
 
-    pub behind_quoted_data : place ≡ QuotedData → b ≡ 0x22 → Data ≡ aside place b
-    unfolding aside
-    behind_quoted_data p e = rw p (simp (eq-eqb _ _ e))
+  pub still_data : place ≡ Data → (b ≡ 0x22 → ⊥) → (b ≡ 0x3A → ⊥) → place ≡ aside place b
+  unfolding aside
+  still_data p n m = rw p (simp (ne_eqb _ _ n, ne_eqb _ _ m))
 
-    pub still_quoted_data : place ≡ QuotedData → (b ≡ 0x22 → ⊥) → QuotedData ≡ aside place b
-    unfolding aside
-    still_quoted_data p n = rw p (simp (ne_eqb _ _ n))
+  pub still_quoted_data : place ≡ QuotedData → (b ≡ 0x22 → ⊥) → place ≡ aside place b
+  unfolding aside
+  still_quoted_data p n = rw p (simp (ne_eqb _ _ n))
+
+pub still_plain : (place : Place) (b : ℕ) → (place ≡ Quoted → ⊥) → (place ≡ Data → ⊥) → (place ≡ QuotedData → ⊥) → place ≡ aside place b
+unfolding aside
+still_plain Start b n m k = refl
+still_plain Within b n m k = refl
+still_plain Quoted b n m k = absurd (n refl)
+still_plain Data b n m k = absurd (m refl)
+still_plain QuotedData b n m k = absurd (k refl)
+
+-- ---- tests of a place
+
+pub plain_yes : (place : Place) → (place ≡ Start) ⊎ (place ≡ Within) → true ≡ is_plain place
+unfolding is_plain
+plain_yes place (inl e) = rw e
+plain_yes place (inr e) = rw e
+
+pub plain_no : (place : Place) → (place ≡ Start → ⊥) → (place ≡ Within → ⊥) → false ≡ is_plain place
+unfolding is_plain
+plain_no Start n m = absurd (n refl)
+plain_no Within n m = absurd (m refl)
+plain_no Quoted n m = refl
+plain_no Data n m = refl
+plain_no QuotedData n m = refl
+
+pub start_yes : (place : Place) → place ≡ Start → true ≡ is_start place
+unfolding is_start
+start_yes place e = rw e
+
+pub start_no : (place : Place) → (place ≡ Start → ⊥) → false ≡ is_start place
+unfolding is_start
+start_no Start n = absurd (n refl)
+start_no Within n = refl
+start_no Quoted n = refl
+start_no Data n = refl
+start_no QuotedData n = refl
 
 -- ---- stretches
 
@@ -107,25 +143,6 @@ module _ (line : List ℕ) (next : Place) (i used : ℕ) {n : ℕ} (p : n ≡ fr
   pub stretch : (P : ℕ → Type 0) → ((j : ℕ) → j < length line → Same next (get_or line j 0) → P j → P (j + 1)) → P (i + used) → P (i + used + n)
   stretch P f k = stretch_by P next line (i + used) f n (omega (arith, p ∙ ap (front (stays next)) (tail line (i + used)))) k
 
--- the loop over DATA
-module _ {s : List ℕ} {i : ℕ} where
-  pub data_turn : (get_or s i 0 ≡ 0x22 → ⊥) → (get_or s i 0 ≡ 0x3A → ⊥) → i < length s → Onward (front (stays Data)) s 0 i → Onward (front (stays Data)) s 0 (i + 1)
-  unfolding stays
-  data_turn n m h o =
-      let e : true ≡ stays Data (get_or s i 0) = simp (ne_eqb _ _ n, ne_eqb _ _ m) in
-      front_turn (stays Data) refl e h o
-
-  pub data_ended : {b : ℕ} → get_or s i 0 ≡ b → stays Data b ≡ false → i < length s → Onward (front (stays Data)) s 0 i → i ≡ front (stays Data) s
-  data_ended e n h o = front_found (stays Data) {r = false} refl (sym (ap (stays Data) e ∙ n)) h o
-
-  pub data_end_quote : get_or s i 0 ≡ 0x22 → i < length s → Onward (front (stays Data)) s 0 i → i ≡ front (stays Data) s
-  unfolding stays
-  data_end_quote e h o = data_ended e refl h o
-
-  pub data_end_colon : get_or s i 0 ≡ 0x3A → i < length s → Onward (front (stays Data)) s 0 i → i ≡ front (stays Data) s
-  unfolding stays
-  data_end_colon e h o = data_ended e refl h o
-
 -- each place
 module _ (place : Place) (t : List ℕ) where
   none_of : ((b : ℕ) → stays place b ≡ false) → 0 ≡ front (stays place) t
@@ -136,22 +153,16 @@ module _ (place : Place) (t : List ℕ) where
       go [] = refl
       go (b ∷ u) = rw (front, f b)
 
-  pub start_none : place ≡ Start → 0 ≡ front (stays place) t
+  pub plain_none : (place ≡ Start) ⊎ (place ≡ Within) → 0 ≡ front (stays place) t
   unfolding stays
-  start_none e = none_of (λ b. ap (λ (p : Place). stays p b) e)
-
-  pub within_none : place ≡ Within → 0 ≡ front (stays place) t
-  unfolding stays
-  within_none e = none_of (λ b. ap (λ (p : Place). stays p b) e)
+  plain_none (inl e) = none_of (λ b. ap (λ (p : Place). stays p b) e)
+  plain_none (inr e) = none_of (λ b. ap (λ (p : Place). stays p b) e)
 
   module _ {n : ℕ} where
-    pub quoted_stretch : n ≡ before (equals 0x22) t → place ≡ Quoted → n ≡ front (stays place) t
+    pub string_stretch : n ≡ before (equals 0x22) t → (place ≡ Quoted) ⊎ (place ≡ QuotedData) → n ≡ front (stays place) t
     unfolding stays before
-    quoted_stretch q e = q ∙ sym (ap (λ (p : Place). front (stays p) t) e)
-
-    pub quoted_data_stretch : n ≡ before (equals 0x22) t → place ≡ QuotedData → n ≡ front (stays place) t
-    unfolding stays before
-    quoted_data_stretch q e = q ∙ sym (ap (λ (p : Place). front (stays p) t) e)
+    string_stretch q (inl e) = q ∙ sym (ap (λ (p : Place). front (stays p) t) e)
+    string_stretch q (inr e) = q ∙ sym (ap (λ (p : Place). front (stays p) t) e)
 
     pub data_stretch : n ≡ front (stays Data) t → place ≡ Data → n ≡ front (stays place) t
     data_stretch q e = q ∙ sym (ap (λ (p : Place). front (stays p) t) e)

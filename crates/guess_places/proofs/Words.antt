@@ -3,19 +3,21 @@
 -- Assumes nothing.
 use Prim.Native.Nat.{ℕ, zero, suc, ◌-◌, ◌/◌, ◌%◌, ◌^◌, ◌≤◌, ◌<◌}
 use mathlib.Core.Path.{◌≡◌, refl, sym, ap, ◌∙◌}
-use mathlib.Core.Bool.{Bool, true, false, not, ◌&&◌, false≢true}
+use mathlib.Core.Bool.{Bool, true, false, ◌&&◌, false≢true}
 use mathlib.Core.List.{List, [], ◌∷◌}
 use native.Mathlib.Omega.{arith}
 use native.Mathlib.Nat.{not-suc-le-zero, le_of_suc-le-suc}
 use lib.Dec.{T, eqb, leb}
+use Rattle.std.proofs.Common.{◌⊎◌, inl, inr}
 use lib.ListN.{length, get_or}
-use borrow.Author.Tests.{eq-eqb, ne_eqb, leb-true, leb-false, lt-leb, le-leb, not-true}
+use borrow.Author.Tests.{eq-eqb, ne_eqb, leb-true, leb-false, lt-leb, le-leb}
 use Rattle.base_ascii.specs.Bytes.{is_letter, between, upper}
 use Rattle.base_ascii.specs.Search.{is_white}
 use Rattle.word_search.specs.Compare.{begins}
 use Rattle.word_search.specs.Find.{Entry, first_that, word_in}
 use Rattle.word_search.specs.Order.{word_at}
-use Rattle.word_search.specs.declared.Match.TheVariants.{Word, Nothing}
+use Rattle.word_search.specs.declared.Match.{Match}
+use Rattle.std.specs.Prelude.{Option, Some, None}
 use Rattle.word_search.proofs.Order.{found}
 use Rattle.word_search.proofs.Search.{and_left, and_right}
 use Rattle.word_search.proofs.Sameness.{T_true}
@@ -91,11 +93,11 @@ not_followed (c ∷ d ∷ w) (b ∷ a ∷ s) i n = go (eqb (upper c) (upper b))
     go false = refl
 
 module _ (b : ℕ) {c : ℕ} where
-  pub second_low : c < 0x20 → c ≡ upper b → false ≡ may_second b
+  second_low : c < 0x20 → c ≡ upper b → false ≡ may_second b
   unfolding may_second is_second
   second_low h q = sym (ap is_second (sym q) ∙ simp (lt-leb 0x20 c h))
 
-  pub second_high : 0x5F < c → 0x20 ≤ c → c ≡ upper b → false ≡ may_second b
+  second_high : 0x5F < c → 0x20 ≤ c → c ≡ upper b → false ≡ may_second b
   unfolding may_second is_second
   second_high h l q = sym (ap is_second (sym q) ∙ simp (le-leb 0x20 c l, lt-leb c 0x5F h))
 
@@ -103,37 +105,41 @@ module _ (b : ℕ) {c : ℕ} where
   unfolding may_second is_second
   second_told h l q = sym (ap is_second (sym q) ∙ simp (le-leb 0x20 c l, le-leb c 0x5F h))
 
+  pub low_told : c < 0x20 → c ≡ upper b → leb 0x20 c ≡ may_second b
+  low_told h q = lt-leb _ _ h ∙ second_low h q
+
+  pub high_told : 0x20 ≤ c → ((0x20 ≤ c) × (0x5F < c)) ⊎ (c < 0x20) → c ≡ upper b → leb c 0x5F ≡ may_second b
+  high_told l (inl e) q = lt-leb _ _ e.1 ∙ second_high e.1 l q
+  high_told l (inr e) q = absurd (omega arith)
+
 -- what no word of a list passes
 none_begun : (t : List ℕ) (test : List ℕ → Bool) → ((w : List ℕ) → T (test w) → begins w t ≡ false) → (es : List Entry) (k : ℕ) → T (all_words test es)
-    → first_that (λ i w. begins w t) es k ≡ Nothing
+    → first_that (λ i w. begins w t) es k ≡ None
 unfolding first_that all_words
 none_begun t test f [] k i = refl
 none_begun t test f (e ∷ es) k i = left _ _ (f e.word (and_left (test e.word) _ i)) ∙ none_begun t test f es (suc k) (and_right (test e.word) _ i)
 
-no_word : (t : List ℕ) → is_letter (get_or t 0 0) ≡ false → Nothing ≡ word_in tsb_words t
+no_word : (t : List ℕ) → is_letter (get_or t 0 0) ≡ false → None ≡ word_in tsb_words t
 unfolding word_in
 no_word t n = sym (none_begun t initial (λ w i. not_begun w t i n) tsb_words 0 tsb_initials)
 
-no_follower : (t : List ℕ) → follow t ≡ false → Nothing ≡ word_in tsb_words t
+no_follower : (t : List ℕ) → follow t ≡ false → None ≡ word_in tsb_words t
 unfolding word_in
 no_follower t n = sym (none_begun t follow (λ w i. not_followed w t i n) tsb_words 0 tsb_follow)
 
-pub no_second : (t : List ℕ) {x : Bool} → not x ≡ true → x ≡ may_second (get_or t 1 0) → 2 ≤ length t → Nothing ≡ word_in tsb_words t
+pub no_second : (t : List ℕ) {x : Bool} → x ≡ false → x ≡ may_second (get_or t 1 0) → 2 ≤ length t → None ≡ word_in tsb_words t
 unfolding follow
 no_second [] e p h = absurd (omega arith)
 no_second (b ∷ []) e p h = absurd (omega arith)
-no_second (b ∷ c ∷ s) {x} e p h = no_follower (b ∷ c ∷ s) (sym p ∙ not-true x e)
+no_second (b ∷ c ∷ s) {x} e p h = no_follower (b ∷ c ∷ s) (sym p ∙ e)
 
-pub no_word_short : (t : List ℕ) → length t < 2 → Nothing ≡ word_in tsb_words t
+pub no_word_short : (t : List ℕ) → length t < 2 → None ≡ word_in tsb_words t
 unfolding follow
 no_word_short [] h = no_follower [] refl
 no_word_short (b ∷ []) h = no_follower (b ∷ []) refl
 no_word_short (b ∷ c ∷ s) h = absurd (omega arith)
 
-pub no_first : (t : List ℕ) {x : Bool} → not x ≡ true → x ≡ is_letter (get_or t 0 0) → Nothing ≡ word_in tsb_words t
-no_first t {x} e p = no_word t (sym p ∙ not-true x e)
-
-pub no_letter : (t : List ℕ) {x : Bool} → x ≡ false → x ≡ is_letter (get_or t 0 0) → Nothing ≡ word_in tsb_words t
+pub no_letter : (t : List ℕ) {x : Bool} → x ≡ false → x ≡ is_letter (get_or t 0 0) → None ≡ word_in tsb_words t
 no_letter t e p = no_word t (sym p ∙ e)
 
 -- ---- bounds of a word that is found
@@ -157,10 +163,10 @@ tsb_count : length tsb_words ≡ 123
 unfolding tsb_words
 tsb_count = refl
 
-pub word_bounds : (t : List ℕ) {index used token : ℕ} → word_in tsb_words t ≡ Word index used token → Bounded t index used
+pub word_bounds : (t : List ℕ) {m : Match} → word_in tsb_words t ≡ Some m → Bounded t m.index m.used
 unfolding word_in
-word_bounds t {index} {used} {token} e =
-    let f = found (λ w. begins w t) index used token tsb_words 0 e in
+word_bounds t {m} e =
+    let f = found (λ w. begins w t) m tsb_words 0 e in
     record {
       place = omega (arith, f.place, f.within, tsb_count);
       some = omega (arith, f.size, initial_some (word_at tsb_words f.at) (initial_at tsb_words tsb_initials f.at f.within));
@@ -169,30 +175,31 @@ word_bounds t {index} {used} {token} e =
 
 -- ---- the first word that matches is the first of its length that matches
 
-module _ (t : List ℕ) (index used token : ℕ) where
-  of_length : (es : List Entry) (k : ℕ) → first_that (λ i w. begins w t) es k ≡ Word index used token
-      → first_that (λ i w. eqb (length w) used && begins w t) es k ≡ Word index used token
+module _ (t : List ℕ) (m : Match) where
+  of_length : (es : List Entry) (k : ℕ) → first_that (λ i w. begins w t) es k ≡ Some m → first_that (λ i w. eqb (length w) m.used && begins w t) es k ≡ Some m
   unfolding first_that
   of_length [] k e = e
   of_length (x ∷ es) k e = go (begins x.word t) refl e (of_length es (suc k))
     where
-      same : begins x.word t ≡ true → Word k (length x.word) x.token ≡ Word index used token
-          → first_that (λ i w. eqb (length w) used && begins w t) (x ∷ es) k ≡ Word index used token
+      same : begins x.word t ≡ true → ◌≡◌ {A = Option Match} (Some (record { index = k; used = length x.word; token = x.token })) (Some m)
+          → first_that (λ i w. eqb (length w) m.used && begins w t) (x ∷ es) k ≡ Some m
       same q p =
-          let n : length x.word ≡ used = cc in
+          let this : ◌≡◌ {A = Match} (record { index = k; used = length x.word; token = x.token }) m = cc in
+          let n : length x.word ≡ m.used = ap (λ (y : Match). y.used) this in
           taken _ _ (ap (λ (r : Bool). r && begins x.word t) (eq-eqb _ _ n) ∙ q) ∙ p
 
       both : (r : Bool) → begins x.word t ≡ false → (r && begins x.word t) ≡ false
       both true q = q
       both false q = refl
 
-      go : (r : Bool) → begins x.word t ≡ r → elim r [ true ↦ Word k (length x.word) x.token | false ↦ first_that (λ i w. begins w t) es (suc k) ] ≡ Word index used token
-          → (first_that (λ i w. begins w t) es (suc k) ≡ Word index used token → first_that (λ i w. eqb (length w) used && begins w t) es (suc k) ≡ Word index used token)
-          → first_that (λ i w. eqb (length w) used && begins w t) (x ∷ es) k ≡ Word index used token
+      go : (r : Bool) → begins x.word t ≡ r
+          → ◌≡◌ {A = Option Match} (elim r [ true ↦ Some (record { index = k; used = length x.word; token = x.token }) | false ↦ first_that (λ i w. begins w t) es (suc k) ]) (Some m)
+          → (first_that (λ i w. begins w t) es (suc k) ≡ Some m → first_that (λ i w. eqb (length w) m.used && begins w t) es (suc k) ≡ Some m)
+          → first_that (λ i w. eqb (length w) m.used && begins w t) (x ∷ es) k ≡ Some m
       go true q p f = same q p
-      go false q p f = left _ _ (both (eqb (length x.word) used) q) ∙ f p
+      go false q p f = left _ _ (both (eqb (length x.word) m.used) q) ∙ f p
 
-  pub first_of_its_length : word_in tsb_words t ≡ Word index used token → first_that (λ i w. eqb (length w) used && begins w t) tsb_words 0 ≡ Word index used token
+  pub first_of_its_length : word_in tsb_words t ≡ Some m → first_that (λ i w. eqb (length w) m.used && begins w t) tsb_words 0 ≡ Some m
   unfolding word_in
   first_of_its_length e = of_length tsb_words 0 e
 
@@ -204,13 +211,13 @@ other_first x w (y ∷ t) u n e h =
     let apart : eqb (upper x) (upper y) ≡ false = ne_eqb _ _ (λ q. n (e ∙ sym q ∙ u)) in
     sym (ap (λ (b : Bool). elim b as (λ z. Bool) [ true ↦ begins w t | false ↦ false ]) apart)
 
-pub no_rem : (t : List ℕ) {b : ℕ} → (b ≡ 0x52 → ⊥) → b ≡ upper (get_or t 0 0) → 0 < length t → false ≡ begins (bytes_of "REM") t
+pub no_rem : (t : List ℕ) {b : ℕ} → (b ≡ 0x52 → ⊥) → b ≡ upper (get_or t 0 0) → 0 < length t → eqb b 0x52 ≡ begins (bytes_of "REM") t
 unfolding upper between
-no_rem t n e h = other_first 0x52 (bytes_of "EM") t refl n e h
+no_rem t n e h = ne_eqb _ _ n ∙ other_first 0x52 (bytes_of "EM") t refl n e h
 
-pub no_data : (t : List ℕ) {b : ℕ} → (b ≡ 0x44 → ⊥) → b ≡ upper (get_or t 0 0) → 0 < length t → false ≡ begins (bytes_of "DATA") t
+pub no_data : (t : List ℕ) {b : ℕ} → (b ≡ 0x44 → ⊥) → b ≡ upper (get_or t 0 0) → 0 < length t → eqb b 0x44 ≡ begins (bytes_of "DATA") t
 unfolding upper between
-no_data t n e h = other_first 0x44 (bytes_of "ATA") t refl n e h
+no_data t n e h = ne_eqb _ _ n ∙ other_first 0x44 (bytes_of "ATA") t refl n e h
 
 -- ---- no word but at a letter, and a letter is above all other bytes that a step asks for
 

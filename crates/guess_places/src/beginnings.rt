@@ -17,26 +17,14 @@ fn may_be_second(b: u8) -> bool
     ensures { result ≡ may_second b }
 {
     let c = base_ascii::upper(b);
-    if c < 0x20 {
-        return false;
-    }
-    if c > 0x5F {
-        return false;
-    }
-    (SECONDS >> (c - 0x20)) % 2 == 1
+    c >= 0x20 && c <= 0x5F && (SECONDS >> (c - 0x20)) % 2 == 1
 }
 
 // The TSB word that a text begins with. Each begins with a letter and has a second byte, so that most places are not looked up.
 pub fn tsb_word(text: &[u8], words: Words) -> Option<Match>
     ensures { result ≡ word_in tsb_words text.now }
 {
-    if text.len() < 2 {
-        return None;
-    }
-    if !base_ascii::is_letter(text[0]) {
-        return None;
-    }
-    if !may_be_second(text[1]) {
+    if text.len() < 2 || !base_ascii::is_letter(text[0]) || !may_be_second(text[1]) {
         return None;
     }
     word_match::match_in(WordList::Tsb, Test::Begins, text, words)
@@ -47,10 +35,7 @@ pub fn begins_rem(text: &[u8]) -> bool
     requires { 0 < length text.now }
     ensures { result ≡ begins (bytes_of "REM") text.now }
 {
-    if base_ascii::upper(text[0]) != b'R' {
-        return false;
-    }
-    word_search::begins(b"REM", text)
+    base_ascii::upper(text[0]) == b'R' && word_search::begins(b"REM", text)
 }
 
 // The same of DATA.
@@ -58,8 +43,5 @@ pub fn begins_data(text: &[u8]) -> bool
     requires { 0 < length text.now }
     ensures { result ≡ begins (bytes_of "DATA") text.now }
 {
-    if base_ascii::upper(text[0]) != b'D' {
-        return false;
-    }
-    word_search::begins(b"DATA", text)
+    base_ascii::upper(text[0]) == b'D' && word_search::begins(b"DATA", text)
 }

@@ -24,61 +24,25 @@ pub enum Place {
 pub fn is_plain(place: Place) -> bool
     ensures { result ≡ is_plain place }
 {
-    match place {
-        Place::Start => true,
-        Place::Within => true,
-        Place::Quoted => false,
-        Place::Data => false,
-        Place::QuotedData => false,
-    }
+    matches!(place, Place::Start | Place::Within)
 }
 
 pub fn is_start(place: Place) -> bool
     ensures { result ≡ is_start place }
 {
-    match place {
-        Place::Start => true,
-        Place::Within => false,
-        Place::Quoted => false,
-        Place::Data => false,
-        Place::QuotedData => false,
-    }
-}
-
-fn behind_data(b: u8) -> Place
-    ensures { result ≡ aside_of Place.Data b }
-{
-    if b == 0x22 {
-        return Place::QuotedData;
-    }
-    if b == 0x3A {
-        return Place::Start;
-    }
-    Place::Data
+    matches!(place, Place::Start)
 }
 
 // The place behind a byte of a string or of DATA.
 pub fn aside(place: Place, b: u8) -> Place
     ensures { result ≡ aside_of place b }
 {
-    match place {
-        Place::Start => Place::Start,
-        Place::Within => Place::Within,
-        Place::Quoted => {
-            if b == 0x22 {
-                Place::Within
-            } else {
-                Place::Quoted
-            }
-        }
-        Place::Data => behind_data(b),
-        Place::QuotedData => {
-            if b == 0x22 {
-                Place::Data
-            } else {
-                Place::QuotedData
-            }
-        }
+    match (place, b) {
+        (Place::Quoted, b'"') => Place::Within,
+        (Place::Data, b'"') => Place::QuotedData,
+        (Place::Data, b':') => Place::Start,
+        (Place::QuotedData, b'"') => Place::Data,
+        _ => place,
     }
 }
 
@@ -86,18 +50,9 @@ pub fn aside(place: Place, b: u8) -> Place
 fn data_length(text: &[u8]) -> usize
     ensures { result ≡ front (stays Place.Data) text.now }
 {
-    let mut i: usize = 0;
-    while i < text.len() {
-        let b = text[i];
-        if b == 0x22 {
-            return i;
-        }
-        if b == 0x3A {
-            return i;
-        }
-        i += 1;
-    }
-    i
+    text.iter()
+        .take_while(|b| **b != b'"' && **b != b':')
+        .count()
 }
 
 // How many bytes of a string or of DATA stand in front, behind each of which the place is the same.
@@ -105,10 +60,8 @@ pub fn stretch(place: Place, text: &[u8]) -> usize
     ensures { result ≡ front (stays place) text.now }
 {
     match place {
-        Place::Start => 0,
-        Place::Within => 0,
-        Place::Quoted => search::before(text, Kind::Is(0x22)),
+        Place::Start | Place::Within => 0,
+        Place::Quoted | Place::QuotedData => search::before(text, Kind::Is(b'"')),
         Place::Data => data_length(text),
-        Place::QuotedData => search::before(text, Kind::Is(0x22)),
     }
 }

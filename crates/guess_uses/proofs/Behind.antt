@@ -58,9 +58,9 @@ pub listed_start : (s : List ℕ) → Listed s 0 0
 listed_start s = record { within = omega arith; shallow = omega arith; gives = omega arith }
 
 module _ {s : List ℕ} {depth i : ℕ} where
-  pub listed_end : length s ≤ i → Listed s depth i → i ≡ closing 0 s
+  pub listed_told : length s ≤ i → i ≤ length s → Listed s depth i → length s ≡ closing 0 s
   unfolding closing
-  listed_end h k = let e : closing depth (drop i s) ≡ 0 = rw (drop_of_length-le s h) in omega arith
+  listed_told h g k = let e : closing depth (drop i s) ≡ 0 = rw (drop_of_length-le s h) in omega arith
 
   pub listed_closed : depth ≡ 0 → get_or s i 0 ≡ 0x29 → i < length s → Listed s depth i → i + 1 ≡ closing 0 s
   listed_closed z e h k =
@@ -85,9 +85,6 @@ module _ {s : List ℕ} {depth i : ℕ} where
   listed_on n m h k =
       let c : closing depth (drop i s) ≡ suc (closing depth (drop (i + 1) s)) = ap (closing depth) (here s i h) ∙ keep _ _ depth n m in
       record { within = omega arith; shallow = omega arith; gives = omega arith }
-
-  pub listed_above : 0x29 < get_or s i 0 → i < length s → Listed s depth i → Listed s depth (i + 1)
-  listed_above a h k = listed_on (λ e. omega arith) (λ e. omega arith) h k
 
 closing_le : (s : List ℕ) (d : ℕ) → closing d s ≤ length s
 unfolding closing

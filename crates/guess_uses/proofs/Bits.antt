@@ -2,11 +2,11 @@
 -- Assumes nothing.
 use Prim.Native.Nat.{ℕ, zero, suc, ◌+◌, ◌-◌, ◌*◌, ◌/◌, ◌%◌, ◌^◌, ◌≤◌, ◌<◌}
 use mathlib.Core.Path.{◌≡◌, refl, sym, ap, ◌∙◌}
-use mathlib.Core.Bool.{Bool, true, false}
+use mathlib.Core.Bool.{Bool, true, false, beq, false≢true}
 use mathlib.Core.List.{List}
 use native.Mathlib.Omega.{arith}
 use native.Mathlib.Nat.{div-div-eq-div-mul, div-one, mod-eq_of_lt, pow-succ', pow-zero}
-use lib.Dec.{eqb}
+use lib.Dec.{eqb, ltb}
 use lib.ListN.{length, get_or, set, length-set}
 use lib.Pow.{pow-lt}
 use lib.Seq.{get_or-set_same, get_or-set_other}
@@ -106,12 +106,24 @@ turned_by bits n v {on} h e f = record { size = length-set bits (n / 8) v; there
         ∙ ap (λ (b : ℕ). eqb (bit_of (m % 8) b) 1) (get_or-set_other bits (n / 8) (m / 8) v 0 (eqb-false _ _ q))
         ∙ sym (on_is bits m)
 
-module _ (bits : List ℕ) (n : ℕ) {x on : Bool} where
-  pub kept_on : on ≡ true → x ≡ true → x ≡ is_on bits n → Turned bits n on bits
-  kept_on o e p = record { size = refl; there = sym p ∙ e ∙ sym o; others = λ m d. refl }
+-- a bit that is as it shall be stays
+pub kept : (bits : List ℕ) (n : ℕ) {x on : Bool} → beq x on ≡ true → x ≡ is_on bits n → Turned bits n on bits
+kept bits n {x} {on} e p = record { size = refl; there = sym p ∙ same x on e; others = λ m d. refl }
+  where
+    same : (x on : Bool) → beq x on ≡ true → x ≡ on
+    same true true e = refl
+    same true false e = absurd (false≢true e)
+    same false true e = absurd (false≢true e)
+    same false false e = refl
 
-  pub kept_off : on ≡ false → x ≡ false → x ≡ is_on bits n → Turned bits n on bits
-  kept_off o e p = record { size = refl; there = sym p ∙ e ∙ sym o; others = λ m d. refl }
+-- one that is not is the other
+pub was_off : (x on : Bool) → beq x on ≡ false → on ≡ true → x ≡ false
+was_off true on e q = absurd (false≢true (sym e ∙ ap (beq true) q))
+was_off false on e q = refl
+
+pub was_on : (x on : Bool) → beq x on ≡ false → on ≡ false → x ≡ true
+was_on true on e q = refl
+was_on false on e q = absurd (false≢true (sym e ∙ ap (beq false) q))
 
 module _ (bits : List ℕ) (n : ℕ) {w : ℕ} (q : w ≡ 2 ^ (n % 8)) {x : Bool} where
   pub off_least : x ≡ true → x ≡ is_on bits n → w ≤ get_or bits (n / 8) 0
@@ -135,11 +147,12 @@ module _ (bits : List ℕ) (n : ℕ) {w : ℕ} (q : w ≡ 2 ^ (n % 8)) {x : Bool
 
 -- ---- the last of so many bits
 
-pub last_none : (bits : List ℕ) {n : ℕ} → n ≡ 0 → false ≡ last_bit bits n
+pub last_none : (bits : List ℕ) (n : ℕ) → n ≤ 0 → ltb 0 n ≡ last_bit bits n
 unfolding last_bit
-last_none bits e = rw e
+last_none bits zero h = refl
+last_none bits (suc n) h = absurd (omega arith)
 
-pub last_some : (bits : List ℕ) (n : ℕ) {r : Bool} → r ≡ is_on bits (n - 1) → (n ≡ 0 → ⊥) → r ≡ last_bit bits n
+pub last_some : (bits : List ℕ) (n : ℕ) {r : Bool} → r ≡ is_on bits (n - 1) → 0 < n → r ≡ last_bit bits n
 unfolding last_bit
-last_some bits zero q z = absurd (z refl)
+last_some bits zero q z = absurd (omega arith)
 last_some bits (suc n) q z = let e : suc n - 1 ≡ n = omega arith in q ∙ ap (is_on bits) e

@@ -7,7 +7,7 @@ use mathlib.Core.List.{List, [], ◌∷◌}
 use native.Mathlib.Omega.{arith}
 use lib.Dec.{eqb}
 use lib.ListN.{length, get_or, drop, drop_of_length-le, length-drop}
-use borrow.Author.Tests.{eqb-true}
+use borrow.Author.Tests.{eqb-true, eqb-false}
 use Rattle.base_ascii.specs.Search.{of_kind, starts_with, front, past}
 use Rattle.base_ascii.specs.declared.search.Kind.{Kind}
 use Rattle.base_ascii.proofs.Searching.{tail, here, starts_long}
@@ -177,12 +177,6 @@ module _ {blank : Kind} {line marks levels : List ℕ} {size room count : ℕ} {
         stands = rw from_there (stands_other _ q k.stands a b);
       }
 
-pub marking_space : {blank : Kind} {line marks levels : List ℕ} {size room count : ℕ} {ahead : Bool} {n : ℕ} → Marking blank line size room marks levels count ahead n → n < length line
-    → get_or line (length line - 1 - n) 0 ≡ 0x20 → of_kind blank 0x20 ≡ true → Marking blank line size room marks levels count ahead (n + 1)
-marking_space {blank} {line} {marks} {levels} {size} {room} {count} {ahead} {n} k h e t =
-    let b : ℕ = get_or line (length line - 1 - n) 0 in
-    marking_on k h (sym (ap (λ (x : Bool). cond x ahead (eqb b 0x3D)) (ap (of_kind blank) e ∙ t))) (λ f. omega arith) (λ f. omega arith)
-
 -- ---- marks of a part, and what they say
 
 marked_drop : (blank : Kind) (marks : List ℕ) (a : ℕ) (t : List ℕ) → Marked blank marks t → Marked blank marks (drop a t)
@@ -205,6 +199,10 @@ list_marked : (blank : Kind) (marks t : List ℕ) → starts_with 0x28 t ≡ tru
 unfolding starts_with Marked behind_list
 list_marked blank marks [] e k = absurd (false≢true e)
 list_marked blank marks (b ∷ s) e k = ap (is_on marks) (omega arith) ∙ k.0 (eqb-true _ _ e)
+
+-- there are marks
+pub some_marks : (marks : List ℕ) {x : Bool} → x ≡ eqb (length marks) 0 → x ≡ false → length marks ≡ 0 → ⊥
+some_marks marks q e = eqb-false _ _ (sym q ∙ e)
 
 module _ (blank : Kind) (t : List ℕ) (a : ℕ) {marks : List ℕ} {x : Bool} where
   pub mark_within : x ≡ true → x ≡ starts_with 0x28 (rest t a) → (length marks ≡ 0 → ⊥) → MarksOf blank t marks → length (rest t a) - 1 < 8 * length marks

@@ -7,35 +7,24 @@ use crate::lists;
 use base_ascii::search;
 use base_ascii::search::Kind;
 
-// How many bytes a list takes behind its opening parenthesis: up to the closing one, or to the end. Most bytes are above both parentheses,
-// and one test passes them.
+// How many bytes a list takes behind its opening parenthesis: up to the closing one, or to the end.
 fn closing(text: &[u8]) -> usize
     ensures { result ≡ closing_of 0 text.now }
 {
     let mut depth: usize = 0;
-    let mut i: usize = 0;
-    while i < text.len() {
-        let b = text[i];
-        if b > 0x29 {
-            i += 1;
-        } else {
-            if b == 0x29 {
+    for (i, b) in text.iter().enumerate() {
+        match *b {
+            b'(' => depth += 1,
+            b')' => {
                 if depth == 0 {
                     return i + 1;
                 }
                 depth -= 1;
-                i += 1;
-            } else {
-                if b == 0x28 {
-                    depth += 1;
-                    i += 1;
-                } else {
-                    i += 1;
-                }
             }
+            _ => {}
         }
     }
-    i
+    text.len()
 }
 
 // Whether = follows the list in parentheses that a text begins with.
@@ -46,7 +35,7 @@ fn list_assigned(text: &[u8], blank: Kind) -> bool
     let list = 1 + closing(&text[1..]);
     let behind = &text[list..];
     let more = search::front(behind, blank);
-    search::starts_with(&behind[more..], 0x3D)
+    search::starts_with(&behind[more..], b'=')
 }
 
 // Whether an assignment follows a name: blanks, perhaps a list in parentheses and blanks behind it, then =. Where the lists are marked,
@@ -57,11 +46,12 @@ pub fn assigns(text: &[u8], blank: Kind, marks: &[u8]) -> bool
 {
     let blanks = search::front(text, blank);
     let rest = &text[blanks..];
-    if search::starts_with(rest, 0x28) {
-        if marks.len() == 0 {
-            return list_assigned(rest, blank);
-        }
-        return lists::bit(marks, rest.len() - 1);
+    if !search::starts_with(rest, b'(') {
+        return search::starts_with(rest, b'=');
     }
-    search::starts_with(rest, 0x3D)
+    if marks.is_empty() {
+        list_assigned(rest, blank)
+    } else {
+        lists::bit(marks, rest.len() - 1)
+    }
 }

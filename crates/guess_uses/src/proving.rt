@@ -12,10 +12,7 @@ use base_ascii::search::Kind;
 fn is_else(used: usize, text: &[u8]) -> bool
     ensures { result ≡ is_else used text.now }
 {
-    if used != 4 {
-        return false;
-    }
-    word_search::begins(b"ELSE", text)
+    used == 4 && word_search::begins(b"ELSE", text)
 }
 
 // Whether what follows a word makes it a variable that is assigned to.
@@ -23,13 +20,11 @@ fn assigned(text: &[u8], marks: &[u8]) -> bool
     requires { MarksOf White text.now marks.now }
     ensures { result ≡ assigned_of text.now }
 {
-    if search::starts_with(text, 0x25) {
-        return ahead::assigns(&text[1..], Kind::White, marks);
+    if search::starts_with(text, b'%') || search::starts_with(text, b'$') {
+        ahead::assigns(&text[1..], Kind::White, marks)
+    } else {
+        ahead::assigns(text, Kind::White, marks)
     }
-    if search::starts_with(text, 0x24) {
-        return ahead::assigns(&text[1..], Kind::White, marks);
-    }
-    ahead::assigns(text, Kind::White, marks)
 }
 
 // Whether what follows a word makes it a function.
@@ -37,7 +32,7 @@ fn is_called(text: &[u8]) -> bool
     ensures { result ≡ called text.now }
 {
     let blanks = search::front(text, Kind::White);
-    search::starts_with(&text[blanks..], 0x28)
+    search::starts_with(&text[blanks..], b'(')
 }
 
 // Whether a TSB word of so many bytes in front of a text proves that the text is TSB.
@@ -48,8 +43,10 @@ pub fn proves(start: bool, text: &[u8], used: usize, marks: &[u8]) -> bool
     if is_else(used, text) {
         return true;
     }
+    let behind = &text[used..];
     if start {
-        return !assigned(&text[used..], marks);
+        !assigned(behind, marks)
+    } else {
+        is_called(behind)
     }
-    is_called(&text[used..])
 }

@@ -6,7 +6,8 @@ use mathlib.Core.Bool.{Bool, true, false, ◌&&◌, ◌||◌}
 use mathlib.Core.List.{List, [], ◌∷◌, ◌++◌, reverse, reverse-append, reverse-reverse}
 use native.Mathlib.Nat.{add-zero}
 use native.Mathlib.Omega.{arith}
-use lib.Dec.{eqb}
+use lib.Dec.{eqb, leb}
+use Rattle.std.proofs.Common.{◌⊎◌, inl, inr}
 use lib.ListN.{length, get_or, take, drop, set, drop_of_length-le, length-drop, length-set, length-reverse}
 use lib.Seq.{drop-drop, get_or-drop, take-add, take-take, length-take-le}
 use borrow.Author.Tests.{eq-eqb, ne_eqb, le-leb, lt-leb}
@@ -20,7 +21,7 @@ use Rattle.base_ascii.proofs.Searching.{tail, end_take, end_le}
 use Rattle.word_search.specs.Compare.{begins}
 use Rattle.word_search.specs.Find.{word_in}
 use Rattle.word_search.specs.declared.Match.{Match}
-use Rattle.word_search.specs.declared.Match.TheVariants.{Word, Nothing}
+use Rattle.std.specs.Prelude.{Option, Some, None}
 use Rattle.word_search.specs.Spelling.{bytes_of}
 use Rattle.word_tables.specs.Tsb.{tsb_words}
 use Rattle.base_ascii.proofs.Choice.{taken, left, either}
@@ -64,11 +65,14 @@ mid_dim (a ∷ b ∷ c ∷ []) u h = go (eqb (upper 0x4D) (upper c)) (eqb (upper
     go false false false = refl
 
 module _ (line : List ℕ) (i : ℕ) where
-  pub dim_early : i < 4 → i ≤ length line → false ≡ after_dim (passed_at line i)
+  dim_early : i < 4 → i ≤ length line → false ≡ after_dim (passed_at line i)
   unfolding after_dim
   dim_early h w =
       let n : length (passed_at line i) < 4 = omega (arith, length-reverse (take i line), length-take-le i line w) in
       ap (λ (r : Bool). r && begins (bytes_of "MID") (past is_white (passed_at line i))) (sym (lt-leb _ _ n))
+
+  pub dim_first : i < 4 → i ≤ length line → leb 4 i ≡ after_dim (passed_at line i)
+  dim_first h w = lt-leb _ _ h ∙ dim_early h w
 
   module _ {e : ℕ} (p : e ≡ length (past_end is_white (take i line))) (h : 4 ≤ i) (w : i ≤ length line) where
     -- what is left behind the white space, read backwards
@@ -89,13 +93,17 @@ module _ (line : List ℕ) (i : ℕ) where
     pub solid_within : e ≤ length line
     solid_within = omega (arith, end_le is_white (take i line), length-take-le i line w)
 
-    pub dim_short : e < 3 → false ≡ after_dim (passed_at line i)
+    dim_short : e < 3 → false ≡ after_dim (passed_at line i)
     dim_short l = go (begins (bytes_of "MID") (reverse (take e line))) refl ∙ dim_is
       where
         go : (r : Bool) → begins (bytes_of "MID") (reverse (take e line)) ≡ r → false ≡ begins (bytes_of "MID") (reverse (take e line))
         go true q =
             absurd (omega (arith, begins_long (bytes_of "MID") (reverse (take e line)) q, length-reverse (take e line), length-take-le e line solid_within))
         go false q = sym q
+
+    pub dim_less : ((4 ≤ i) × (e < 3)) ⊎ (i < 4) → leb 3 e ≡ after_dim (passed_at line i)
+    dim_less (inl q) = lt-leb _ _ q.1 ∙ dim_short q.1
+    dim_less (inr q) = absurd (omega arith)
 
     pub dim_told : {x : Bool} → x ≡ begins (bytes_of "DIM") (take (e - (e - 3)) (drop (e - 3) line)) → 3 ≤ e → x ≡ after_dim (passed_at line i)
     dim_told q l =
@@ -122,9 +130,9 @@ module _ (line : List ℕ) (i used : ℕ) where
     told_assigned : x ≡ assigns Space (rest line (i + used)) → x ≡ assigns Space (drop used (drop i line))
     told_assigned p = p ∙ ap (assigns Space) (tail line (i + used) ∙ at_word)
 
-    pub name_assigned : x ≡ true → x ≡ assigns Space (rest line (i + used)) → true ≡ is_name (passed_at line i) (drop i line) used
+    pub name_assigned : x ≡ true → x ≡ assigns Space (rest line (i + used)) → x ≡ is_name (passed_at line i) (drop i line) used
     unfolding is_name
-    name_assigned e p = ap (λ (r : Bool). r || after_dim (passed_at line i)) (sym e ∙ told_assigned p)
+    name_assigned e p = e ∙ ap (λ (r : Bool). r || after_dim (passed_at line i)) (sym e ∙ told_assigned p)
 
     pub name_dim : {y : Bool} → y ≡ after_dim (passed_at line i) → x ≡ false → x ≡ assigns Space (rest line (i + used)) → y ≡ is_name (passed_at line i) (drop i line) used
     unfolding is_name
@@ -134,20 +142,20 @@ module _ (line : List ℕ) (i : ℕ) {m : Option Match} where
   told_word : m ≡ word_in tsb_words (rest line i) → word_in tsb_words (drop i line) ≡ m
   told_word p = sym (p ∙ ap (word_in tsb_words) (tail line i))
 
-  pub pass_nothing : {r : Pass} → r ≡ On 1 Within → m ≡ Nothing → m ≡ word_in tsb_words (rest line i) → r ≡ word_pass (passed_at line i) (drop i line)
+  pub pass_nothing : {r : Pass} → r ≡ On 1 Within → m ≡ None → m ≡ word_in tsb_words (rest line i) → r ≡ word_pass (passed_at line i) (drop i line)
   unfolding word_pass
   pass_nothing q e p = q ∙ rw (word_pass, told_word p ∙ e)
 
-  module _ {index used token : ℕ} where
-    pub name_within_lem : m ≡ Word index used token → m ≡ word_in tsb_words (rest line i) → i ≤ length line → i + used ≤ length line
+  module _ {n : Match} where
+    pub name_within_lem : m ≡ Some n → m ≡ word_in tsb_words (rest line i) → i ≤ length line → i + n.used ≤ length line
     name_within_lem e p h = omega (arith, (word_bounds (rest line i) (sym p ∙ e)).within, rest_long line i)
 
     module _ {x : Bool} where
-      pub pass_name : x ≡ true → x ≡ is_name (passed_at line i) (drop i line) used → m ≡ Word index used token → m ≡ word_in tsb_words (rest line i) → Name index used ≡ word_pass (passed_at line i) (drop i line)
+      pub pass_name : x ≡ true → x ≡ is_name (passed_at line i) (drop i line) n.used → m ≡ Some n → m ≡ word_in tsb_words (rest line i) → Name n.index n.used ≡ word_pass (passed_at line i) (drop i line)
       unfolding word_pass
       pass_name t q e p = rw (word_pass, told_word p ∙ e) (sym (taken _ _ (sym q ∙ t)))
 
-      pub pass_word : {r : Pass} → r ≡ On used Within → x ≡ false → x ≡ is_name (passed_at line i) (drop i line) used → m ≡ Word index used token → m ≡ word_in tsb_words (rest line i) → r ≡ word_pass (passed_at line i) (drop i line)
+      pub pass_word : {r : Pass} → r ≡ On n.used Within → x ≡ false → x ≡ is_name (passed_at line i) (drop i line) n.used → m ≡ Some n → m ≡ word_in tsb_words (rest line i) → r ≡ word_pass (passed_at line i) (drop i line)
       unfolding word_pass
       pass_word s t q e p = s ∙ rw (word_pass, told_word p ∙ e) (sym (left _ _ (sym q ∙ t)))
 
@@ -234,13 +242,13 @@ module _ (passed : List ℕ) (t : List ℕ) (h : 0 < length t) where
     where
       go : (m : Option Match) → word_in tsb_words t ≡ m
           → Far (length t) (elim m [
-            | Word index used token ↦ elim (is_name passed t used) [ true ↦ Name index used | false ↦ On used Within ]
-            | Nothing ↦ On 1 Within
+            | Some n ↦ elim (is_name passed t n.used) [ true ↦ Name n.index n.used | false ↦ On n.used Within ]
+            | None ↦ On 1 Within
           ])
-      go (Word index used token) e =
+      go (Some n) e =
           let b = word_bounds t e in
-          either (Far (length t)) (is_name passed t used) (Name index used) (On used Within) (λ _. (b.place, b.some, b.within)) (λ _. (b.some, b.within))
-      go Nothing e = far_one Within
+          either (Far (length t)) (is_name passed t n.used) (Name n.index n.used) (On n.used Within) (λ _. (b.place, b.some, b.within)) (λ _. (b.some, b.within))
+      go None e = far_one Within
 
   far_plain : Far (length t) (plain_pass passed t)
   unfolding plain_pass

@@ -10,7 +10,7 @@ use Rattle.base_ascii.specs.Search.{is_white, front, past}
 use Rattle.base_ascii.specs.declared.search.Kind.TheVariants.{Space}
 use Rattle.word_search.specs.Compare.{begins}
 use Rattle.word_search.specs.Find.{word_in}
-use Rattle.std.specs.Prelude.{Option, Some, None}
+use Rattle.std.specs.Prelude.{Some, None}
 use Rattle.word_search.specs.Spelling.{bytes_of}
 use Rattle.word_tables.specs.Tsb.{tsb_words}
 use Rattle.guess_uses.specs.Ahead.{assigns}

@@ -1,7 +1,7 @@
 // Which TSB words a line uses as variables.
 #![tactic(auto)]
 
-ghost use Rattle.std.specs.Prelude.{◌≡◌, reverse, ◌+◌, ◌≤◌, ◌<◌, true, length, get_or, take, drop};
+ghost use Rattle.std.specs.Prelude.{◌≡◌, reverse, ◌*◌, ◌+◌, ◌≤◌, ◌<◌, true, length, get_or, take, drop};
 ghost use Rattle.base_ascii.specs.Bytes.{is_letter};
 ghost use Rattle.base_ascii.specs.declared.search.Kind.TheVariants.{Space};
 ghost use Rattle.guess_variables.specs.Variables.{after_dim, is_name, word_pass, plain_pass, pass_of, line_names};
@@ -29,15 +29,8 @@ fn after_dim(line: &[u8], i: usize) -> bool
     requires { i ≤ length line.now }
     ensures { result ≡ after_dim (reverse (take i line.now)) }
 {
-    if i < 4 {
-        return false;
-    }
-    let e = search::solid(&line[..i], Kind::White);
-    if e < 3 {
-        return false;
-    }
-    let from = e - 3;
-    word_search::begins(b"DIM", &line[from..e])
+    let end = search::solid(&line[..i], Kind::White);
+    i >= 4 && end >= 3 && word_search::begins(b"DIM", &line[end - 3..end])
 }
 
 // Whether a TSB word of so many bytes at i is a variable.
@@ -46,10 +39,7 @@ fn is_name(line: &[u8], i: usize, used: usize, marks: &[u8]) -> bool
     ensures { result ≡ is_name (reverse (take i line.now)) (drop i line.now) used }
 {
     let behind = i + used;
-    if ahead::assigns(&line[behind..], Kind::Space, marks) {
-        return true;
-    }
-    after_dim(line, i)
+    ahead::assigns(&line[behind..], Kind::Space, marks) || after_dim(line, i)
 }
 
 fn on(used: usize, place: Place) -> Pass
@@ -64,15 +54,12 @@ fn word_pass(line: &[u8], i: usize, marks: &[u8], words: Words) -> Pass
     ensures { result ≡ word_pass (reverse (take i line.now)) (drop i line.now) }
 {
     match beginnings::tsb_word(&line[i..], words) {
-        Some(Match {
-            index: word,
-            used,
-            token: _,
-        }) => {
+        Some(Match { index, used, .. }) => {
             if is_name(line, i, used, marks) {
-                return Pass::Name { index: word, used };
+                Pass::Name { index, used }
+            } else {
+                on(used, Place::Within)
             }
-            on(used, Place::Within)
         }
         None => on(1, Place::Within),
     }
@@ -100,12 +87,12 @@ fn plain_pass(line: &[u8], i: usize, marks: &[u8], words: Words) -> Pass
 {
     let b = line[i];
     if base_ascii::is_letter(b) {
-        return letter_pass(line, i, marks, words);
+        letter_pass(line, i, marks, words)
+    } else if b == b'"' {
+        on(1, Place::Quoted)
+    } else {
+        on(1, Place::Within)
     }
-    if b == 0x22 {
-        return on(1, Place::Quoted);
-    }
-    on(1, Place::Within)
 }
 
 fn next_pass(line: &[u8], i: usize, place: Place, marks: &[u8], words: Words) -> Pass
@@ -113,9 +100,10 @@ fn next_pass(line: &[u8], i: usize, place: Place, marks: &[u8], words: Words) ->
     ensures { result ≡ pass_of (reverse (take i line.now)) place (drop i line.now) }
 {
     if place::is_plain(place) {
-        return plain_pass(line, i, marks, words);
+        plain_pass(line, i, marks, words)
+    } else {
+        on(1, place::aside(place, line[i]))
     }
-    on(1, place::aside(place, line[i]))
 }
 
 fn marked_names(line: &[u8], marks: &[u8], words: Words, found: &mut [bool])
@@ -126,16 +114,14 @@ fn marked_names(line: &[u8], marks: &[u8], words: Words, found: &mut [bool])
     let mut place = Place::Within;
     while i < line.len() {
         match next_pass(line, i, place, marks, words) {
-            Pass::Remark => {
-                return;
-            }
+            Pass::Remark => return,
             Pass::On { used, place: next } => {
                 let behind = i + used;
                 i = behind + place::stretch(next, &line[behind..]);
                 place = next;
             }
-            Pass::Name { index: word, used } => {
-                found[word] = true;
+            Pass::Name { index, used } => {
+                found[index] = true;
                 i += used;
                 place = Place::Within;
             }
@@ -143,23 +129,14 @@ fn marked_names(line: &[u8], marks: &[u8], words: Words, found: &mut [bool])
     }
 }
 
-fn long_names(line: &[u8], words: Words, found: &mut [bool])
-    requires { (length line.now ≤ 16384) × (123 ≤ length found.old) }
+// The same, with marks, which a line has room for that has at most eight bytes to each of so many.
+fn names_by_marks<const N: usize>(line: &[u8], words: Words, found: &mut [bool])
+    requires { (length line.now ≤ 8 * N) × (N ≤ 131072) × (123 ≤ length found.old) }
     ensures { found.new ≡ line_names line.now found.old }
 {
-    let mut marks = [0u8; 2048];
-    let mut levels = [0u8; 2048];
-    lists::mark_long(line, Kind::Space, &mut marks, &mut levels);
-    marked_names(line, &marks, words, found);
-}
-
-fn longest_names(line: &[u8], words: Words, found: &mut [bool])
-    requires { (length line.now ≤ 1048576) × (123 ≤ length found.old) }
-    ensures { found.new ≡ line_names line.now found.old }
-{
-    let mut marks = [0u8; 131072];
-    let mut levels = [0u8; 131072];
-    lists::mark_longest(line, Kind::Space, &mut marks, &mut levels);
+    let mut marks = [0u8; N];
+    let mut levels = [0u8; N];
+    lists::mark(line, Kind::Space, &mut marks, &mut levels);
     marked_names(line, &marks, words, found);
 }
 
@@ -168,16 +145,9 @@ pub fn line_names(line: &[u8], words: Words, found: &mut [bool])
     requires { (123 ≤ length found.old) }
     ensures { found.new ≡ line_names line.now found.old }
 {
-    let n = line.len();
-    if n > 256 {
-        if n <= 16384 {
-            long_names(line, words, found);
-            return;
-        }
-        if n <= 1048576 {
-            longest_names(line, words, found);
-            return;
-        }
+    match line.len() {
+        257..=16384 => names_by_marks::<2048>(line, words, found),
+        16385..=1048576 => names_by_marks::<131072>(line, words, found),
+        _ => marked_names(line, b"", words, found),
     }
-    marked_names(line, b"", words, found);
 }

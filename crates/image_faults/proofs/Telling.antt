@@ -24,12 +24,12 @@ use Rattle.image_readers.proofs.ByTerminators.{terminator_line}
 use Rattle.image_readers.proofs.Equations.{LiesAt}
 use Rattle.image_readers.proofs.Reading.{body_length_lem}
 use Rattle.image_relink.specs.declared.Relinked.{Relinked}
-use Rattle.image_relink.specs.declared.Relinked.TheVariants.{Same, Changed, Leaves, Endless, Refused}
+use Rattle.image_relink.specs.declared.Relinked.TheVariants.{Same, Changed, Leaves, Endless}
 use Rattle.image_relink.specs.Relinking.{relinking, relinked_answer}
 use Rattle.image_faults.specs.declared.Fault.TheVariants.{OutsideMemory, NumberTooHigh, NotAscending, ZeroInBody, BodyLength, LinkChanges, LinksLeave, LinksEndless}
 use Rattle.image_faults.specs.Faults.{memory_faults, number_faults, order_faults, first_zero, zero_faults, length_faults, relink_fault, relink_faults}
 use Rattle.image_faults.specs.ToldHelpers.{LineIs}
-use Rattle.std.specs.Prelude.{Option, Some}
+use Rattle.std.specs.Prelude.{Option, Some, Result, Ok, Err}
 
 -- ---- bytes
 
@@ -149,22 +149,22 @@ module _ (s : List ℕ) (p : ℕ) {l : Line} (is : LineIs s p l) where
 
 -- ---- what the machine does
 
-module _ (s : List ℕ) {r : Relinked} (e : relinked_answer r ≡ relinking s) where
-  relink_by_lem : {x : Relinked} → r ≡ x → relink_fault s (relinked_answer x) ≡ relink_faults s
+module _ (s : List ℕ) {r : Result Relinked Refusal} (e : relinked_answer r ≡ relinking s) where
+  relink_by_lem : {x : Result Relinked Refusal} → r ≡ x → relink_fault s (relinked_answer x) ≡ relink_faults s
   unfolding relink_faults
-  relink_by_lem is = ap (λ (y : Relinked). relink_fault s (relinked_answer y)) (sym is) ∙ ap (relink_fault s) e
+  relink_by_lem is = ap (λ (y : Result Relinked Refusal). relink_fault s (relinked_answer y)) (sym is) ∙ ap (relink_fault s) e
 
-  pub relink_same : r ≡ Same → [] ≡ relink_faults s
+  pub relink_same : r ≡ Ok Same → [] ≡ relink_faults s
   relink_same is = relink_by_lem is
 
-  pub relink_changed : {p link number : ℕ} → r ≡ Changed p link → number ≡ low_first_at s (p + 2) → LinkChanges number link ∷ [] ≡ relink_faults s
+  pub relink_changed : {p link number : ℕ} → r ≡ Ok (Changed p link) → number ≡ low_first_at s (p + 2) → LinkChanges number link ∷ [] ≡ relink_faults s
   relink_changed is n = rw n (relink_by_lem is)
 
-  pub relink_leaves : r ≡ Leaves → LinksLeave ∷ [] ≡ relink_faults s
+  pub relink_leaves : r ≡ Ok Leaves → LinksLeave ∷ [] ≡ relink_faults s
   relink_leaves is = relink_by_lem is
 
-  pub relink_endless : r ≡ Endless → LinksEndless ∷ [] ≡ relink_faults s
+  pub relink_endless : r ≡ Ok Endless → LinksEndless ∷ [] ≡ relink_faults s
   relink_endless is = relink_by_lem is
 
-  pub relink_refused : {n : Refusal} → r ≡ Refused n → [] ≡ relink_faults s
+  pub relink_refused : {n : Refusal} → r ≡ Err n → [] ≡ relink_faults s
   relink_refused is = relink_by_lem is

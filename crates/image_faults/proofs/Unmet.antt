@@ -7,8 +7,8 @@ use mathlib.Core.List.{List, [], ◌∷◌}
 use borrow.Author.Tests.{not-true, not-false}
 use Rattle.image_marks.specs.Marks.{has_mark}
 use Rattle.image_jumps.specs.declared.Cursor.{Cursor}
-use Rattle.image_jumps.specs.declared.Next.{Next}
-use Rattle.image_jumps.specs.declared.Next.TheVariants.{Jump, None}
+use Rattle.image_jumps.specs.declared.Jump.{Jump}
+use Rattle.std.specs.Prelude.{Option, Some, None}
 use Rattle.image_jumps.specs.JumpHelpers.{left_of, distance, JumpsTo, NextIs}
 use Rattle.image_faults.specs.Faults.{unmet}
 use Rattle.image_faults.specs.ToldHelpers.{UnmetIs}
@@ -20,25 +20,25 @@ pub record UnmetAhead (marked body : List ℕ) (c₀ c : Cursor) : Type 0 where
 pub unmet_start : (marked body : List ℕ) (c : Cursor) → UnmetAhead marked body c c
 unmet_start marked body c = record { gives = refl }
 
-module _ {marked body : List ℕ} {c₀ c : Cursor} (k : UnmetAhead marked body c₀ c) {r : Next} (next : NextIs body c r) where
-  module _ {target : ℕ} {d : Cursor} (is : r ≡ Jump target d) where
-    jumped : JumpsTo body c target d
+module _ {marked body : List ℕ} {c₀ c : Cursor} (k : UnmetAhead marked body c₀ c) {r : Option Jump} (next : NextIs body c r) where
+  module _ {j : Jump} (is : r ≡ Some j) where
+    jumped : JumpsTo body c j.target j.cursor
     jumped = subst (NextIs body c) is next
 
-    pub unmet_less : distance body d < distance body c
+    pub unmet_less : distance body j.cursor < distance body c
     unmet_less = jumped.nearer
 
-    module _ {b : Bool} (e : b ≡ has_mark marked target) where
-      here : unmet (has_mark marked) (left_of body c₀) ≡ unmet (has_mark marked) (target ∷ left_of body d)
+    module _ {b : Bool} (e : b ≡ has_mark marked j.target) where
+      here : unmet (has_mark marked) (left_of body c₀) ≡ unmet (has_mark marked) (j.target ∷ left_of body j.cursor)
       here = sym k.gives ∙ ap (unmet (has_mark marked)) jumped.same
 
-      pub unmet_told : not b ≡ true → UnmetIs (has_mark marked) body c₀ (Jump target d)
+      pub unmet_told : not b ≡ true → UnmetIs (has_mark marked) body c₀ (Some j)
       unfolding unmet
-      unmet_told n = let w : has_mark marked target ≡ false = sym e ∙ not-true b n in here ∙ rw (w, unmet)
+      unmet_told n = let w : has_mark marked j.target ≡ false = sym e ∙ not-true b n in here ∙ rw (w, unmet)
 
-      pub unmet_turn : not b ≡ false → UnmetAhead marked body c₀ d
+      pub unmet_turn : not b ≡ false → UnmetAhead marked body c₀ j.cursor
       unfolding unmet
-      unmet_turn n = let w : has_mark marked target ≡ true = sym e ∙ not-false b n in record { gives = sym (here ∙ rw (w, unmet)) }
+      unmet_turn n = let w : has_mark marked j.target ≡ true = sym e ∙ not-false b n in record { gives = sym (here ∙ rw (w, unmet)) }
 
   pub unmet_end : r ≡ None → UnmetIs (has_mark marked) body c₀ None
   unfolding unmet

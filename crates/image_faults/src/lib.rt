@@ -7,7 +7,7 @@ ghost use Rattle.image_marks.specs.Marks.{has_mark};
 ghost use Rattle.image_faults.specs.Faults.{memory_faults, number_faults, order_faults, zero_faults, length_faults, relink_faults};
 ghost use Rattle.image_faults.specs.ToldHelpers.{told_fault, UnmetIs, LineIs};
 
-use image_jumps::{Cursor, Next};
+use image_jumps::{Cursor, Jump};
 use image_readers::{Line, terminators};
 use image_relink::Relinked;
 
@@ -31,46 +31,39 @@ pub enum Fault {
     LinksEndless,
 }
 
-// A fault, or none.
-#[derive(Clone, Copy)]
-pub enum Told {
-    Fault(Fault),
-    Nothing,
-}
-
-pub fn memory_fault(image: &[u8]) -> Told
+pub fn memory_fault(image: &[u8]) -> Option<Fault>
     ensures { told_fault result ≡ memory_faults image.now }
 {
     let load = low_first_at(image, 0);
     let length = image.len();
     if image_limits::is_in_basic_memory(image_limits::commodore_64(), load, length) {
-        return Told::Nothing;
+        return None;
     }
-    Told::Fault(Fault::OutsideMemory { load, length })
+    Some(Fault::OutsideMemory { load, length })
 }
 
-pub fn number_fault(line: Line) -> Told
+pub fn number_fault(line: Line) -> Option<Fault>
     ensures { told_fault result ≡ number_faults line }
 {
     let number = line.number;
     if image_limits::is_too_high(image_limits::commodore_64(), number) {
-        return Told::Fault(Fault::NumberTooHigh { number });
+        return Some(Fault::NumberTooHigh { number });
     }
-    Told::Nothing
+    None
 }
 
-pub fn order_fault(line: Line, least: usize) -> Told
+pub fn order_fault(line: Line, least: usize) -> Option<Fault>
     ensures { told_fault result ≡ order_faults least line }
 {
     let number = line.number;
     if image_limits::is_not_ascending(least, number) {
-        return Told::Fault(Fault::NotAscending { number });
+        return Some(Fault::NotAscending { number });
     }
-    Told::Nothing
+    None
 }
 
 // The body by terminators ends at the first zero.
-pub fn zero_fault(image: &[u8], offset: usize, line: Line) -> Told
+pub fn zero_fault(image: &[u8], offset: usize, line: Line) -> Option<Fault>
     requires { LineIs image.now offset line }
     ensures { told_fault result ≡ zero_faults image.now line }
 {
@@ -78,61 +71,49 @@ pub fn zero_fault(image: &[u8], offset: usize, line: Line) -> Told
     let zero = line.from + terminators::body(image, offset).len();
     if zero < line.to {
         let address = low_first_at(image, 0) as usize + zero - 2;
-        return Told::Fault(Fault::ZeroInBody { number, address });
+        return Some(Fault::ZeroInBody { number, address });
     }
-    Told::Nothing
+    None
 }
 
-pub fn length_fault(image: &[u8], offset: usize, line: Line) -> Told
+pub fn length_fault(image: &[u8], offset: usize, line: Line) -> Option<Fault>
     requires { LineIs image.now offset line }
     ensures { told_fault result ≡ length_faults image.now line }
 {
     let number = line.number;
     let length = line.to - line.from;
     if image_limits::is_bad_length(image_limits::commodore_64(), length) {
-        return Told::Fault(Fault::BodyLength { number, length });
+        return Some(Fault::BodyLength { number, length });
     }
-    Told::Nothing
+    None
 }
 
 // The next jump of a body whose target is not marked.
-pub fn unmet_jump(body: &[u8], marked: &[u8], cursor: Cursor) -> Next
+pub fn unmet_jump(body: &[u8], marked: &[u8], cursor: Cursor) -> Option<Jump>
     ensures { UnmetIs (has_mark marked.now) body.now cursor result }
 {
     let mut cursor = cursor;
-    loop {
-        match image_jumps::next_jump(body, cursor) {
-            Next::Jump {
-                target,
-                cursor: behind,
-            } => {
-                if !image_marks::has_mark(marked, target) {
-                    return Next::Jump {
-                        target,
-                        cursor: behind,
-                    };
-                }
-                cursor = behind;
-            }
-            Next::None => {
-                return Next::None;
-            }
+    while let Some(jump) = image_jumps::next_jump(body, cursor) {
+        if !image_marks::has_mark(marked, jump.target) {
+            return Some(jump);
         }
+        cursor = jump.cursor;
     }
+    None
 }
 
-pub fn relink_fault(image: &[u8]) -> Told
+pub fn relink_fault(image: &[u8]) -> Option<Fault>
     ensures { told_fault result ≡ relink_faults image.now }
 {
     match image_relink::relink(image) {
-        Relinked::Same => Told::Nothing,
-        Relinked::Changed { offset, link } => Told::Fault(Fault::LinkChanges {
+        Ok(Relinked::Same) => None,
+        Ok(Relinked::Changed { offset, link }) => Some(Fault::LinkChanges {
             number: number_at(image, offset),
             link,
         }),
-        Relinked::Leaves => Told::Fault(Fault::LinksLeave),
-        Relinked::Endless => Told::Fault(Fault::LinksEndless),
-        Relinked::Refused(_) => Told::Nothing,
+        Ok(Relinked::Leaves) => Some(Fault::LinksLeave),
+        Ok(Relinked::Endless) => Some(Fault::LinksEndless),
+        Err(_) => None,
     }
 }
 
@@ -157,8 +138,5 @@ fn low_first_at(image: &[u8], offset: usize) -> u16
 fn byte_at(image: &[u8], offset: usize) -> u8
     ensures { result ≡ get_or image.now offset 0 }
 {
-    if offset < image.len() {
-        return image[offset];
-    }
-    0
+    image.get(offset).copied().unwrap_or(0)
 }

@@ -1,7 +1,7 @@
 -- The line that is answered is one that a step gives, and its body is the body of that step, a part of the image.
 -- Assumes nothing.
 use Prim.Native.Nat.{ℕ, ◌+◌, ◌-◌, ◌≤◌, ◌<◌}
-use mathlib.Core.Path.{◌≡◌, sym, ap, ◌∙◌}
+use mathlib.Core.Path.{◌≡◌, refl, sym, ap, ◌∙◌}
 use mathlib.Core.Bool.{Bool, true, false, cond}
 use mathlib.Core.List.{List, []}
 use native.Mathlib.Omega.{arith}
@@ -11,7 +11,7 @@ use borrow.Author.Tests.{lt-ltb, le-ltb}
 use Rattle.base_refusals.specs.Answer.{Answer, done, refused}
 use Rattle.base_refusals.specs.Numbers.{image_too_long, too_short}
 use Rattle.image_readers.specs.declared.Line.{Line}
-use Rattle.image_readers.specs.Bodies.{body_found, body_at}
+use Rattle.image_readers.specs.Bodies.{body_of, body_found, body_at}
 use Rattle.image_readers.specs.Chain.{Chain, here, on, Leads}
 use Rattle.image_readers.specs.Lined.{Ending, ended, faulted, Lined, lined_from}
 use Rattle.image_readers.specs.Lines.{lines_of}
@@ -22,7 +22,10 @@ use Rattle.image_readers.proofs.Lined.{lined_end, lined_refused, chain_lined}
 use Rattle.image_readers.proofs.Reading.{lines_lead}
 use Rattle.image_find.specs.Sought.{limit_reached, at, within, line_sought, body_in}
 use Rattle.image_find.proofs.Seeking.{sought_from}
-use Rattle.std.specs.Prelude.{Some}
+use Rattle.std.specs.Prelude.{Option, Some, None, MatchOption, slice_range, ◌⊎◌}
+use Rattle.std.specs.Option.{UnwrapsOrElse}
+use Rattle.std.specs.Borrow.{Bor}
+use mathlib.Core.Logic.{inl, inr}
 
 -- ---- `body` meets its contract, case by case
 
@@ -31,13 +34,28 @@ module _ (s : List ℕ) (l : Line) where
   unfolding body_in
   body_beyond h = simp (lt-ltb _ _ h)
 
-  pub body_backward : l.to < l.from → l.to ≤ length s → [] ≡ body_in s l
+  pub body_backward : l.to < l.from → [] ≡ body_in s l
   unfolding body_in
-  body_backward h k = simp (le-ltb _ _ k, lt-ltb _ _ h)
+  body_backward h = go (ltb (length s) l.to)
+    where
+      go : (t : Bool) → [] ≡ cond t [] (cond (ltb l.to l.from) [] (body_of s l))
+      go true = refl
+      go false = simp (lt-ltb _ _ h)
 
   pub body_there : l.from ≤ l.to → l.to ≤ length s → take (l.to - l.from) (drop l.from s) ≡ body_in s l
   unfolding body_in
   body_there h k = simp (le-ltb _ _ k, le-ltb _ _ h)
+
+-- the part of the image that was got, or nothing
+pub body_got : (s : List ℕ) (l : Line) (r : Option (Bor (List ℕ))) (x : Bor (List ℕ))
+    → MatchOption r ((l.to < l.from) ⊎ (length s < l.to)) (λ y. (l.from ≤ l.to) × (l.to ≤ length s) × (y.now ≡ slice_range s l.from l.to) × (length y.now + l.from ≡ l.to))
+    → UnwrapsOrElse r (λ y. y.now ≡ []) x → x.now ≡ body_in s l
+body_got s l None x h e = e ∙ none h
+  where
+    none : (l.to < l.from) ⊎ (length s < l.to) → [] ≡ body_in s l
+    none (inl b) = body_backward s l b
+    none (inr b) = body_beyond s l b
+body_got s l (Some y) x h e = ap (λ (z : Bor (List ℕ)). z.now) e ∙ h.2 ∙ body_there s l h.0 h.1
 
 -- ---- the line that is answered
 

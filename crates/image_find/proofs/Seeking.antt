@@ -1,12 +1,9 @@
 -- The loop over the headers: the invariant, a turn, and the ends.
 -- Assumes nothing.
-use Prim.Native.Nat.{ℕ, ◌+◌, ◌-◌, ◌≤◌, ◌<◌}
+use Prim.Native.Nat.{ℕ, ◌+◌, ◌≤◌, ◌<◌}
 use mathlib.Core.Path.{◌≡◌, sym, ap, ◌∙◌}
 use mathlib.Core.List.{List, [], ◌∷◌}
-use native.Mathlib.Omega.{arith}
 use lib.ListN.{length}
-use mir.Syntax.{w64}
-use mir.Val.{Fits}
 use borrow.Author.Tests.{le-leb, lt-leb, eq-eqb, ne_eqb}
 use Rattle.base_refusals.specs.Numbers.{image_too_long, too_short}
 use Rattle.base_refusals.specs.Answer.{Answer, done, refused, numbered, answered}
@@ -15,7 +12,6 @@ use Rattle.image_readers.specs.declared.Line.{Line}
 use Rattle.image_readers.specs.Lined.{faulted, Lined, lined_from}
 use Rattle.image_readers.specs.Links.{link_step}
 use Rattle.image_readers.proofs.ByLinks.{link_sound}
-use Rattle.image_readers.proofs.Equations.{LiesAt, next_nearer}
 use Rattle.image_readers.proofs.Finding.{sized_long, sized_short, sized_right}
 use Rattle.base_refusals.proofs.Tight.{told_back}
 use Rattle.image_readers.proofs.Lined.{lined_line, lined_end, lined_refused}
@@ -28,7 +24,6 @@ sought_from number limit s p v = within number limit v (lined_from link_step s p
 
 -- v headers were visited before p, none of them the line's; what is sought from p on is what is sought
 pub record NoneBefore (number limit : ℕ) (s : List ℕ) (p v : ℕ) : Type 0 where
-  pub few : v ≤ p
   pub gives : sought_from number limit s p v ≡ line_sought number limit s
 
 module _ (number limit : ℕ) (s : List ℕ) where
@@ -42,7 +37,7 @@ module _ (number limit : ℕ) (s : List ℕ) where
 
   pub none_start : length s ≤ 1048576 → 2 ≤ length s → NoneBefore number limit s 2 0
   unfolding line_sought
-  none_start long short = record { few = omega arith; gives = sized_right s _ long short }
+  none_start long short = record { gives = sized_right s _ long short }
 
 module _ {number limit : ℕ} {s : List ℕ} {p v : ℕ} {r : Result (Option Line) Refusal} (e : answered r ≡ link_step s p) (k : NoneBefore number limit s p v) where
   module _ {l : Line} (is : r ≡ Ok (Some l)) where
@@ -60,21 +55,12 @@ module _ {number limit : ℕ} {s : List ℕ} {p v : ℕ} {r : Result (Option Lin
     pub none_turn : v < limit → (l.number ≡ number → ⊥) → NoneBefore number limit s l.next (v + 1)
     unfolding within
     none_turn h m =
-        let d : LiesAt s p l = link_sound.lies s p (told_back is e) in
         let w = sym here ∙ k.gives in
-        record { few = omega arith; gives = simp (lt-leb _ _ h, ne_eqb _ _ m) at w }
+        record { gives = simp (lt-leb _ _ h, ne_eqb _ _ m) at w }
 
-    pub next_less : length s - l.next < length s - p
-    next_less = next_nearer link_sound s p (told_back is e)
-
-    pub visit_fits : {m : ℕ} → m ≤ 4 → Fits w64 (v + m)
-    visit_fits h =
-        let d : LiesAt s p l = link_sound.lies s p (told_back is e) in
-        record { fits = omega (arith, k.few, link_sound.not_too_long s p (told_back is e)) }
-
-  pub end_nowhere : r ≡ Ok None → done (nowhere v) ≡ line_sought number limit s
+  pub end_nowhere : {w : ℕ} → w ≡ v → r ≡ Ok None → done (nowhere w) ≡ line_sought number limit s
   unfolding within
-  end_nowhere is = sym (ap (λ (x : Lined). within number limit v x.lines x.ending) (lined_end link_sound s p (told_back is e))) ∙ k.gives
+  end_nowhere q is = ap (λ (n : ℕ). done (nowhere n)) q ∙ sym (ap (λ (x : Lined). within number limit v x.lines x.ending) (lined_end link_sound s p (told_back is e))) ∙ k.gives
 
   module _ {n : Refusal} (is : r ≡ Err n) where
     fault : within number limit v [] (faulted (numbered n)) ≡ line_sought number limit s

@@ -1,6 +1,7 @@
 -- How tight the promise is (document 01): any two results that meet it are equal.
 -- Assumes nothing.
 use Prim.Native.Nat.{ℕ}
+use Rattle.std.specs.Prelude.{Result, Ok, Err}
 use mathlib.Core.Path.{◌≡◌, refl, sym, ap, ◌∙◌}
 use mathlib.Core.Bool.{Bool, true, false}
 use mathlib.Core.List.{List}
@@ -11,17 +12,17 @@ use Rattle.base_refusals.specs.declared.Refusal.{Refusal}
 use Rattle.base_refusals.specs.declared.Refusal.TheVariants.{TextTooLong, BadByte, MissingLineNumber, LineNumberOutOfRange, AddressOverflow, NoRoom, ImageTooLong, TooShort, UnexpectedEof, MissingEnd, LinkBackward, LinkOutside, LinkNoEnd, UnknownDialect, NumberTooHigh, NotAscending, ZeroInBody, BodyLength, BadDisk, BadName, NameTaken, NoSuchFile, DirectoryFull, DiskFull, TooManyImages, TooManyLines, TargetTooHigh}
 use Rattle.base_refusals.proofs.Tight.{named, named_numbered, tells_apart}
 use Rattle.image_find.specs.declared.Sought.{Sought}
-use Rattle.image_find.specs.declared.Sought.TheVariants.{Found as FoundLine, Nowhere, LimitReached, Refused}
+use Rattle.image_find.specs.declared.Sought.TheVariants.{Found, Nowhere, LimitReached}
 use Rattle.image_find.specs.Sought.{Visit, at, nowhere, line_sought, sought_answer}
 
 -- 19 is the limit, any other number a refusal's
-by_number : Numbered → Bool → Sought
-by_number n true = LimitReached
-by_number n false = Refused (named n)
+by_number : Numbered → Bool → Result Sought Refusal
+by_number n true = Ok LimitReached
+by_number n false = Err (named n)
 
-sought_of : Answer Visit → Sought
-sought_of (done (at v l)) = FoundLine v l
-sought_of (done (nowhere v)) = Nowhere v
+sought_of : Answer Visit → Result Sought Refusal
+sought_of (done (at v l)) = Ok (Found v l)
+sought_of (done (nowhere v)) = Ok (Nowhere v)
 sought_of (refused n) = by_number n (eqb n.number 19)
 
 -- no refusal of the enum has number 19
@@ -54,13 +55,13 @@ other_number TooManyImages = refl
 other_number TooManyLines = refl
 other_number TargetTooHigh = refl
 
-sought_back : (r : Sought) → sought_of (sought_answer r) ≡ r
+sought_back : (r : Result Sought Refusal) → sought_of (sought_answer r) ≡ r
 unfolding sought_of by_number
-sought_back (FoundLine v l) = refl
-sought_back (Nowhere v) = refl
-sought_back LimitReached = refl
-sought_back (Refused r) = ap (by_number (numbered r)) (other_number r) ∙ ap Refused (named_numbered r)
+sought_back (Ok (Found v l)) = refl
+sought_back (Ok (Nowhere v)) = refl
+sought_back (Ok LimitReached) = refl
+sought_back (Err r) = ap (by_number (numbered r)) (other_number r) ∙ ap Err (named_numbered r)
 
 -- `find_line`
-pub sought_tight : (number limit : ℕ) (s : List ℕ) (a b : Sought) → sought_answer a ≡ line_sought number limit s → sought_answer b ≡ line_sought number limit s → a ≡ b
+pub sought_tight : (number limit : ℕ) (s : List ℕ) (a b : Result Sought Refusal) → sought_answer a ≡ line_sought number limit s → sought_answer b ≡ line_sought number limit s → a ≡ b
 sought_tight number limit s a b d e = tells_apart sought_answer sought_of sought_back a b (d ∙ sym e)

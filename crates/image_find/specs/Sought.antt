@@ -1,8 +1,9 @@
 -- A line by its number (document 02, No. 4: "a call that follows links and stops at the first line with that number. The answer carries
 -- the number of line headers visited"), over the lines before the fault and what stands behind them.
 -- Assumes nothing.
-use Rattle.std.specs.Prelude.{ℕ, ◌+◌, cond, List, [], ◌∷◌, eqb, leb, ltb, length}
+use Rattle.std.specs.Prelude.{ℕ, Result, Ok, Err, ◌+◌, cond, List, [], ◌∷◌, eqb, leb, ltb, length}
 use Rattle.base_refusals.specs.Numbers.{Numbered}
+use Rattle.base_refusals.specs.declared.Refusal.{Refusal}
 use Rattle.base_refusals.specs.Answer.{Answer, done, refused, numbered}
 use Rattle.image_readers.specs.Bodies.{body_of}
 use Rattle.image_readers.specs.declared.Line.{Line}
@@ -10,7 +11,7 @@ use Rattle.image_readers.specs.Image.{sized}
 use Rattle.image_readers.specs.Lined.{Ending, ended, faulted, lined_from}
 use Rattle.image_readers.specs.Links.{link_step}
 use Rattle.image_find.specs.declared.Sought.{Sought}
-use Rattle.image_find.specs.declared.Sought.TheVariants.{Found as FoundLine, Nowhere, LimitReached, Refused}
+use Rattle.image_find.specs.declared.Sought.TheVariants.{Found, Nowhere, LimitReached}
 
 -- "19 LimitReached", which carries nothing
 abbrev pub limit_reached : Numbered
@@ -47,11 +48,11 @@ unfolding within lined_from link_step
 line_sought number limit s = sized s (within number limit 0 (lined_from link_step s 2).lines (lined_from link_step s 2).ending)
 
 -- the enum's cases as document 02 numbers them
-abbrev pub sought_answer : Sought → Answer Visit
-sought_answer (FoundLine visited l) = done (at visited l)
-sought_answer (Nowhere visited) = done (nowhere visited)
-sought_answer LimitReached = refused limit_reached
-sought_answer (Refused r) = refused (numbered r)
+abbrev pub sought_answer : Result Sought Refusal → Answer Visit
+sought_answer (Ok (Found visited l)) = done (at visited l)
+sought_answer (Ok (Nowhere visited)) = done (nowhere visited)
+sought_answer (Ok LimitReached) = refused limit_reached
+sought_answer (Err r) = refused (numbered r)
 
 -- the body of a line, and nothing where it does not lie in the image
 unfoldable pub body_in : List ℕ → Line → List ℕ

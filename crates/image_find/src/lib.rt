@@ -19,44 +19,36 @@ pub enum Sought {
     Nowhere { visited: usize },
     // As many headers as the limit allows were visited, and the end marker is not next: refusal 19.
     LimitReached,
-    Refused(Refusal),
 }
 
 // Follows the links from the first line on, over at most `limit` headers.
-pub fn find_line(image: &[u8], number: u16, limit: usize) -> Sought
+pub fn find_line(image: &[u8], number: u16, limit: usize) -> Result<Sought, Refusal>
     ensures { sought_answer result ≡ line_sought number limit image.now }
 {
     let length = image.len();
     if length > LONGEST {
-        return Sought::Refused(Refusal::ImageTooLong { length });
+        return Err(Refusal::ImageTooLong { length });
     }
     if length < 2 {
-        return Sought::Refused(Refusal::TooShort);
+        return Err(Refusal::TooShort);
     }
     let mut offset: usize = 2;
-    let mut visited: usize = 0;
-    loop {
-        match links::step(image, offset) {
-            Ok(Some(line)) => {
-                if visited >= limit {
-                    return Sought::LimitReached;
-                }
-                visited += 1;
-                if line.number == number {
-                    return Sought::Found { visited, line };
-                }
-                offset = line.next;
-            }
-            Ok(None) => {
-                return Sought::Nowhere { visited };
-            }
-            Err(refusal) => {
-                if limit <= visited {
-                    return Sought::LimitReached;
-                }
-                return Sought::Refused(refusal);
-            }
+    for visited in 0..limit {
+        let Some(line) = links::step(image, offset)? else {
+            return Ok(Sought::Nowhere { visited });
+        };
+        if line.number == number {
+            return Ok(Sought::Found {
+                visited: visited + 1,
+                line,
+            });
         }
+        offset = line.next;
+    }
+    match links::step(image, offset) {
+        Ok(None) => Ok(Sought::Nowhere { visited: limit }),
+        Ok(Some(_)) => Ok(Sought::LimitReached),
+        Err(_) => Ok(Sought::LimitReached),
     }
 }
 
@@ -64,13 +56,5 @@ pub fn find_line(image: &[u8], number: u16, limit: usize) -> Sought
 pub fn body(image: &[u8], line: Line) -> &[u8]
     ensures { result.now ≡ body_in image.now line }
 {
-    let from = line.from;
-    let to = line.to;
-    if to > image.len() {
-        return &image[..0];
-    }
-    if from > to {
-        return &image[..0];
-    }
-    &image[from..to]
+    image.get(line.from..line.to).unwrap_or_default()
 }

@@ -16,10 +16,8 @@ use Rattle.base_refusals.proofs.Tight.{told_back}
 use Rattle.image_readers.specs.Lined.{Lined, lined_from}
 use Rattle.image_readers.proofs.Lined.{lined_line, lined_end, lined_refused}
 use Rattle.image_units.specs.declared.Mode.TheVariants.{Plain}
-use Rattle.image_jumps.specs.declared.Part.TheVariants.{Empty}
 use Rattle.image_jumps.specs.declared.Cursor.{Cursor}
-use Rattle.image_jumps.specs.declared.Next.{Next}
-use Rattle.image_jumps.specs.declared.Next.TheVariants.{Jump, None}
+use Rattle.image_jumps.specs.declared.Jump.{Jump}
 use Rattle.image_jumps.specs.JumpHelpers.{left_of}
 use Rattle.image_jumps.proofs.Stepping.{left_text}
 use Rattle.image_faults.specs.declared.Fault.{Fault}
@@ -29,24 +27,22 @@ use Rattle.image_fitness.specs.declared.Check.TheVariants.{Number, Order, Zero, 
 use Rattle.image_fitness.specs.declared.Stage.{Stage}
 use Rattle.image_fitness.specs.declared.Stage.TheVariants.{Memory, Line as LineStage, Relinking, Done}
 use Rattle.image_fitness.specs.declared.Place.{Place}
-use Rattle.image_faults.specs.declared.Told.{Told}
-use Rattle.image_faults.specs.declared.Told.TheVariants.{Fault as ToldFault, Nothing}
 use Rattle.image_fitness.specs.declared.Moved.{Moved}
 use Rattle.image_fitness.specs.declared.Moved.TheVariants.{Told as MovedTold, On, End}
-use Rattle.image_fitness.specs.declared.Found.TheVariants.{Fault as FoundFault, None as NoFault}
+use Rattle.image_fitness.specs.declared.Found.{Found}
 use Rattle.image_faults.specs.Faults.{memory_faults, relink_faults, number_faults, order_faults, zero_faults, length_faults, unmet, jump_faults, line_faults, lines_faults}
 use Rattle.image_marks.specs.Marks.{has_mark}
 use Rattle.image_faults.specs.ToldHelpers.{told_fault, LineIs, UnmetIs}
 use Rattle.image_fitness.specs.FaultHelpers.{rest_from, faults_by, check_faults, stage_faults, faults_at, place_ahead, moved_by, WalksOn, MovedIs, FaultIs}
-use Rattle.std.specs.Prelude.{Option, Some, Result, Ok, Err}
+use Rattle.std.specs.Prelude.{Option, Some, None, Result, Ok, Err}
 
 -- ---- what is led on
 
-module _ (told : Told) (q : Place) where
-  pub led_fault : {f : Fault} → told ≡ ToldFault f → MovedTold f q ≡ moved_by told q
+module _ (told : Option Fault) (q : Place) where
+  pub led_fault : {f : Fault} → told ≡ Some f → MovedTold (record { fault = f; place = q }) ≡ moved_by told q
   led_fault is = rw is
 
-  pub led_on : told ≡ Nothing → On q ≡ moved_by told q
+  pub led_on : told ≡ None → On q ≡ moved_by told q
   led_on is = rw is
 
 abbrev pub place_in : Stage → ℕ → ℕ → Place
@@ -77,13 +73,13 @@ module _ (has : ℕ → Bool) (s : List ℕ) (p : ℕ) where
       at_line c = ap (faults_by has s (check_faults has s least c)) is
 
 -- a fault is told, or not, and the walk goes on at a place that is nearer to the end
-moves : (has : ℕ → Bool) (s : List ℕ) (x q : Place) {X : List Fault} (t : Told) → faults_at has s x ≡ X ++ faults_at has s q → place_ahead s q < place_ahead s x
+moves : (has : ℕ → Bool) (s : List ℕ) (x q : Place) {X : List Fault} (t : Option Fault) → faults_at has s x ≡ X ++ faults_at has s q → place_ahead s q < place_ahead s x
     → told_fault t ≡ X → MovedIs has s x (moved_by t q)
-moves has s x q (ToldFault f) same near e = same ∙ ap (λ (fs : List Fault). fs ++ faults_at has s q) (sym e)
-moves has s x q Nothing same near e = record { same = same ∙ ap (λ (fs : List Fault). fs ++ faults_at has s q) (sym e); nearer = near }
+moves has s x q (Some f) same near e = same ∙ ap (λ (fs : List Fault). fs ++ faults_at has s q) (sym e)
+moves has s x q None same near e = record { same = same ∙ ap (λ (fs : List Fault). fs ++ faults_at has s q) (sym e); nearer = near }
 
 -- the same of a result and a place that are known to be these
-moved : (has : ℕ → Bool) (s : List ℕ) (x : Place) {q z : Place} {X : List Fault} (t : Told) {r : Moved} → r ≡ moved_by t z → z ≡ q → faults_at has s x ≡ X ++ faults_at has s q
+moved : (has : ℕ → Bool) (s : List ℕ) (x : Place) {q z : Place} {X : List Fault} (t : Option Fault) {r : Moved} → r ≡ moved_by t z → z ≡ q → faults_at has s x ≡ X ++ faults_at has s q
     → place_ahead s q < place_ahead s x → told_fault t ≡ X → MovedIs has s x r
 moved has s x {q} t is at same near e = subst (MovedIs has s x) (sym (is ∙ ap (moved_by t) at)) (moves has s x q t same near e)
 
@@ -97,7 +93,7 @@ module _ (marked s : List ℕ) (p least : ℕ) {l : Line} (here : LineIs s p l) 
       at_line (has_mark marked) s p least here c ∙ ap (λ (fs : List Fault). fs ++ rest_from (has_mark marked) s (l.number + 1) l.next) e ∙ append_assoc X (check_faults (has_mark marked) s least d l) (rest_from (has_mark marked) s (l.number + 1) l.next)
       ∙ ap (λ (fs : List Fault). X ++ fs) (sym (at_line (has_mark marked) s p least here d))
 
-  module _ (t : Told) {q : Place} (r : Moved) {check : Check} where
+  module _ (t : Option Fault) {q : Place} (r : Moved) {check : Check} where
     pub in_number : check ≡ Number → told_fault t ≡ number_faults l → q ≡ place_in (LineStage Order) p least → r ≡ moved_by t q
         → MovedIs (has_mark marked) s (place_in (LineStage check) p least) r
     unfolding check_faults line_faults
@@ -113,32 +109,32 @@ module _ (marked s : List ℕ) (p least : ℕ) {l : Line} (here : LineIs s p l) 
     unfolding check_faults
     in_zero is e at f = rw is (moved (has_mark marked) s (place_in (LineStage Zero) p least) t f at (leads Zero Length (zero_faults s l) refl) (omega arith) e)
 
-    pub in_length : check ≡ Length → {c : Cursor} → c ≡ record { at = 0; mode = Plain; listed = false; part = Empty } → told_fault t ≡ length_faults s l
+    pub in_length : check ≡ Length → {c : Cursor} → c ≡ record { at = 0; mode = Plain; listed = false; part = None } → told_fault t ≡ length_faults s l
         → q ≡ place_in (LineStage (Jumps c)) p least → r ≡ moved_by t q → MovedIs (has_mark marked) s (place_in (LineStage check) p least) r
     unfolding check_faults jump_faults
     in_length is {c} first e at f =
         rw is (moved (has_mark marked) s (place_in (LineStage Length) p least) t f at
         (leads Length (Jumps c) (length_faults s l)
         (ap (λ (ts : List ℕ). length_faults s l ++ map (NoTarget l.number) (unmet (has_mark marked) ts))
-        (sym (ap (left_of (body_of s l)) first ∙ left_text (body_of s l) (record { at = 0; mode = Plain; listed = false; part = Empty }) refl)))) (omega arith) e)
+        (sym (ap (left_of (body_of s l)) first ∙ left_text (body_of s l) (record { at = 0; mode = Plain; listed = false; part = None }) refl)))) (omega arith) e)
 
   pub in_jumps : (r : Moved) {check : Check} {c : Cursor} → check ≡ Jumps c → MovedIs (has_mark marked) s (place_in (LineStage (Jumps c)) p least) r → MovedIs (has_mark marked) s (place_in (LineStage check) p least) r
   in_jumps r is m = rw is m
 
-  module _ (c : Cursor) {n : Next} (u : UnmetIs (has_mark marked) (body_of s l) c n) where
-    pub jumps_told : {t : ℕ} {d : Cursor} {q : Place} → n ≡ Jump t d → q ≡ place_in (LineStage (Jumps d)) p least
-        → MovedIs (has_mark marked) s (place_in (LineStage (Jumps c)) p least) (MovedTold (NoTarget l.number t) q)
+  module _ (c : Cursor) {n : Option Jump} (u : UnmetIs (has_mark marked) (body_of s l) c n) where
+    pub jumps_told : {j : Jump} {q : Place} → n ≡ Some j → q ≡ place_in (LineStage (Jumps j.cursor)) p least
+        → MovedIs (has_mark marked) s (place_in (LineStage (Jumps c)) p least) (MovedTold (record { fault = NoTarget l.number j.target; place = q }))
     unfolding check_faults
-    jumps_told {t} {d} is at =
-        let w : unmet (has_mark marked) (left_of (body_of s l) c) ≡ t ∷ unmet (has_mark marked) (left_of (body_of s l) d) = subst (UnmetIs (has_mark marked) (body_of s l) c) is u in
-        rw at (leads (Jumps c) (Jumps d) (NoTarget l.number t ∷ []) (ap (map (NoTarget l.number)) w))
+    jumps_told {j} is at =
+        let w : unmet (has_mark marked) (left_of (body_of s l) c) ≡ j.target ∷ unmet (has_mark marked) (left_of (body_of s l) j.cursor) = subst (UnmetIs (has_mark marked) (body_of s l) c) is u in
+        rw at (leads (Jumps c) (Jumps j.cursor) (NoTarget l.number j.target ∷ []) (ap (map (NoTarget l.number)) w))
 
-    pub jumps_on_lem : {q : Place} → n ≡ None → q ≡ place_in (LineStage Number) l.next (l.number + 1)
+    pub jumps_on_lem : {q : Place} {k : ℕ} → n ≡ None → k ≡ l.number → q ≡ place_in (LineStage Number) l.next (k + 1)
         → MovedIs (has_mark marked) s (place_in (LineStage (Jumps c)) p least) (On q)
     unfolding check_faults
-    jumps_on_lem is at =
+    jumps_on_lem is number at =
         let w : unmet (has_mark marked) (left_of (body_of s l) c) ≡ [] = subst (UnmetIs (has_mark marked) (body_of s l) c) is u in
-        rw at (record {
+        rw (at, number) (record {
           same =
               at_line (has_mark marked) s p least here (Jumps c) ∙ ap (λ (ts : List ℕ). map (NoTarget l.number) ts ++ rest_from (has_mark marked) s (l.number + 1) l.next) w
               ∙ sym (rest_line (has_mark marked) s l.next (l.number + 1));
@@ -173,7 +169,7 @@ module _ (s : List ℕ) (p : ℕ) {r : Result (Option Line) Refusal} (e : answer
 -- ---- a stage
 
 module _ (marked s : List ℕ) (x : Place) where
-  pub step_memory : (t : Told) {q : Place} {r : Moved} → x.stage ≡ Memory → told_fault t ≡ memory_faults s
+  pub step_memory : (t : Option Fault) {q : Place} {r : Moved} → x.stage ≡ Memory → told_fault t ≡ memory_faults s
       → q ≡ place_in (LineStage Number) x.offset x.least → r ≡ moved_by t q → MovedIs (has_mark marked) s x r
   unfolding stage_faults
   step_memory t is e at f =
@@ -184,7 +180,7 @@ module _ (marked s : List ℕ) (x : Place) where
       → MovedIs (has_mark marked) s x r
   step_line r is m = subst (λ (g : Stage). MovedIs (has_mark marked) s (place_in g x.offset x.least) r) (sym is) m
 
-  pub step_relinking : (t : Told) {q : Place} {r : Moved} → x.stage ≡ Relinking → told_fault t ≡ relink_faults s
+  pub step_relinking : (t : Option Fault) {q : Place} {r : Moved} → x.stage ≡ Relinking → told_fault t ≡ relink_faults s
       → q ≡ place_in Done x.offset x.least → r ≡ moved_by t q → MovedIs (has_mark marked) s x r
   unfolding stage_faults
   step_relinking t is e at f = moved (has_mark marked) s x t f at (rw is (sym (append-nil (relink_faults s)))) (rw is (omega arith)) e
@@ -203,7 +199,7 @@ pub fault_start : (marked s : List ℕ) (x : Place) → FaultAhead marked s x x
 fault_start marked s x = record { gives = refl }
 
 module _ {marked s : List ℕ} {x₀ x : Place} (k : FaultAhead marked s x₀ x) {r : Moved} (m : MovedIs (has_mark marked) s x r) where
-  pub fault_told : {f : Fault} {q : Place} → r ≡ MovedTold f q → FaultIs (has_mark marked) s x₀ (FoundFault f q)
+  pub fault_told : {m : Found} → r ≡ MovedTold m → FaultIs (has_mark marked) s x₀ (Some m)
   fault_told is = k.gives ∙ subst (MovedIs (has_mark marked) s x) is m
 
   module _ {q : Place} (is : r ≡ On q) where
@@ -216,5 +212,5 @@ module _ {marked s : List ℕ} {x₀ x : Place} (k : FaultAhead marked s x₀ x)
     pub fault_turn : FaultAhead marked s x₀ q
     fault_turn = record { gives = k.gives ∙ onward.same }
 
-  pub fault_end : r ≡ End → FaultIs (has_mark marked) s x₀ NoFault
+  pub fault_end : r ≡ End → FaultIs (has_mark marked) s x₀ None
   fault_end is = k.gives ∙ subst (MovedIs (has_mark marked) s x) is m

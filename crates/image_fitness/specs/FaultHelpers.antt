@@ -14,12 +14,9 @@ use Rattle.image_fitness.specs.declared.Check.TheVariants.{Number, Order, Zero, 
 use Rattle.image_fitness.specs.declared.Stage.{Stage}
 use Rattle.image_fitness.specs.declared.Stage.TheVariants.{Memory, Line as LineStage, Relinking, Done}
 use Rattle.image_fitness.specs.declared.Place.{Place}
-use Rattle.image_faults.specs.declared.Told.{Told}
-use Rattle.image_faults.specs.declared.Told.TheVariants.{Fault as ToldFault, Nothing}
 use Rattle.image_fitness.specs.declared.Moved.{Moved}
 use Rattle.image_fitness.specs.declared.Moved.TheVariants.{Told as MovedTold, On, End}
-use Rattle.image_fitness.specs.declared.Found.{Found as NextFault}
-use Rattle.image_fitness.specs.declared.Found.TheVariants.{Fault as FoundFault, None as NoFault}
+use Rattle.image_fitness.specs.declared.Found.{Found}
 use Rattle.image_faults.specs.Faults.{memory_faults, relink_faults, order_faults, zero_faults, length_faults, unmet, jump_faults, line_faults, lines_faults}
 use Rattle.std.specs.Prelude.{Option, Some, None}
 
@@ -75,9 +72,9 @@ stages_left Done = 0
 abbrev pub place_ahead : List ℕ → Place → ℕ
 place_ahead s x = 8 * (length s - x.offset) + stages_left x.stage
 
-abbrev pub moved_by : Told → Place → Moved
-moved_by (ToldFault f) q = MovedTold f q
-moved_by Nothing q = On q
+abbrev pub moved_by : Option Fault → Place → Moved
+moved_by (Some f) q = MovedTold (record { fault = f; place = q })
+moved_by None q = On q
 
 -- no fault up to a place that is nearer to the end
 pub record WalksOn (has : ℕ → Bool) (s : List ℕ) (x q : Place) : Type 0 where
@@ -85,11 +82,11 @@ pub record WalksOn (has : ℕ → Bool) (s : List ℕ) (x q : Place) : Type 0 wh
   pub nearer : place_ahead s q < place_ahead s x
 
 abbrev pub MovedIs : (ℕ → Bool) → List ℕ → Place → Moved → Type 0
-MovedIs has s x (MovedTold f q) = faults_at has s x ≡ f ∷ faults_at has s q
+MovedIs has s x (MovedTold m) = faults_at has s x ≡ m.fault ∷ faults_at has s m.place
 MovedIs has s x (On q) = WalksOn has s x q
 MovedIs has s x End = faults_at has s x ≡ []
 
 -- the next fault, and what is left behind it
-abbrev pub FaultIs : (ℕ → Bool) → List ℕ → Place → NextFault → Type 0
-FaultIs has s x (FoundFault f q) = faults_at has s x ≡ f ∷ faults_at has s q
-FaultIs has s x NoFault = faults_at has s x ≡ []
+abbrev pub FaultIs : (ℕ → Bool) → List ℕ → Place → Option Found → Type 0
+FaultIs has s x (Some m) = faults_at has s x ≡ m.fault ∷ faults_at has s m.place
+FaultIs has s x None = faults_at has s x ≡ []

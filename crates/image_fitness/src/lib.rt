@@ -6,8 +6,8 @@ ghost use Rattle.image_marks.specs.Marks.{has_mark};
 ghost use Rattle.image_faults.specs.ToldHelpers.{LineIs};
 ghost use Rattle.image_fitness.specs.FaultHelpers.{moved_by, MovedIs, FaultIs};
 
-use image_faults::{Fault, Told};
-use image_jumps::{Cursor, Next};
+use image_faults::Fault;
+use image_jumps::Cursor;
 use image_readers::{Line, links};
 
 // What is looked at in a line, in this order.
@@ -37,16 +37,16 @@ pub struct Place {
     pub least: usize,
 }
 
-// What follows a place: a fault and the place behind it, or no fault.
+// A fault, and the place behind it.
 #[derive(Clone, Copy)]
-pub enum Found {
-    Fault { fault: Fault, place: Place },
-    None,
+pub struct Found {
+    pub fault: Fault,
+    pub place: Place,
 }
 
 #[derive(Clone, Copy)]
 enum Moved {
-    Told { fault: Fault, place: Place },
+    Told(Found),
     On(Place),
     End,
 }
@@ -63,26 +63,20 @@ pub fn first() -> Place
 }
 
 // The next fault from a place on, in an image whose lines' numbers are marked.
-pub fn next_fault(image: &[u8], marked: &[u8], place: Place) -> Found
+pub fn next_fault(image: &[u8], marked: &[u8], place: Place) -> Option<Found>
     ensures { FaultIs (has_mark marked.now) image.now place result }
 {
     let mut place = place;
     loop {
         match step(image, marked, place) {
-            Moved::Told {
-                fault,
-                place: behind,
-            } => {
-                return Found::Fault {
-                    fault,
-                    place: behind,
-                };
+            Moved::Told(found) => {
+                return Some(found);
             }
             Moved::On(behind) => {
                 place = behind;
             }
             Moved::End => {
-                return Found::None;
+                return None;
             }
         }
     }
@@ -115,8 +109,7 @@ fn line_step(image: &[u8], marked: &[u8], check: Check, offset: usize, least: us
 {
     match links::step(image, offset) {
         Ok(Some(line)) => in_line(image, marked, check, offset, least, line),
-        Ok(None) => Moved::On(at(Stage::Relinking, offset, least)),
-        Err(_) => Moved::On(at(Stage::Relinking, offset, least)),
+        Ok(None) | Err(_) => Moved::On(at(Stage::Relinking, offset, least)),
     }
 }
 
@@ -168,18 +161,20 @@ fn jumps_step(
     requires { LineIs image.now offset line }
     ensures { MovedIs (has_mark marked.now) image.now (record { stage = Stage.Line (Check.Jumps cursor); offset = offset; least = least }) result }
 {
-    let from = line.from;
-    let to = line.to;
     let number = line.number;
-    match image_faults::unmet_jump(&image[from..to], marked, cursor) {
-        Next::Jump {
-            target,
-            cursor: behind,
-        } => Moved::Told {
-            fault: Fault::NoTarget { number, target },
-            place: at(Stage::Line(Check::Jumps(behind)), offset, least),
-        },
-        Next::None => Moved::On(at(Stage::Line(Check::Number), line.next, number as usize + 1)),
+    match image_faults::unmet_jump(&image[line.from..line.to], marked, cursor) {
+        Some(jump) => Moved::Told(Found {
+            fault: Fault::NoTarget {
+                number,
+                target: jump.target,
+            },
+            place: at(Stage::Line(Check::Jumps(jump.cursor)), offset, least),
+        }),
+        None => Moved::On(at(
+            Stage::Line(Check::Number),
+            line.next,
+            usize::from(number) + 1,
+        )),
     }
 }
 
@@ -194,11 +189,11 @@ fn at(stage: Stage, offset: usize, least: usize) -> Place
 }
 
 // A fault and a place behind it, or that place.
-fn lead(told: Told, place: Place) -> Moved
-    ensures { result ≡ moved_by told place }
+fn lead(fault: Option<Fault>, place: Place) -> Moved
+    ensures { result ≡ moved_by fault place }
 {
-    match told {
-        Told::Fault(fault) => Moved::Told { fault, place },
-        Told::Nothing => Moved::On(place),
+    match fault {
+        Some(fault) => Moved::Told(Found { fault, place }),
+        None => Moved::On(place),
     }
 }

@@ -12,12 +12,12 @@ use Rattle.base_refusals.specs.declared.Refusal.{Refusal}
 use Rattle.image_readers.specs.declared.Line.{Line}
 use Rattle.image_readers.specs.Bodies.{body_of}
 use Rattle.image_readers.specs.Links.{link_step}
+use Rattle.image_readers.proofs.ByLinks.{link_sound}
+use Rattle.base_refusals.proofs.Tight.{told_back}
 use Rattle.image_marks.specs.Marks.{has_mark}
 use Rattle.image_units.specs.declared.Mode.TheVariants.{Plain}
-use Rattle.image_jumps.specs.declared.Part.TheVariants.{Empty}
 use Rattle.image_jumps.specs.declared.Cursor.{Cursor}
-use Rattle.image_jumps.specs.declared.Next.{Next}
-use Rattle.image_jumps.specs.declared.Next.TheVariants.{Jump, None}
+use Rattle.image_jumps.specs.declared.Jump.{Jump}
 use Rattle.image_jumps.specs.JumpHelpers.{left_of, distance, JumpsTo, NextIs}
 use Rattle.image_jumps.proofs.Stepping.{left_text}
 use Rattle.base_lent.specs.Stores.{Room, Put}
@@ -28,7 +28,7 @@ use Rattle.base_bits.proofs.Bytes.{AreBits, bits_are, are_both}
 use Rattle.base_bits.proofs.Pens.{drawn_both, ready_first, ready_behind, put_behind}
 use Rattle.image_index.specs.IndexHelpers.{found_from, Sound, low_jumps, pair_bits, line_bits, target_bit, target_bits, jump_bits, index_bits}
 use Rattle.image_index.proofs.Sounding.{SoundLine, sound_line, sound_end, sound_refused}
-use Rattle.std.specs.Prelude.{Option, Some, Result, Ok, Err}
+use Rattle.std.specs.Prelude.{Option, Some, None, Result, Ok, Err}
 use Rattle.base_refusals.specs.Answer.{answered}
 
 -- ---- bits that are left to write
@@ -104,10 +104,10 @@ module _ (marked : List ℕ) (place target : ℕ) where
 pub record PuttingBody (marked : List ℕ) (place : ℕ) (body out₀ : List ℕ) (pen₀ : Pen) (out : List ℕ) (pen : Pen) (c : Cursor) : Type 0 where
   pub owed : Owed out₀ pen₀ (target_bits marked place (low_jumps body)) out pen (target_bits marked place (left_of body c))
 
-pub body_start : {marked : List ℕ} {place : ℕ} {body out : List ℕ} {pen : Pen} {c : Cursor} → c ≡ record { at = 0; mode = Plain; listed = false; part = Empty }
+pub body_start : {marked : List ℕ} {place : ℕ} {body out : List ℕ} {pen : Pen} {c : Cursor} → c ≡ record { at = 0; mode = Plain; listed = false; part = None }
     → Ready out pen (target_bits marked place (low_jumps body)) → PuttingBody marked place body out pen out pen c
 body_start {marked} {place} {body} e r =
-    record { owed = owed_start (ap (λ (x : Cursor). target_bits marked place (left_of body x)) e ∙ ap (target_bits marked place) (left_text body (record { at = 0; mode = Plain; listed = false; part = Empty }) refl)) r }
+    record { owed = owed_start (ap (λ (x : Cursor). target_bits marked place (left_of body x)) e ∙ ap (target_bits marked place) (left_text body (record { at = 0; mode = Plain; listed = false; part = None }) refl)) r }
 
 targets_more : (marked : List ℕ) (place t : ℕ) (ts : List ℕ) → target_bits marked place (t ∷ ts) ≡ target_bit marked place t ++ target_bits marked place ts
 unfolding target_bits
@@ -118,22 +118,22 @@ unfolding target_bits
 targets_none marked place = refl
 
 module _ {marked : List ℕ} {place : ℕ} {body out₀ : List ℕ} {pen₀ : Pen} {out : List ℕ} {pen : Pen} {c : Cursor}
-    (k : PuttingBody marked place body out₀ pen₀ out pen c) {r : Next} (next : NextIs body c r) where
-  module _ {target : ℕ} {d : Cursor} (is : r ≡ Jump target d) where
-    jumped : JumpsTo body c target d
+    (k : PuttingBody marked place body out₀ pen₀ out pen c) {r : Option Jump} (next : NextIs body c r) where
+  module _ {j : Jump} (is : r ≡ Some j) where
+    jumped : JumpsTo body c j.target j.cursor
     jumped = subst (NextIs body c) is next
 
-    pub body_less : distance body d < distance body c
+    pub body_less : distance body j.cursor < distance body c
     body_less = jumped.nearer
 
-    here : target_bits marked place (left_of body c) ≡ target_bit marked place target ++ target_bits marked place (left_of body d)
-    here = ap (target_bits marked place) jumped.same ∙ targets_more marked place target (left_of body d)
+    here : target_bits marked place (left_of body c) ≡ target_bit marked place j.target ++ target_bits marked place (left_of body j.cursor)
+    here = ap (target_bits marked place) jumped.same ∙ targets_more marked place j.target (left_of body j.cursor)
 
-    pub body_ready : Ready out pen (target_bit marked place target)
-    body_ready = owed_first k.owed (target_bit marked place target) (target_bits marked place (left_of body d)) here
+    pub body_ready : Ready out pen (target_bit marked place j.target)
+    body_ready = owed_first k.owed (target_bit marked place j.target) (target_bits marked place (left_of body j.cursor)) here
 
-    pub body_turn : {q : Pen} {after : List ℕ} → record { pen = q; out = after } ≡ drawn out pen (target_bit marked place target) → PuttingBody marked place body out₀ pen₀ after q d
-    body_turn g = record { owed = owed_turn k.owed (target_bit marked place target) (target_bits marked place (left_of body d)) here (target_are marked place target) g }
+    pub body_turn : {q : Pen} {after : List ℕ} → record { pen = q; out = after } ≡ drawn out pen (target_bit marked place j.target) → PuttingBody marked place body out₀ pen₀ after q j.cursor
+    body_turn g = record { owed = owed_turn k.owed (target_bit marked place j.target) (target_bits marked place (left_of body j.cursor)) here (target_are marked place j.target) g }
 
   pub body_end_lem : r ≡ None → record { pen = pen; out = out } ≡ drawn out₀ pen₀ (target_bits marked place (low_jumps body))
   body_end_lem is = owed_end k.owed (ap (target_bits marked place) (subst (NextIs body c) is next) ∙ targets_none marked place)
@@ -174,15 +174,16 @@ module _ {s out₀ : List ℕ} {pen₀ : Pen} {out : List ℕ} {pen : Pen} {p : 
     pub line_less : length s - l.next < length s - p
     line_less = omega (arith, at.lies)
 
-    pub line_ready : Ready out pen (pair_bits 16 l.number (l.from - 4))
-    line_ready = owed_first k.owed (pair_bits 16 l.number (l.from - 4)) (line_bits (found_from s l.next)) line_here
+    module _ {n : ℕ} (number : n ≡ l.number) where
+      pub line_ready : Ready out pen (pair_bits 16 n (l.from - 4))
+      line_ready = rw number (owed_first k.owed (pair_bits 16 l.number (l.from - 4)) (line_bits (found_from s l.next)) line_here)
 
-    pub line_turn : {q : Pen} {after : List ℕ} → record { pen = q; out = after } ≡ drawn out pen (pair_bits 16 l.number (l.from - 4)) → PuttingLines s out₀ pen₀ after q l.next
-    line_turn g =
-        record {
-          sound = at.behind;
-          owed = owed_turn k.owed (pair_bits 16 l.number (l.from - 4)) (line_bits (found_from s l.next)) line_here (pair_are 16 l.number (l.from - 4)) g;
-        }
+      pub line_turn : {q : Pen} {after : List ℕ} → record { pen = q; out = after } ≡ drawn out pen (pair_bits 16 n (l.from - 4)) → PuttingLines s out₀ pen₀ after q l.next
+      line_turn g =
+          record {
+            sound = at.behind;
+            owed = owed_turn k.owed (pair_bits 16 l.number (l.from - 4)) (line_bits (found_from s l.next)) line_here (pair_are 16 l.number (l.from - 4)) (rw number at g);
+          }
 
   pub line_end : r ≡ Ok None → record { pen = pen; out = out } ≡ drawn out₀ pen₀ (line_bits (found_from s 2))
   line_end is = owed_end k.owed (ap line_bits (sound_end s p e k.sound is) ∙ lines_none)
@@ -227,8 +228,8 @@ module _ {marked s out₀ : List ℕ} {pen₀ : Pen} {out : List ℕ} {pen : Pen
     pub jumps_less : length s - l.next < length s - p
     jumps_less = omega (arith, found.lies)
 
-    pub place_fits : Fits w64 (length s) → Fits w64 (v + 1)
-    place_fits f = record { fits = omega (arith, k.few, found.lies, f.fits) }
+    pub place_fits : Fits w64 (v + 1)
+    place_fits = record { fits = omega (arith, k.few, found.lies, link_sound.not_too_long s p (told_back is e)) }
 
     pub jumps_ready : Ready out pen (target_bits marked (v + 1) (low_jumps (body_of s l)))
     jumps_ready = owed_first k.owed (target_bits marked (v + 1) (low_jumps (body_of s l))) (jump_bits marked s (v + 1) (found_from s l.next)) jumps_here

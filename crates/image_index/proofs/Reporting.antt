@@ -7,14 +7,12 @@ use mathlib.Core.List.{List, [], map, append-nil}
 use native.Mathlib.Omega.{arith}
 use lib.ListN.{length, replicate}
 use borrow.Author.Tests.{lt-ltb}
-use Rattle.base_refusals.specs.Numbers.{Numbered, too_many_lines, target_too_high, no_room}
+use Rattle.base_refusals.specs.Numbers.{Numbered, too_many_lines, no_room}
 use Rattle.base_refusals.specs.Answer.{done, refused, map_done, numbered, answered}
 use Rattle.base_refusals.specs.declared.Refusal.{Refusal}
 use Rattle.base_lent.specs.Lent.{Lent, into_buffer}
 use Rattle.base_lent.specs.Stores.{Room, Put, HasRoom}
 use Rattle.base_lent.proofs.Outcomes.{into_refused, into_none, into_done}
-use Rattle.image_readers.specs.declared.Checked.{Checked}
-use Rattle.image_readers.specs.declared.Checked.TheVariants.{Image, Refused as RefusedImage}
 use Rattle.image_readers.specs.IndexLines.{index_line, has_line}
 use Rattle.image_readers.specs.Lined.{Lined, lined_from}
 use Rattle.image_readers.specs.Lines.{overview}
@@ -28,10 +26,11 @@ use Rattle.base_bits.specs.PenHelpers.{Ready, drawn}
 use Rattle.base_bits.specs.declared.Pen.{Pen}
 use Rattle.base_bits.proofs.Bytes.{pack_length}
 use Rattle.base_bits.proofs.Pens.{ready_behind, put_behind}
-use Rattle.image_index.specs.declared.Counted.{Counted}
-use Rattle.image_index.specs.declared.Counted.TheVariants.{TooHigh, Jumps}
+use Rattle.base_refusals.specs.declared.Refusal.TheVariants.{TargetTooHigh}
+use Rattle.std.specs.Prelude.{Result, Ok, Err}
+use Rattle.image_readers.specs.declared.Overview.{Overview}
 use Rattle.image_index.specs.Index.{LineIndex, indexed, jump_fields, without_line, jump_report}
-use Rattle.image_index.specs.IndexHelpers.{found_from, low_targets, CountedIs, jump_bits, Faultless, NumbersMarked}
+use Rattle.image_index.specs.IndexHelpers.{found_from, low_targets, AtMost, CountedIs, jump_bits, Faultless, NumbersMarked}
 use Rattle.image_index.proofs.Putting.{jumps_are}
 use Rattle.image_index.proofs.Whole.{too_many, too_high, indexed_is, check_faultless, checked_refused}
 
@@ -75,11 +74,13 @@ module _ (out : List ℕ) {s : List ℕ} {n : ℕ} (k : Faultless s n) where
   report_many h = into_refused out (jump_report s) (ap (map_done length) (sym (report_refused s (too_many k h))))
 
   module _ {marked : List ℕ} (h : n ≤ 8191) (marks : NumbersMarked (map index_line (found_from s 2)) marked)
-      {r : Counted} (c : CountedIs marked 0 (low_targets s (found_from s 2)) 2097152 r) where
-    pub report_high : r ≡ TooHigh → ◌≡◌ {A = Lent} (record { answer = refused target_too_high; buffer = out }) (into_buffer (jump_report s) out)
-    report_high e = into_refused out (jump_report s) (ap (map_done length) (sym (report_refused s (too_high k c marks h e))))
+      {r : Result ℕ Refusal} (c : CountedIs marked 0 (low_targets s (found_from s 2)) 2097152 r) where
+    pub report_high : {f : Refusal} → r ≡ Err f → ◌≡◌ {A = Lent} (record { answer = refused (numbered f); buffer = out }) (into_buffer (jump_report s) out)
+    report_high {f} e =
+        let high : f ≡ TargetTooHigh = subst (AtMost 2097152) e c.few in
+        rw high (into_refused out (jump_report s) (ap (map_done length) (sym (report_refused s (too_high k c marks h (e ∙ ap Err high))))))
 
-    module _ {m : ℕ} (e : r ≡ Jumps m) where
+    module _ {m : ℕ} (e : r ≡ Ok m) where
       report_is : ReportIs s marked m
       unfolding packed
       report_is =
@@ -104,8 +105,8 @@ module _ (out : List ℕ) {s : List ℕ} {n : ℕ} (k : Faultless s n) where
 
 -- ---- from the check of an image
 
-module _ (s : List ℕ) {r : Checked} (e : answered r ≡ overview link_step s) where
-  pub check_marked : {load n : ℕ} {marked : List ℕ} → r ≡ Image load n → marked ≡ line_marks (replicate 65536 0) (lined_from link_step s 2).lines
+module _ (s : List ℕ) {r : Result Overview Refusal} (e : answered r ≡ overview link_step s) where
+  pub check_marked : {v : Overview} {marked : List ℕ} → r ≡ Ok v → marked ≡ line_marks (replicate 65536 0) (lined_from link_step s 2).lines
       → NumbersMarked (map index_line (found_from s 2)) marked
   check_marked is m =
       let lines = ap (λ (x : Lined). line_marks (replicate 65536 0) x.lines) (accepted link_sound s (check_faultless s e is).sound) in
@@ -114,6 +115,6 @@ module _ (s : List ℕ) {r : Checked} (e : answered r ≡ overview link_step s) 
             ap (λ (x : List ℕ). has_mark x t) (m ∙ lines) ∙ numbers_marked (found_from s 2) t ∙ ap (λ (b : Bool). b && has_line (map index_line (found_from s 2)) t) (lt-ltb t 65536 low);
       }
 
-  pub report_unread : (out : List ℕ) {f : Refusal} → r ≡ RefusedImage f
+  pub report_unread : (out : List ℕ) {f : Refusal} → r ≡ Err f
       → ◌≡◌ {A = Lent} (record { answer = refused (numbered f); buffer = out }) (into_buffer (jump_report s) out)
   report_unread out is = into_refused out (jump_report s) (ap (map_done length) (sym (report_refused s (checked_refused s e is))))

@@ -17,8 +17,6 @@ use Rattle.base_lent.specs.Lent.{Lent, into_buffer}
 use Rattle.base_lent.specs.Stores.{Room, Put, HasRoom}
 use Rattle.base_lent.proofs.Outcomes.{into_refused, into_none, into_done}
 use Rattle.image_readers.specs.declared.Line.{Line}
-use Rattle.image_readers.specs.declared.Checked.{Checked}
-use Rattle.image_readers.specs.declared.Checked.TheVariants.{Image, Refused as RefusedImage}
 use Rattle.image_readers.specs.Bodies.{body_of}
 use Rattle.image_readers.specs.Chain.{Leads}
 use Rattle.image_readers.specs.Lines.{lines_of, overview_of, overview}
@@ -31,9 +29,9 @@ use Rattle.image_marks.specs.Marks.{has_mark}
 use Rattle.image_jumps.specs.Jumps.{jumps_of, low}
 use Rattle.base_bits.specs.Bits.{Field, bits_of, field_bits, pack_from, packed}
 use Rattle.base_bits.proofs.Bytes.{length_bits, pack_length}
-use Rattle.image_index.specs.declared.Counted.{Counted}
-use Rattle.image_index.specs.declared.Counted.TheVariants.{TooHigh, Jumps}
+use Rattle.base_refusals.specs.declared.Refusal.TheVariants.{TargetTooHigh}
 use Rattle.image_readers.specs.IndexLines.{IndexLine, index_line, has_line}
+use Rattle.std.specs.Prelude.{Result, Ok, Err}
 use Rattle.image_index.specs.Index.{IndexJump, LineIndex, jump_to, jumps_in, any_too_high, index_lines, indexed, line_fields, jump_fields, index_fields, line_index, without_line}
 use Rattle.image_index.specs.IndexHelpers.{lines_listed, found_from, low_jumps, low_targets, targets_counted, AtMost, CountedIs, pair_bits, line_bits, target_bit, target_bits, jump_bits, index_bits, Faultless, NumbersMarked}
 
@@ -58,9 +56,9 @@ all_low_lem s v (l ∷ ls) =
 
 -- how many there are to numbers that no line has, and whether one is too high
 counts : {lines : List IndexLine} {marked : List ℕ} → NumbersMarked lines marked → (n : ℕ) (js : List IndexJump)
-    → targets_counted marked n (map target_low js) ≡ cond (any_too_high js) TooHigh (Jumps (n + length (without_line lines js)))
+    → targets_counted marked n (map target_low js) ≡ cond (any_too_high js) (Err TargetTooHigh) (Ok (n + length (without_line lines js)))
 unfolding targets_counted any_too_high target_low without_line
-counts k n [] = ap Jumps (omega arith)
+counts k n [] = ap Ok (omega arith)
 counts {lines} {marked} k n (j ∷ js) = go (ltb 65535 j.target) refl (λ (m : ℕ). counts k m js)
   where
     size : (b : Bool) → cond b n (n + 1) + length (without_line lines js) ≡ n + length {A = IndexJump} (elim b [ true ↦ without_line lines js | false ↦ j ∷ without_line lines js ])
@@ -68,17 +66,17 @@ counts {lines} {marked} k n (j ∷ js) = go (ltb 65535 j.target) refl (λ (m : �
     size false = omega arith
 
     turn : (b : Bool) → has_mark marked j.target ≡ b
-        → ((m : ℕ) → targets_counted marked m (map target_low js) ≡ cond (any_too_high js) TooHigh (Jumps (m + length (without_line lines js))))
+        → ((m : ℕ) → targets_counted marked m (map target_low js) ≡ cond (any_too_high js) (Err TargetTooHigh) (Ok (m + length (without_line lines js))))
         → targets_counted marked (cond (has_mark marked j.target) n (n + 1)) (map target_low js)
-        ≡ cond (any_too_high js) TooHigh (Jumps (n + length {A = IndexJump} (elim b [ true ↦ without_line lines js | false ↦ j ∷ without_line lines js ])))
+        ≡ cond (any_too_high js) (Err TargetTooHigh) (Ok (n + length {A = IndexJump} (elim b [ true ↦ without_line lines js | false ↦ j ∷ without_line lines js ])))
     turn b f ih =
         ap (λ (x : Bool). targets_counted marked (cond x n (n + 1)) (map target_low js)) f ∙ ih (cond b n (n + 1))
-        ∙ ap (λ (m : ℕ). cond (any_too_high js) TooHigh (Jumps m)) (size b)
+        ∙ ap (λ (m : ℕ). cond (any_too_high js) (Err TargetTooHigh) (Ok m)) (size b)
 
     go : (b : Bool) → ltb 65535 j.target ≡ b
-        → ((m : ℕ) → targets_counted marked m (map target_low js) ≡ cond (any_too_high js) TooHigh (Jumps (m + length (without_line lines js))))
-        → cond (ltb 65535 (low j.target)) TooHigh (targets_counted marked (cond (has_mark marked (low j.target)) n (n + 1)) (map target_low js))
-        ≡ cond (ltb 65535 j.target || any_too_high js) TooHigh (Jumps (n + length (without_line lines (j ∷ js))))
+        → ((m : ℕ) → targets_counted marked m (map target_low js) ≡ cond (any_too_high js) (Err TargetTooHigh) (Ok (m + length (without_line lines js))))
+        → cond (ltb 65535 (low j.target)) (Err TargetTooHigh) (targets_counted marked (cond (has_mark marked (low j.target)) n (n + 1)) (map target_low js))
+        ≡ cond (ltb 65535 j.target || any_too_high js) (Err TargetTooHigh) (Ok (n + length (without_line lines (j ∷ js))))
     go true e ih =
         let h : 65535 < low j.target = omega (arith, ltb-true 65535 j.target e) in
         simp (lt-ltb _ _ h, e)
@@ -207,40 +205,40 @@ module _ {s : List ℕ} {n : ℕ} (k : Faultless s n) where
       let many : index_lines s (found_from s 2) ≡ refused too_many_lines = simp (lt-ltb _ _ g) in
       read ∙ many
 
-  module _ {marked : List ℕ} {r : Counted} (c : CountedIs marked 0 (low_targets s (found_from s 2)) 2097152 r) where
-    pub jumps_few : {m : ℕ} → r ≡ Jumps m → m ≤ 2097152
+  module _ {marked : List ℕ} {r : Result ℕ Refusal} (c : CountedIs marked 0 (low_targets s (found_from s 2)) 2097152 r) where
+    pub jumps_few : {m : ℕ} → r ≡ Ok m → m ≤ 2097152
     jumps_few e = subst (AtMost 2097152) e c.few
 
-    pub mul_fits : {m : ℕ} → r ≡ Jumps m → Fits w64 (29 * m)
+    pub mul_fits : {m : ℕ} → r ≡ Ok m → Fits w64 (29 * m)
     mul_fits e = record { fits = omega (arith, jumps_few e) }
 
-    pub add_fits : {m : ℕ} → n ≤ 8191 → r ≡ Jumps m → Fits w64 (23 + 32 * n + 29 * m)
+    pub add_fits : {m : ℕ} → n ≤ 8191 → r ≡ Ok m → Fits w64 (23 + 32 * n + 29 * m)
     add_fits h e = record { fits = omega (arith, jumps_few e) }
 
-    pub report_fits : {m : ℕ} → r ≡ Jumps m → Fits w64 (7 + 29 * m)
+    pub report_fits : {m : ℕ} → r ≡ Ok m → Fits w64 (7 + 29 * m)
     report_fits e = record { fits = omega (arith, jumps_few e) }
 
     module _ {lines : List IndexLine} (marks : NumbersMarked lines marked) where
-      told_count : r ≡ cond (any_too_high (jumps_in s 0 (found_from s 2))) TooHigh (Jumps (0 + length (without_line lines (jumps_in s 0 (found_from s 2)))))
+      told_count : r ≡ cond (any_too_high (jumps_in s 0 (found_from s 2))) (Err TargetTooHigh) (Ok (0 + length (without_line lines (jumps_in s 0 (found_from s 2)))))
       told_count = c.is ∙ ap (targets_counted marked 0) (all_low_lem s 0 (found_from s 2)) ∙ counts marks 0 (jumps_in s 0 (found_from s 2))
 
-      pub too_high : n ≤ 8191 → r ≡ TooHigh → indexed s ≡ refused target_too_high
+      pub too_high : n ≤ 8191 → r ≡ (Err TargetTooHigh) → indexed s ≡ refused target_too_high
       too_high h e =
           let g : length (found_from s 2) ≤ 8191 = omega (arith, k.count) in
           let high : index_lines s (found_from s 2) ≡ refused target_too_high = simp (le-ltb _ _ g) (go (any_too_high (jumps_in s 0 (found_from s 2))) _ _ (sym e ∙ told_count)) in
           read ∙ high
         where
-          go : (b : Bool) (x : LineIndex) (m : ℕ) → TooHigh ≡ cond b TooHigh (Jumps m) → cond b (refused target_too_high) (done x) ≡ refused target_too_high
+          go : (b : Bool) (x : LineIndex) (m : ℕ) → (Err TargetTooHigh) ≡ cond b (Err TargetTooHigh) (Ok m) → cond b (refused target_too_high) (done x) ≡ refused target_too_high
           go true x m f = refl
           go false x m f = let z : ◌≡◌ {A = ℕ} 0 1 = cc in absurd (omega arith)
 
-      pub indexed_is : {m : ℕ} → n ≤ 8191 → r ≡ Jumps m → IndexedIs s lines marked m
+      pub indexed_is : {m : ℕ} → n ≤ 8191 → r ≡ Ok m → IndexedIs s lines marked m
       indexed_is {m} h e = go (any_too_high (jumps_in s 0 (found_from s 2))) refl (sym e ∙ told_count)
         where
           few : length (found_from s 2) ≤ 8191
           few = omega (arith, k.count)
 
-          go : (b : Bool) → any_too_high (jumps_in s 0 (found_from s 2)) ≡ b → Jumps m ≡ cond b TooHigh (Jumps (0 + length (without_line lines (jumps_in s 0 (found_from s 2))))) → IndexedIs s lines marked m
+          go : (b : Bool) → any_too_high (jumps_in s 0 (found_from s 2)) ≡ b → Ok m ≡ cond b (Err TargetTooHigh) (Ok (0 + length (without_line lines (jumps_in s 0 (found_from s 2))))) → IndexedIs s lines marked m
           go true f g = let z : ◌≡◌ {A = ℕ} 0 1 = cc in absurd (omega arith)
           go false f g =
               let size : m ≡ 0 + length (without_line lines (jumps_in s 0 (found_from s 2))) = cc in
@@ -248,7 +246,7 @@ module _ {s : List ℕ} {n : ℕ} (k : Faultless s n) where
               let lined : index_lines s (found_from s 2) ≡ done (record { lines = map index_line (found_from s 2); jumps = jumps_in s 0 (found_from s 2) }) = simp (le-ltb _ _ few, f) in
               record { is = read ∙ lined; bits = bits; size = ap length bits ∙ omega (arith, jumps_length (without_line lines (jumps_in s 0 (found_from s 2)))) }
 
-  pub index_is : {r : Counted} → CountedIs [] 0 (low_targets s (found_from s 2)) 2097152 r → {m : ℕ} → n ≤ 8191 → r ≡ Jumps m → IndexIs s n m
+  pub index_is : {r : Result ℕ Refusal} → CountedIs [] 0 (low_targets s (found_from s 2)) 2097152 r → {m : ℕ} → n ≤ 8191 → r ≡ Ok m → IndexIs s n m
   index_is c {m} h e =
       let k₂ : IndexedIs s [] [] m = indexed_is c none_marked h e in
       let number : length (map index_line (found_from s 2)) ≡ n = length-map (found_from s 2) index_line ∙ sym k.count in
@@ -273,11 +271,13 @@ module _ (out : List ℕ) {s : List ℕ} {n : ℕ} (k : Faultless s n) where
   pub answer_many : 8191 < n → ◌≡◌ {A = Lent} (record { answer = refused too_many_lines; buffer = out }) (into_buffer (line_index s) out)
   answer_many h = into_refused out (line_index s) (ap (map_done length) (sym (index_refused s (too_many k h))))
 
-  module _ (h : n ≤ 8191) {r : Counted} (c : CountedIs [] 0 (low_targets s (found_from s 2)) 2097152 r) where
-    pub answer_high : r ≡ TooHigh → ◌≡◌ {A = Lent} (record { answer = refused target_too_high; buffer = out }) (into_buffer (line_index s) out)
-    answer_high e = into_refused out (line_index s) (ap (map_done length) (sym (index_refused s (too_high k c none_marked h e))))
+  module _ (h : n ≤ 8191) {r : Result ℕ Refusal} (c : CountedIs [] 0 (low_targets s (found_from s 2)) 2097152 r) where
+    pub answer_high : {f : Refusal} → r ≡ Err f → ◌≡◌ {A = Lent} (record { answer = refused (numbered f); buffer = out }) (into_buffer (line_index s) out)
+    answer_high {f} e =
+        let high : f ≡ TargetTooHigh = subst (AtMost 2097152) e c.few in
+        rw high (into_refused out (line_index s) (ap (map_done length) (sym (index_refused s (too_high k c none_marked h (e ∙ ap Err high))))))
 
-    module _ {m : ℕ} (e : r ≡ Jumps m) where
+    module _ {m : ℕ} (e : r ≡ Ok m) where
       needed : done ((23 + 32 * n + 29 * m) / 8) ≡ map_done length (line_index s)
       needed = ap done (sym (index_is k c h e).long) ∙ ap (map_done length) (sym (index_is k c h e).is)
 
@@ -294,16 +294,16 @@ module _ (out : List ℕ) {s : List ℕ} {n : ℕ} (k : Faultless s n) where
 
 -- ---- from the check of an image
 
-module _ (s : List ℕ) {r : Checked} (e : answered r ≡ overview link_step s) where
-  pub check_faultless : {load n : ℕ} → r ≡ Image load n → Faultless s n
-  check_faultless {load} {n} is = go (lines_of link_step s) refl
+module _ (s : List ℕ) {r : Result Overview Refusal} (e : answered r ≡ overview link_step s) where
+  pub check_faultless : {v : Overview} → r ≡ Ok v → Faultless s v.lines
+  check_faultless {v} is = go (lines_of link_step s) refl
     where
-      seen : overview link_step s ≡ done (record { load = load; lines = n })
+      seen : overview link_step s ≡ done v
       seen = told_back is e
 
-      go : (a : Answer (List Line)) → lines_of link_step s ≡ a → Faultless s n
+      go : (a : Answer (List Line)) → lines_of link_step s ≡ a → Faultless s v.lines
       go (done ls) f =
-          let w : done (record { load = load; lines = n }) ≡ done (overview_of s ls) = sym seen ∙ overview_lines link_step s f in
+          let w : done v ≡ done (overview_of s ls) = sym seen ∙ overview_lines link_step s f in
           let k = subst (Leads link_step s 2) f (lines_lead link_sound s 2) in
           record {
             sound = f ∙ ap (λ (a : Answer (List Line)). done (lines_listed a)) (sym f);
@@ -312,14 +312,14 @@ module _ (s : List ℕ) {r : Checked} (e : answered r ≡ overview link_step s) 
             long = link_sound.not_too_long s k.0 k.2;
           }
         where
-          lines_told : (ls : List Line) → ◌≡◌ {A = Answer Overview} (done (record { load = load; lines = n })) (done (overview_of s ls)) → n ≡ length ls
-          lines_told ls w = let same : ◌≡◌ {A = Overview} (record { load = load; lines = n }) (overview_of s ls) = cc in ap (λ (o : Overview). o.lines) same
+          lines_told : (ls : List Line) → ◌≡◌ {A = Answer Overview} (done v) (done (overview_of s ls)) → v.lines ≡ length ls
+          lines_told ls w = let same : ◌≡◌ {A = Overview} v (overview_of s ls) = cc in ap (λ (o : Overview). o.lines) same
       go (refused m) f =
           let w : overview link_step s ≡ refused m = overview_refused link_step s f in
           let z : ◌≡◌ {A = ℕ} 0 1 = cc in
           absurd (omega arith)
 
-  pub checked_refused : {f : Refusal} → r ≡ RefusedImage f → indexed s ≡ refused (numbered f)
+  pub checked_refused : {f : Refusal} → r ≡ Err f → indexed s ≡ refused (numbered f)
   unfolding indexed
   checked_refused {f} is = ap (λ (a : Answer (List Line)). and_then a (index_lines s)) (go (lines_of link_step s) refl)
     where
@@ -335,5 +335,5 @@ module _ (s : List ℕ) {r : Checked} (e : answered r ≡ overview link_step s) 
           let same : m ≡ numbered f = cc in
           g ∙ ap refused same
 
-  pub check_refused : (out : List ℕ) {f : Refusal} → r ≡ RefusedImage f → ◌≡◌ {A = Lent} (record { answer = refused (numbered f); buffer = out }) (into_buffer (line_index s) out)
+  pub check_refused : (out : List ℕ) {f : Refusal} → r ≡ Err f → ◌≡◌ {A = Lent} (record { answer = refused (numbered f); buffer = out }) (into_buffer (line_index s) out)
   check_refused out is = into_refused out (line_index s) (ap (map_done length) (sym (index_refused s (checked_refused is))))

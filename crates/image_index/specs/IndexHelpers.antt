@@ -1,7 +1,7 @@
 -- What the contracts of the passes over an image say. Targets are cut, as the steps over a body tell them. The report leaves
 -- out the jumps to marked numbers; the index leaves out none, since nothing is marked.
 -- Assumes nothing.
-use Rattle.std.specs.Prelude.{ℕ, ◌+◌, ◌-◌, ◌≤◌, ◌≡◌, cond, List, [], ◌∷◌, ◌++◌, map, ltb, length}
+use Rattle.std.specs.Prelude.{ℕ, Result, Ok, Err, ◌+◌, ◌-◌, ◌≤◌, ◌≡◌, cond, List, [], ◌∷◌, ◌++◌, map, ltb, length}
 use Rattle.base_refusals.specs.Answer.{Answer, done, refused}
 use Rattle.image_readers.specs.declared.Line.{Line}
 use Rattle.image_readers.specs.Bodies.{body_of}
@@ -11,8 +11,8 @@ use Rattle.image_marks.specs.Marks.{has_mark}
 use Rattle.image_jumps.specs.Jumps.{jumps_from, jumps_of, low}
 use Rattle.base_bits.specs.Bits.{bits_of}
 use Rattle.image_readers.specs.IndexLines.{IndexLine, has_line}
-use Rattle.image_index.specs.declared.Counted.{Counted}
-use Rattle.image_index.specs.declared.Counted.TheVariants.{TooHigh, Jumps}
+use Rattle.base_refusals.specs.declared.Refusal.{Refusal}
+use Rattle.base_refusals.specs.declared.Refusal.TheVariants.{TargetTooHigh}
 
 -- the lines from p on, and none where there is a fault
 abbrev pub lines_listed : Answer (List Line) → List Line
@@ -41,16 +41,16 @@ pub record NumbersMarked (lines : List IndexLine) (marked : List ℕ) : Type 0 w
   pub tells : (t : ℕ) → t ≤ 65535 → has_mark marked t ≡ has_line lines t
 
 -- how many of the targets are not marked, behind n of them, unless one is too high
-unfoldable pub targets_counted : List ℕ → ℕ → List ℕ → Counted
-targets_counted marked n [] = Jumps n
-targets_counted marked n (t ∷ ts) = cond (ltb 65535 t) TooHigh (targets_counted marked (cond (has_mark marked t) n (n + 1)) ts)
+unfoldable pub targets_counted : List ℕ → ℕ → List ℕ → Result ℕ Refusal
+targets_counted marked n [] = Ok n
+targets_counted marked n (t ∷ ts) = cond (ltb 65535 t) (Err TargetTooHigh) (targets_counted marked (cond (has_mark marked t) n (n + 1)) ts)
 
--- so many, and no more than a count
-abbrev pub AtMost : ℕ → Counted → Type 0
-AtMost most TooHigh = Unit {0}
-AtMost most (Jumps n) = n ≤ most
+-- so many, and no more than a count; no other refusal
+abbrev pub AtMost : ℕ → Result ℕ Refusal → Type 0
+AtMost most (Ok n) = n ≤ most
+AtMost most (Err f) = f ≡ TargetTooHigh
 
-pub record CountedIs (marked : List ℕ) (n : ℕ) (ts : List ℕ) (most : ℕ) (r : Counted) : Type 0 where
+pub record CountedIs (marked : List ℕ) (n : ℕ) (ts : List ℕ) (most : ℕ) (r : Result ℕ Refusal) : Type 0 where
   pub is : r ≡ targets_counted marked n ts
   pub few : AtMost most r
 

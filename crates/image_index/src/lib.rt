@@ -12,24 +12,14 @@ ghost use Rattle.image_index.specs.IndexHelpers.{Sound, found_from, low_jumps, l
 
 use base_bits::Pen;
 use base_refusals::Refusal;
-use image_jumps::Next;
-use image_readers::{Overview, links};
-
-// How many jumps there are, unless a target is above 65535.
-#[derive(Clone, Copy)]
-pub enum Counted {
-    TooHigh,
-    Jumps(usize),
-}
+use image_readers::links;
 
 // Stores the index of an image at the start of a buffer, and answers how long it is.
 pub fn write_index(image: &[u8], out: &mut [u8]) -> Result<usize, Refusal>
     ensures { left result out.new ≡ into_buffer (line_index image.now) out.old }
 {
-    match links::check(image) {
-        Ok(Overview { load: _, lines }) => index_lines(image, out, lines),
-        Err(refusal) => Err(refusal),
-    }
+    let overview = links::check(image)?;
+    index_lines(image, out, overview.lines)
 }
 
 // The same for an image without a fault, of so many lines.
@@ -40,16 +30,12 @@ fn index_lines(image: &[u8], out: &mut [u8], lines: usize) -> Result<usize, Refu
     if lines > 8191 {
         return Err(Refusal::TooManyLines);
     }
-    match count_jumps(image, &image[..0]) {
-        Counted::TooHigh => Err(Refusal::TargetTooHigh),
-        Counted::Jumps(jumps) => {
-            let needed = (23 + 32 * lines + 29 * jumps) / 8;
-            if needed > out.len() {
-                return Err(Refusal::NoRoom { needed });
-            }
-            Ok(put_index(out, image, lines))
-        }
+    let jumps = count_jumps(image, &[])?;
+    let needed = (23 + 32 * lines + 29 * jumps) / 8;
+    if needed > out.len() {
+        return Err(Refusal::NoRoom { needed });
     }
+    Ok(put_index(out, image, lines))
 }
 
 // Stores the index in a buffer that has the room. No number is marked.
@@ -59,7 +45,7 @@ fn put_index(out: &mut [u8], image: &[u8], lines: usize) -> usize
 {
     let first = base_bits::put_field(out, base_bits::new_pen(), 16, lines);
     let second = put_lines(out, first, image);
-    let third = put_jumps(out, second, image, &image[..0]);
+    let third = put_jumps(out, second, image, &[]);
     base_bits::finish(out, third)
 }
 
@@ -67,14 +53,10 @@ fn put_index(out: &mut [u8], image: &[u8], lines: usize) -> usize
 pub fn write_report(image: &[u8], out: &mut [u8]) -> Result<usize, Refusal>
     ensures { left result out.new ≡ into_buffer (jump_report image.now) out.old }
 {
-    match links::check(image) {
-        Ok(Overview { load: _, lines }) => {
-            let mut marked = [0u8; 65536];
-            image_marks::mark_numbers(image, &mut marked);
-            report_lines(image, out, lines, &marked)
-        }
-        Err(refusal) => Err(refusal),
-    }
+    let overview = links::check(image)?;
+    let mut marked = [0u8; 65536];
+    image_marks::mark_numbers(image, &mut marked);
+    report_lines(image, out, overview.lines, &marked)
 }
 
 // The report on an image without a fault, of so many lines, whose numbers are marked.
@@ -85,16 +67,12 @@ fn report_lines(image: &[u8], out: &mut [u8], lines: usize, marked: &[u8]) -> Re
     if lines > 8191 {
         return Err(Refusal::TooManyLines);
     }
-    match count_jumps(image, marked) {
-        Counted::TooHigh => Err(Refusal::TargetTooHigh),
-        Counted::Jumps(jumps) => {
-            let needed = (7 + 29 * jumps) / 8;
-            if needed > out.len() {
-                return Err(Refusal::NoRoom { needed });
-            }
-            Ok(put_report(out, image, marked))
-        }
+    let jumps = count_jumps(image, marked)?;
+    let needed = (7 + 29 * jumps) / 8;
+    if needed > out.len() {
+        return Err(Refusal::NoRoom { needed });
     }
+    Ok(put_report(out, image, marked))
 }
 
 // Stores the report in a buffer that has the room.
@@ -107,64 +85,37 @@ fn put_report(out: &mut [u8], image: &[u8], marked: &[u8]) -> usize
 }
 
 // The jumps of a body to numbers that are not marked, behind n of them.
-fn count_body(body: &[u8], marked: &[u8], n: usize) -> Counted
+fn count_body(body: &[u8], marked: &[u8], n: usize) -> Result<usize, Refusal>
     requires { (n ≤ 4294967296) × (length body.now ≤ 1048576) }
     ensures { CountedIs marked.now n (low_jumps body.now) (n + 2 * length body.now) result }
 {
     let mut cursor = image_jumps::first();
     let mut n = n;
-    loop {
-        match image_jumps::next_jump(body, cursor) {
-            Next::Jump {
-                target,
-                cursor: behind,
-            } => {
-                if target > 65535 {
-                    return Counted::TooHigh;
-                }
-                if !image_marks::has_mark(marked, target) {
-                    n += 1;
-                }
-                cursor = behind;
-            }
-            Next::None => {
-                return Counted::Jumps(n);
-            }
+    while let Some(jump) = image_jumps::next_jump(body, cursor) {
+        if jump.target > 65535 {
+            return Err(Refusal::TargetTooHigh);
         }
+        if !image_marks::has_mark(marked, jump.target) {
+            n += 1;
+        }
+        cursor = jump.cursor;
     }
+    Ok(n)
 }
 
 // The jumps of an image without a fault, to numbers that are not marked.
-fn count_jumps(image: &[u8], marked: &[u8]) -> Counted
+fn count_jumps(image: &[u8], marked: &[u8]) -> Result<usize, Refusal>
     requires { Sound image.now 2 × (2 ≤ length image.now) × (length image.now ≤ 1048576) }
     ensures { CountedIs marked.now 0 (low_targets image.now (found_from image.now 2)) 2097152 result }
 {
     let mut offset: usize = 2;
     let mut n: usize = 0;
-    loop {
-        match links::step(image, offset) {
-            Ok(Some(line)) => {
-                let from = line.from;
-                let to = line.to;
-                match count_body(&image[from..to], marked, n) {
-                    Counted::TooHigh => {
-                        return Counted::TooHigh;
-                    }
-                    Counted::Jumps(m) => {
-                        n = m;
-                    }
-                }
-                offset = line.next;
-            }
-            Ok(None) => {
-                return Counted::Jumps(n);
-            }
-            // An image without a fault is refused nowhere.
-            Err(_) => {
-                return Counted::Jumps(n);
-            }
-        }
+    // An image without a fault is refused nowhere, here and below.
+    while let Ok(Some(line)) = links::step(image, offset) {
+        n = count_body(&image[line.from..line.to], marked, n)?;
+        offset = line.next;
     }
+    Ok(n)
 }
 
 // Two fields, the second of 16 bits.
@@ -183,23 +134,11 @@ fn put_lines(out: &mut [u8], pen: Pen, image: &[u8]) -> Pen
 {
     let mut pen = pen;
     let mut offset: usize = 2;
-    loop {
-        match links::step(image, offset) {
-            Ok(Some(line)) => {
-                let number = line.number as usize;
-                let from = line.from;
-                offset = line.next;
-                pen = put_pair(out, pen, 16, number, from - 4);
-            }
-            Ok(None) => {
-                return pen;
-            }
-            // An image without a fault is refused nowhere.
-            Err(_) => {
-                return pen;
-            }
-        }
+    while let Ok(Some(line)) = links::step(image, offset) {
+        pen = put_pair(out, pen, 16, usize::from(line.number), line.from - 4);
+        offset = line.next;
     }
+    pen
 }
 
 // A jump, unless its target is marked.
@@ -208,9 +147,10 @@ fn put_jump(out: &mut [u8], pen: Pen, place: usize, target: usize, marked: &[u8]
     ensures { record { pen = result; out = out.new } ≡ drawn out.old pen (target_bit marked.now place target) }
 {
     if image_marks::has_mark(marked, target) {
-        return pen;
+        pen
+    } else {
+        put_pair(out, pen, 13, place, target)
     }
-    put_pair(out, pen, 13, place, target)
 }
 
 // The jumps of a body.
@@ -220,20 +160,11 @@ fn put_body(out: &mut [u8], pen: Pen, place: usize, body: &[u8], marked: &[u8]) 
 {
     let mut pen = pen;
     let mut cursor = image_jumps::first();
-    loop {
-        match image_jumps::next_jump(body, cursor) {
-            Next::Jump {
-                target,
-                cursor: behind,
-            } => {
-                cursor = behind;
-                pen = put_jump(out, pen, place, target, marked);
-            }
-            Next::None => {
-                return pen;
-            }
-        }
+    while let Some(jump) = image_jumps::next_jump(body, cursor) {
+        pen = put_jump(out, pen, place, jump.target, marked);
+        cursor = jump.cursor;
     }
+    pen
 }
 
 // The jumps of an image without a fault.
@@ -244,22 +175,10 @@ fn put_jumps(out: &mut [u8], pen: Pen, image: &[u8], marked: &[u8]) -> Pen
     let mut pen = pen;
     let mut offset: usize = 2;
     let mut place: usize = 0;
-    loop {
-        match links::step(image, offset) {
-            Ok(Some(line)) => {
-                let from = line.from;
-                let to = line.to;
-                place += 1;
-                offset = line.next;
-                pen = put_body(out, pen, place, &image[from..to], marked);
-            }
-            Ok(None) => {
-                return pen;
-            }
-            // An image without a fault is refused nowhere.
-            Err(_) => {
-                return pen;
-            }
-        }
+    while let Ok(Some(line)) = links::step(image, offset) {
+        place += 1;
+        pen = put_body(out, pen, place, &image[line.from..line.to], marked);
+        offset = line.next;
     }
+    pen
 }

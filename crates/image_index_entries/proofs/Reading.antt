@@ -13,9 +13,9 @@ use borrow.Author.Tests.{eq-eqb, ne_eqb}
 use Rattle.base_bits.specs.Bits.{bits_of, bytes_bits, number_from, field_at}
 use Rattle.base_bits.proofs.Bytes.{length_bits}
 use Rattle.base_bits.proofs.Reading.{number_bits}
-use Rattle.image_index_entries.specs.declared.Held.{Held}
-use Rattle.image_index_entries.specs.declared.Held.TheVariants.{Nothing, Numbers}
-use Rattle.image_index_entries.specs.Entries.{Two, two_at, line_of, pairs_read, count_held, line_pairs, jump_pairs, entry_in, first_line, look_up}
+use Rattle.std.specs.Prelude.{Option, None}
+use Rattle.image_index_entries.specs.declared.Numbers.{Numbers}
+use Rattle.image_index_entries.specs.Entries.{Two, two_at, line_of, pairs_read, count_held, line_pairs, jump_pairs, numbers, entry_in, first_line, look_up}
 
 -- ---- behind whole bytes
 
@@ -69,26 +69,26 @@ word_is x at {r} {s} h e f g k =
 -- ---- the pair at a place
 
 entry_at : (width : ℕ) (x : List ℕ) (n at k : ℕ) → k < n
-    → entry_in (pairs_read width x at n) (suc k) ≡ Numbers (field_at x (at + k * (width + 16)) width) (field_at x (at + k * (width + 16) + width) 16)
+    → entry_in (pairs_read width x at n) (suc k) ≡ numbers (field_at x (at + k * (width + 16)) width) (field_at x (at + k * (width + 16) + width) 16)
 unfolding pairs_read entry_in
 entry_at width x zero at k h = absurd (omega arith)
 entry_at width x (suc n) at zero h =
     let here : at ≡ at + 0 * (width + 16) = omega arith in
-    ap (λ (m : ℕ). Numbers (field_at x m width) (field_at x (m + width) 16)) here
+    ap (λ (m : ℕ). numbers (field_at x m width) (field_at x (m + width) 16)) here
 entry_at width x (suc n) at (suc k) h =
     let other : suc (suc k) ≡ 1 → ⊥ = λ e. omega arith in
     let far : at + (width + 16) + k * (width + 16) ≡ at + suc k * (width + 16) = omega (arith, suc-mul k (width + 16)) in
     simp (ne_eqb _ _ other) (ap (entry_in (pairs_read width x (at + (width + 16)) n)) (omega arith) ∙ entry_at width x n (at + (width + 16)) k (omega arith)
-    ∙ ap (λ (m : ℕ). Numbers (field_at x m width) (field_at x (m + width) 16)) far)
+    ∙ ap (λ (m : ℕ). numbers (field_at x m width) (field_at x (m + width) 16)) far)
 
-pub entry_none : (ts : List Two) (place : ℕ) → place ≡ 0 → Nothing ≡ entry_in ts place
+pub entry_none : (ts : List Two) (place : ℕ) → place ≡ 0 → None ≡ entry_in ts place
 unfolding entry_in
 entry_none [] place e = refl
 entry_none (t ∷ ts) place e =
     let other : place ≡ 1 → ⊥ = λ f. omega arith in
     simp (ne_eqb _ _ other) (entry_none ts (place - 1) (omega arith))
 
-entry_beyond : (width : ℕ) (x : List ℕ) (n at place : ℕ) → n < place → Nothing ≡ entry_in (pairs_read width x at n) place
+entry_beyond : (width : ℕ) (x : List ℕ) (n at place : ℕ) → n < place → None ≡ entry_in (pairs_read width x at n) place
 unfolding pairs_read entry_in
 entry_beyond width x zero at place h = refl
 entry_beyond width x (suc n) at place h =
@@ -99,19 +99,19 @@ entry_beyond width x (suc n) at place h =
 
 module _ (x : List ℕ) where
   module _ {r : ℕ} (e : r ≡ min (count_held x) ((8 * length x - 16) / 32)) (place : ℕ) where
-    pub line_beyond : r < place → Nothing ≡ entry_in (line_pairs x) place
+    pub line_beyond : r < place → None ≡ entry_in (line_pairs x) place
     unfolding line_pairs
     line_beyond h = entry_beyond 16 x (min (count_held x) ((8 * length x - 16) / 32)) 16 place (omega arith)
 
     pub line_there : {a b : ℕ} → a ≡ field_at x (8 * (4 * place - 2)) 16 → b ≡ field_at x (8 * (4 * place)) 16 → place ≤ r → (place ≡ 0 → ⊥)
-        → Numbers a b ≡ entry_in (line_pairs x) place
+        → numbers a b ≡ entry_in (line_pairs x) place
     unfolding line_pairs
     line_there {a} {b} f g h z =
         let here : place ≡ suc (place - 1) = omega (arith, z) in
         let first : 16 + (place - 1) * (16 + 16) ≡ 8 * (4 * place - 2) = omega arith in
         let second : 16 + (place - 1) * (16 + 16) + 16 ≡ 8 * (4 * place) = omega arith in
-        ap (λ (n : ℕ). Numbers n b) (f ∙ ap (λ (n : ℕ). field_at x n 16) (sym first))
-        ∙ ap (Numbers (field_at x (16 + (place - 1) * (16 + 16)) 16)) (g ∙ ap (λ (n : ℕ). field_at x n 16) (sym second))
+        ap (λ (n : ℕ). numbers n b) (f ∙ ap (λ (n : ℕ). field_at x n 16) (sym first))
+        ∙ ap (numbers (field_at x (16 + (place - 1) * (16 + 16)) 16)) (g ∙ ap (λ (n : ℕ). field_at x n 16) (sym second))
         ∙ sym (entry_at 16 x (min (count_held x) ((8 * length x - 16) / 32)) 16 (place - 1) (omega arith))
         ∙ ap (entry_in (pairs_read 16 x 16 (min (count_held x) ((8 * length x - 16) / 32)))) (sym here)
 
@@ -127,7 +127,7 @@ pub part_long : (x : List ℕ) (d : ℕ) → length (part x d) ≡ length x - d
 part_long x d = ap length (part_is x d) ∙ length-drop d x
 
 module _ (x : List ℕ) (place : ℕ) where
-  pub packed_beyond : 8 * (length x / 29) + 8 * (length x % 29) / 29 < place → Nothing ≡ entry_in (pairs_read 13 x 0 (8 * length x / 29)) place
+  pub packed_beyond : 8 * (length x / 29) + 8 * (length x % 29) / 29 < place → None ≡ entry_in (pairs_read 13 x 0 (8 * length x / 29)) place
   packed_beyond h = entry_beyond 13 x (8 * length x / 29) 0 place (omega arith)
 
   -- where the eight jumps begin that it is one of, and its own offset there
@@ -138,32 +138,32 @@ module _ (x : List ℕ) (place : ℕ) where
   within = 29 * ((place - 1) % 8)
 
   pub packed_there : {a b : ℕ} → a ≡ field_at (part x group) within 13 → b ≡ field_at (part x group) (within + 13) 16
-      → place ≤ 8 * (length x / 29) + 8 * (length x % 29) / 29 → (place ≡ 0 → ⊥) → Numbers a b ≡ entry_in (pairs_read 13 x 0 (8 * length x / 29)) place
+      → place ≤ 8 * (length x / 29) + 8 * (length x % 29) / 29 → (place ≡ 0 → ⊥) → numbers a b ≡ entry_in (pairs_read 13 x 0 (8 * length x / 29)) place
   packed_there {a} {b} f g h z =
       let here : place ≡ suc (place - 1) = omega (arith, z) in
       let first : 8 * group + within ≡ 0 + (place - 1) * (13 + 16) = omega arith in
       let second : 8 * group + (within + 13) ≡ 0 + (place - 1) * (13 + 16) + 13 = omega arith in
-      ap (λ (n : ℕ). Numbers n b) (f ∙ moved within 13 ∙ ap (λ (n : ℕ). field_at x n 13) first)
-      ∙ ap (Numbers (field_at x (0 + (place - 1) * (13 + 16)) 13)) (g ∙ moved (within + 13) 16 ∙ ap (λ (n : ℕ). field_at x n 16) second)
+      ap (λ (n : ℕ). numbers n b) (f ∙ moved within 13 ∙ ap (λ (n : ℕ). field_at x n 13) first)
+      ∙ ap (numbers (field_at x (0 + (place - 1) * (13 + 16)) 13)) (g ∙ moved (within + 13) 16 ∙ ap (λ (n : ℕ). field_at x n 16) second)
       ∙ sym (entry_at 13 x (8 * length x / 29) 0 (place - 1) (omega arith)) ∙ ap (entry_in (pairs_read 13 x 0 (8 * length x / 29))) (sym here)
     where
       moved : (at width : ℕ) → field_at (part x group) at width ≡ field_at x (8 * group + at) width
       moved at width = ap (λ (y : List ℕ). field_at y at width) (part_is x group) ∙ field_drop group x at width
 
-  no_pairs : (at n : ℕ) → n ≡ 0 → Nothing ≡ entry_in (pairs_read 13 x at n) place
+  no_pairs : (at n : ℕ) → n ≡ 0 → None ≡ entry_in (pairs_read 13 x at n) place
   unfolding pairs_read entry_in
   no_pairs at n e = ap (λ (m : ℕ). entry_in (pairs_read 13 x at m) place) (sym e)
 
-  pub jump_short : length x < 2 → Nothing ≡ entry_in (jump_pairs x) place
+  pub jump_short : length x < 2 → None ≡ entry_in (jump_pairs x) place
   unfolding jump_pairs
   jump_short h = no_pairs (16 + 32 * count_held x) ((8 * length x - (16 + 32 * count_held x)) / 29) (omega arith)
 
   module _ {r : ℕ} (e : r ≡ field_at x (8 * 0) 16) where
-    pub jump_none : length x < 2 + 4 * r → Nothing ≡ entry_in (jump_pairs x) place
+    pub jump_none : length x < 2 + 4 * r → None ≡ entry_in (jump_pairs x) place
     unfolding jump_pairs
     jump_none h = no_pairs (16 + 32 * count_held x) ((8 * length x - (16 + 32 * count_held x)) / 29) (omega arith)
 
-    pub jump_there : {a : Held} → a ≡ entry_in (pairs_read 13 (part x (2 + 4 * r)) 0 (8 * length (part x (2 + 4 * r)) / 29)) place → 2 + 4 * r ≤ length x
+    pub jump_there : {a : Option Numbers} → a ≡ entry_in (pairs_read 13 (part x (2 + 4 * r)) 0 (8 * length (part x (2 + 4 * r)) / 29)) place → 2 + 4 * r ≤ length x
         → a ≡ entry_in (jump_pairs x) place
     unfolding jump_pairs
     jump_there f h =
@@ -188,12 +188,12 @@ looking_start number x {r} e =
 
 module _ (number : ℕ) (x : List ℕ) {held before : ℕ} (k : Looking number x held before) where
   first_read : (n at : ℕ) → first_line number before (map line_of (pairs_read 16 x at (suc n)))
-      ≡ cond (eqb (field_at x at 16) number) (Numbers (before + 1) (field_at x (at + 16) 16)) (first_line number (before + 1) (map line_of (pairs_read 16 x (at + 32) n)))
+      ≡ cond (eqb (field_at x at 16) number) (numbers (before + 1) (field_at x (at + 16) 16)) (first_line number (before + 1) (map line_of (pairs_read 16 x (at + 32) n)))
   unfolding first_line pairs_read
   first_read n at = refl
 
   here : before < held → look_up number x
-      ≡ cond (eqb (field_at x (16 + 32 * before) 16) number) (Numbers (before + 1) (field_at x (16 + 32 * before + 16) 16))
+      ≡ cond (eqb (field_at x (16 + 32 * before) 16) number) (numbers (before + 1) (field_at x (16 + 32 * before + 16) 16))
       (first_line number (before + 1) (map line_of (pairs_read 16 x (16 + 32 * before + 32) (held - (before + 1)))))
   here h =
       let more : held - before ≡ suc (held - (before + 1)) = omega arith in
@@ -203,10 +203,10 @@ module _ (number : ℕ) (x : List ℕ) {held before : ℕ} (k : Looking number x
     told : r ≡ field_at x (16 + 32 * before) 16
     told = let w : 8 * (2 + 4 * before) ≡ 16 + 32 * before = omega arith in e ∙ ap (λ (n : ℕ). field_at x n 16) w
 
-    pub looking_found : {s : ℕ} → r ≡ number → s ≡ field_at x (8 * (4 + 4 * before)) 16 → Numbers (before + 1) s ≡ look_up number x
+    pub looking_found : {s : ℕ} → r ≡ number → s ≡ field_at x (8 * (4 + 4 * before)) 16 → numbers (before + 1) s ≡ look_up number x
     looking_found f g =
         let w : 8 * (4 + 4 * before) ≡ 16 + 32 * before + 16 = omega arith in
-        ap (Numbers (before + 1)) (g ∙ ap (λ (n : ℕ). field_at x n 16) w) ∙ sym (here h ∙ simp (eq-eqb _ _ (sym told ∙ f)))
+        ap (numbers (before + 1)) (g ∙ ap (λ (n : ℕ). field_at x n 16) w) ∙ sym (here h ∙ simp (eq-eqb _ _ (sym told ∙ f)))
 
     pub looking_turn : (r ≡ number → ⊥) → Looking number x held (before + 1)
     looking_turn f =
@@ -219,11 +219,11 @@ module _ (number : ℕ) (x : List ℕ) {held before : ℕ} (k : Looking number x
               ∙ sym (here h ∙ simp (ne_eqb _ _ other));
         }
 
-  pub looking_end : held ≤ before → Nothing ≡ look_up number x
+  pub looking_end : held ≤ before → None ≡ look_up number x
   unfolding first_line pairs_read
   looking_end h =
       let none : held - before ≡ 0 = omega arith in
       nothing ∙ ap (λ (n : ℕ). first_line number before (map line_of (pairs_read 16 x (16 + 32 * before) n))) (sym none) ∙ k.same
     where
-      nothing : Nothing ≡ first_line number before (map line_of (pairs_read 16 x (16 + 32 * before) 0))
+      nothing : None ≡ first_line number before (map line_of (pairs_read 16 x (16 + 32 * before) 0))
       nothing = refl

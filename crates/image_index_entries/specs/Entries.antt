@@ -1,12 +1,11 @@
 -- What any bytes hold as a line index (document 02, No. 13: "Looking up a target in the index is proved equal to searching the full list,
 -- first match taken, and reading the index back gives the same entries"). An entry that does not lie whole within the bytes is no entry.
 -- Assumes nothing.
-use Rattle.std.specs.Prelude.{ℕ, zero, suc, ◌+◌, ◌-◌, ◌*◌, ◌/◌, min, cond, List, [], ◌∷◌, map, eqb, length}
+use Rattle.std.specs.Prelude.{ℕ, zero, suc, Option, Some, None, ◌+◌, ◌-◌, ◌*◌, ◌/◌, min, cond, List, [], ◌∷◌, map, eqb, length}
 use Rattle.base_bits.specs.Bits.{field_at}
 use Rattle.image_readers.specs.IndexLines.{IndexLine}
 use Rattle.image_index.specs.Index.{IndexJump}
-use Rattle.image_index_entries.specs.declared.Held.{Held}
-use Rattle.image_index_entries.specs.declared.Held.TheVariants.{Nothing, Numbers}
+use Rattle.image_index_entries.specs.declared.Numbers.{Numbers}
 use Rattle.image_index_entries.specs.declared.Kind.{Kind}
 use Rattle.image_index_entries.specs.declared.Kind.TheVariants.{Line, Jump}
 
@@ -53,21 +52,24 @@ unfoldable pub jumps_held : List ℕ → List IndexJump
 unfolding jump_pairs
 jumps_held x = map jump_of (jump_pairs x)
 
--- the pair at a place from 1
-unfoldable pub entry_in : List Two → ℕ → Held
-entry_in [] place = Nothing
-entry_in (t ∷ ts) place = cond (eqb place 1) (Numbers t.first t.second) (entry_in ts (place - 1))
+abbrev pub numbers : ℕ → ℕ → Option Numbers
+numbers a b = Some (record { first = a; second = b })
 
-abbrev pub entry_of : Kind → ℕ → List ℕ → Held
+-- the pair at a place from 1
+unfoldable pub entry_in : List Two → ℕ → Option Numbers
+entry_in [] place = None
+entry_in (t ∷ ts) place = cond (eqb place 1) (numbers t.first t.second) (entry_in ts (place - 1))
+
+abbrev pub entry_of : Kind → ℕ → List ℕ → Option Numbers
 entry_of Line place x = entry_in (line_pairs x) place
 entry_of Jump place x = entry_in (jump_pairs x) place
 
 -- the first line with a number: its place from 1, v lines being before these, and its offset
-unfoldable pub first_line : ℕ → ℕ → List IndexLine → Held
-first_line number v [] = Nothing
-first_line number v (l ∷ ls) = cond (eqb l.number number) (Numbers (v + 1) l.offset) (first_line number (v + 1) ls)
+unfoldable pub first_line : ℕ → ℕ → List IndexLine → Option Numbers
+first_line number v [] = None
+first_line number v (l ∷ ls) = cond (eqb l.number number) (numbers (v + 1) l.offset) (first_line number (v + 1) ls)
 
 -- "searching the full list, first match taken"
-unfoldable pub look_up : ℕ → List ℕ → Held
+unfoldable pub look_up : ℕ → List ℕ → Option Numbers
 unfolding first_line lines_held
 look_up number x = first_line number 0 (lines_held x)

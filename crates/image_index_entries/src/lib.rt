@@ -7,9 +7,9 @@ ghost use Rattle.image_index_entries.specs.Entries.{count_held, pairs_read, line
 
 // An entry of an index, or the place of a line and its link's offset.
 #[derive(Clone, Copy)]
-pub enum Held {
-    Nothing,
-    Numbers { first: usize, second: usize },
+pub struct Numbers {
+    pub first: usize,
+    pub second: usize,
 }
 
 #[derive(Clone, Copy)]
@@ -19,7 +19,7 @@ pub enum Kind {
 }
 
 // The line or jump at a place from 1.
-pub fn entry(kind: Kind, place: usize, index: &[u8]) -> Held
+pub fn entry(kind: Kind, place: usize, index: &[u8]) -> Option<Numbers>
     ensures { result ≡ entry_of kind place index.now }
 {
     match kind {
@@ -29,21 +29,19 @@ pub fn entry(kind: Kind, place: usize, index: &[u8]) -> Held
 }
 
 // The first line with a number: its place from 1, and its link's offset.
-pub fn look_up(number: usize, index: &[u8]) -> Held
+pub fn look_up(number: usize, index: &[u8]) -> Option<Numbers>
     ensures { result ≡ look_up number index.now }
 {
     let held = lines_held(index);
-    let mut before: usize = 0;
-    while before < held {
+    for before in 0..held {
         if word_at(index, 2 + 4 * before) == number {
-            return Held::Numbers {
+            return Some(Numbers {
                 first: before + 1,
                 second: word_at(index, 4 + 4 * before),
-            };
+            });
         }
-        before += 1;
     }
-    Held::Nothing
+    None
 }
 
 // A field of 16 bits that starts with a byte. By bytes and not by bits: a look-up reads one for each line.
@@ -51,13 +49,7 @@ fn word_at(index: &[u8], at: usize) -> usize
     requires { at + 2 ≤ length index.now }
     ensures { (result ≡ field_at index.now (8 * at) 16) × (result ≤ 65535) }
 {
-    256 * wide(index[at]) + wide(index[at + 1])
-}
-
-fn wide(b: u8) -> usize
-    ensures { (result ≡ b) × (result ≤ 255) }
-{
-    b as usize
+    usize::from(u16::from_be_bytes([index[at], index[at + 1]]))
 }
 
 // How many lines lie whole within the bytes.
@@ -67,56 +59,48 @@ fn lines_held(index: &[u8]) -> usize
     if index.len() < 2 {
         return 0;
     }
-    let count = word_at(index, 0);
-    let room = (index.len() - 2) / 4;
-    if count < room { count } else { room }
+    word_at(index, 0).min((index.len() - 2) / 4)
 }
 
 // The line at a place from 1.
-fn line_at(place: usize, index: &[u8]) -> Held
+fn line_at(place: usize, index: &[u8]) -> Option<Numbers>
     ensures { result ≡ entry_in (line_pairs index.now) place }
 {
-    if place == 0 {
-        return Held::Nothing;
+    if place == 0 || place > lines_held(index) {
+        return None;
     }
-    if place > lines_held(index) {
-        return Held::Nothing;
-    }
-    Held::Numbers {
+    Some(Numbers {
         first: word_at(index, 4 * place - 2),
         second: word_at(index, 4 * place),
-    }
+    })
 }
 
 // The jump at a place from 1.
-fn jump_at(place: usize, index: &[u8]) -> Held
+fn jump_at(place: usize, index: &[u8]) -> Option<Numbers>
     ensures { result ≡ entry_in (jump_pairs index.now) place }
 {
     if index.len() < 2 {
-        return Held::Nothing;
+        return None;
     }
     let from = 2 + 4 * word_at(index, 0);
     if from > index.len() {
-        return Held::Nothing;
+        return None;
     }
     packed_jump(&index[from..], place)
 }
 
 // The same among jumps alone. 29 bytes hold eight of them.
-fn packed_jump(jumps: &[u8], place: usize) -> Held
+fn packed_jump(jumps: &[u8], place: usize) -> Option<Numbers>
     ensures { result ≡ entry_in (pairs_read 13 jumps.now 0 (8 * length jumps.now / 29)) place }
 {
     let held = 8 * (jumps.len() / 29) + 8 * (jumps.len() % 29) / 29;
-    if place == 0 {
-        return Held::Nothing;
-    }
-    if place > held {
-        return Held::Nothing;
+    if place == 0 || place > held {
+        return None;
     }
     let from = 29 * ((place - 1) / 8);
     let at = 29 * ((place - 1) % 8);
-    Held::Numbers {
+    Some(Numbers {
         first: base_bits::field_at(&jumps[from..], at, 13),
         second: base_bits::field_at(&jumps[from..], at + 13, 16),
-    }
+    })
 }

@@ -17,9 +17,9 @@ use Rattle.image_units.specs.declared.Mode.TheVariants.{Plain, Quoted, Remark, D
 use Rattle.image_units.specs.declared.Taken.{Taken}
 use Rattle.image_units.specs.Units.{mode_behind, unit_at}
 use Rattle.image_units.proofs.Walking.{unit_takes}
-use Rattle.image_jumps.specs.declared.Part.TheVariants.{Empty}
 use Rattle.image_jumps.specs.Jumps.{targets_from, opened_list, heeded, jumps_on, jumps_from}
 use Rattle.image_jumps.proofs.Targets.{targets_none}
+use Rattle.std.specs.Prelude.{None}
 
 nearer : Nearer (λ (x : Mode × List ℕ). length x.1) (λ f x. jumps_on f x.0 x.1)
 nearer x f g alike = go x.1 alike
@@ -28,7 +28,7 @@ nearer x f g alike = go x.1 alike
     go [] h = refl
     go (b ∷ rest) h =
         let t = unit_at heeded x.0 b rest in
-        ap (λ (js : List ℕ). targets_from Empty (opened_list x.0 b rest) ++ js)
+        ap (λ (js : List ℕ). targets_from None (opened_list x.0 b rest) ++ js)
         (h (t.mode, drop t.used (b ∷ rest)) (omega (arith, length-drop t.used (b ∷ rest), (unit_takes heeded x.0 b rest).0)))
 
 pub jumps_none : (mode : Mode) → jumps_from mode [] ≡ []
@@ -36,7 +36,7 @@ unfolding jumps_from
 jumps_none mode = refl
 
 pub jumps_more : (mode : Mode) (b : ℕ) (rest : List ℕ)
-    → jumps_from mode (b ∷ rest) ≡ targets_from Empty (opened_list mode b rest) ++ jumps_from (unit_at heeded mode b rest).mode (drop (unit_at heeded mode b rest).used (b ∷ rest))
+    → jumps_from mode (b ∷ rest) ≡ targets_from None (opened_list mode b rest) ++ jumps_from (unit_at heeded mode b rest).mode (drop (unit_at heeded mode b rest).used (b ∷ rest))
 unfolding jumps_from
 jumps_more mode b rest = again_on nearer [] (λ x. suc (length x.1)) (λ y. omega arith) (mode, b ∷ rest)
 
@@ -87,8 +87,8 @@ module _ (b : ℕ) (s : List ℕ) (i : Inert b) where
   pub jumps_pass : (mode : Mode) → jumps_from mode (b ∷ s) ≡ jumps_from mode s
   jumps_pass mode =
       let k = stays mode in
-      jumps_more mode b s ∙ ap (λ (ts : List ℕ). targets_from Empty ts ++ jumps_from (unit_at heeded mode b s).mode (drop (unit_at heeded mode b s).used (b ∷ s))) (opens_none mode)
-      ∙ ap (λ (ts : List ℕ). ts ++ jumps_from (unit_at heeded mode b s).mode (drop (unit_at heeded mode b s).used (b ∷ s))) (targets_none Empty)
+      jumps_more mode b s ∙ ap (λ (ts : List ℕ). targets_from None ts ++ jumps_from (unit_at heeded mode b s).mode (drop (unit_at heeded mode b s).used (b ∷ s))) (opens_none mode)
+      ∙ ap (λ (ts : List ℕ). ts ++ jumps_from (unit_at heeded mode b s).mode (drop (unit_at heeded mode b s).used (b ∷ s))) (targets_none None)
       ∙ ap (λ (m : Mode). jumps_from m (drop (unit_at heeded mode b s).used (b ∷ s))) k.same ∙ ap (λ (n : ℕ). jumps_from mode (drop n (b ∷ s))) k.one
 
 -- spaces are passed

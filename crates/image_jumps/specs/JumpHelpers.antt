@@ -3,23 +3,19 @@
 use Rattle.std.specs.Prelude.{ℕ, ◌+◌, ◌*◌, ◌-◌, ◌<◌, ◌≡◌, Bool, true, false, cond, List, [], ◌∷◌, ◌++◌, map, length, get_or, drop}
 use Rattle.image_units.specs.declared.Mode.{Mode}
 use Rattle.image_units.specs.declared.Mode.TheVariants.{Plain}
-use Rattle.image_jumps.specs.declared.Part.{Part}
-use Rattle.image_jumps.specs.declared.Part.TheVariants.{Empty, Worth}
 use Rattle.image_jumps.specs.declared.Cursor.{Cursor}
+use Rattle.image_jumps.specs.declared.Jump.{Jump}
 use Rattle.image_jumps.specs.declared.Moved.{Moved}
-use Rattle.image_jumps.specs.declared.Next.{Next}
-use Rattle.image_jumps.specs.declared.Next.TheVariants.{Jump, None}
-use Rattle.image_jumps.specs.declared.Opened.{Opened}
-use Rattle.image_jumps.specs.declared.Opened.TheVariants.{List as ListAt, Nothing}
 use Rattle.base_ascii.specs.Search.{equals, past}
 use Rattle.image_jumps.specs.Jumps.{behind_to, jump_told, targets_from, opened_list, jumps_from, low}
+use Rattle.std.specs.Prelude.{Option, Some, None}
 
-abbrev pub low_part : Part → Part
-low_part Empty = Empty
-low_part (Worth v) = Worth (low v)
+abbrev pub low_part : Option ℕ → Option ℕ
+low_part None = None
+low_part (Some v) = Some (low v)
 
 -- the rest of a list that bytes stand in, and the jumps behind it
-abbrev pub left_from : Bool → Part → Mode → List ℕ → List ℕ
+abbrev pub left_from : Bool → Option ℕ → Mode → List ℕ → List ℕ
 left_from true part mode s = targets_from part s ++ jumps_from mode s
 left_from false part mode s = jumps_from mode s
 
@@ -43,19 +39,19 @@ pub record JumpsTo (body : List ℕ) (c : Cursor) (target : ℕ) (d : Cursor) : 
   pub nearer : distance body d < distance body c
 
 -- the next jump
-abbrev pub NextIs : List ℕ → Cursor → Next → Type 0
-NextIs body c (Jump target d) = JumpsTo body c target d
+abbrev pub NextIs : List ℕ → Cursor → Option Jump → Type 0
+NextIs body c (Some j) = JumpsTo body c j.target j.cursor
 NextIs body c None = left_of body c ≡ []
 
 -- the byte at a place of plain text opens a list that begins at a place behind it, and no other jump stands between
 pub record Begins (body : List ℕ) (i : ℕ) (mode : Mode) (from : ℕ) : Type 0 where
   pub plain : mode ≡ Plain
   pub behind : i < from
-  pub gives : jumps_from Plain (drop i body) ≡ targets_from Empty (drop from body) ++ jumps_from Plain (drop from body)
+  pub gives : jumps_from Plain (drop i body) ≡ targets_from None (drop from body) ++ jumps_from Plain (drop from body)
 
-abbrev pub Opens : List ℕ → ℕ → Mode → Opened → Type 0
-Opens body i mode (ListAt from) = Begins body i mode from
-Opens body i mode Nothing = targets_from Empty (opened_list mode (get_or body i 0) (drop (i + 1) body)) ≡ []
+abbrev pub Opens : List ℕ → ℕ → Mode → Option ℕ → Type 0
+Opens body i mode (Some from) = Begins body i mode from
+Opens body i mode None = targets_from None (opened_list mode (get_or body i 0) (drop (i + 1) body)) ≡ []
 
 -- spaces and TO, and no jump between
 pub record GoesTo (body : List ℕ) (i from : ℕ) : Type 0 where
@@ -63,6 +59,6 @@ pub record GoesTo (body : List ℕ) (i from : ℕ) : Type 0 where
   pub list : behind_to (past (equals 0x20) (drop i body)) ≡ drop from body
   pub none : jumps_from Plain (drop i body) ≡ jumps_from Plain (drop from body)
 
-abbrev pub BehindGo : List ℕ → ℕ → Opened → Type 0
-BehindGo body i (ListAt from) = GoesTo body i from
-BehindGo body i Nothing = behind_to (past (equals 0x20) (drop i body)) ≡ []
+abbrev pub BehindGo : List ℕ → ℕ → Option ℕ → Type 0
+BehindGo body i (Some from) = GoesTo body i from
+BehindGo body i None = behind_to (past (equals 0x20) (drop i body)) ≡ []

@@ -10,23 +10,22 @@ use Rattle.image_units.specs.declared.Mode.{Mode}
 use Rattle.image_units.specs.declared.Mode.TheVariants.{Plain, Quoted, Remark, Data, QuotedData}
 use Rattle.image_units.specs.declared.Rules.{Rules}
 use Rattle.image_units.specs.Units.{unit_at}
-use Rattle.image_jumps.specs.declared.Part.{Part}
-use Rattle.image_jumps.specs.declared.Part.TheVariants.{Empty, Worth}
+use Rattle.std.specs.Prelude.{Option, Some, None}
 
 -- ---- a list of numbers
 
 -- a part between commas, with one digit more
-abbrev pub with_digit : Part → ℕ → Part
-with_digit Empty d = Worth d
-with_digit (Worth v) d = Worth (v * 10 + d)
+abbrev pub with_digit : Option ℕ → ℕ → Option ℕ
+with_digit None d = Some d
+with_digit (Some v) d = Some (v * 10 + d)
 
 -- a part that is not empty is a jump to its value
-abbrev pub jump_told : Part → List ℕ → List ℕ
-jump_told Empty rest = rest
-jump_told (Worth v) rest = v ∷ rest
+abbrev pub jump_told : Option ℕ → List ℕ → List ℕ
+jump_told None rest = rest
+jump_told (Some v) rest = v ∷ rest
 
 -- the targets of the list that bytes begin with, behind a part
-unfoldable pub targets_from : Part → List ℕ → List ℕ
+unfoldable pub targets_from : Option ℕ → List ℕ → List ℕ
 unfolding between
 targets_from p [] = jump_told p []
 targets_from p (b ∷ s) =
@@ -34,7 +33,7 @@ targets_from p (b ∷ s) =
       | true ↦ targets_from (with_digit p (b - 48)) s
       | false ↦ elim (eqb b 0x20) [
         | true ↦ targets_from p s
-        | false ↦ elim (eqb b 0x2C) [ true ↦ jump_told p (targets_from Empty s) | false ↦ jump_told p [] ]
+        | false ↦ elim (eqb b 0x2C) [ true ↦ jump_told p (targets_from None s) | false ↦ jump_told p [] ]
       ]
     ]
 
@@ -73,7 +72,7 @@ abbrev pub jumps_on : (Mode × List ℕ → List ℕ) → Mode → List ℕ → 
 jumps_on f mode [] = []
 jumps_on f mode (b ∷ rest) =
     let t = unit_at heeded mode b rest in
-    targets_from Empty (opened_list mode b rest) ++ f (t.mode, drop t.used (b ∷ rest))
+    targets_from None (opened_list mode b rest) ++ f (t.mode, drop t.used (b ∷ rest))
 
 -- the jumps of bytes, from a mode on; `jumps_more` (proofs/Walking.antt) is the equation without the count
 unfoldable pub jumps_from : Mode → List ℕ → List ℕ

@@ -9,102 +9,75 @@ use base_ascii::search;
 use base_ascii::search::Kind;
 use image_units::{Mode, Rules};
 
-// A number of a list, as far as it was read: no digit yet, or digits of a value.
-#[derive(Clone, Copy)]
-pub enum Part {
-    Empty,
-    Worth(usize),
-}
-
-// A place of a body: the byte there, its mode, whether it stands in a list, and the list's number so far.
+// A place of a body: the byte there, its mode, whether it stands in a list, and the list's number so far, if a digit was read.
 #[derive(Clone, Copy)]
 pub struct Cursor {
     pub at: usize,
     pub mode: Mode,
     pub listed: bool,
-    pub part: Part,
+    pub part: Option<usize>,
 }
 
-// What follows a place: a jump and the place behind it, or no jump. A target above 65535 is told as 65536.
+// A jump, and the place behind it. A target above 65535 is told as 65536.
 #[derive(Clone, Copy)]
-pub enum Next {
-    Jump { target: usize, cursor: Cursor },
-    None,
+pub struct Jump {
+    pub target: usize,
+    pub cursor: Cursor,
 }
 
 // What a step told, and where it led.
 #[derive(Clone, Copy)]
 struct Moved {
-    told: Part,
+    told: Option<usize>,
     cursor: Cursor,
-}
-
-// Where a list begins, if one is opened.
-#[derive(Clone, Copy)]
-enum Opened {
-    List(usize),
-    Nothing,
 }
 
 // The place before a body's first byte.
 pub fn first() -> Cursor
-    ensures { result ≡ record { at = 0; mode = Mode.Plain; listed = false; part = Part.Empty } }
+    ensures { result ≡ record { at = 0; mode = Mode.Plain; listed = false; part = None } }
 {
     Cursor {
         at: 0,
         mode: Mode::Plain,
         listed: false,
-        part: Part::Empty,
+        part: None,
     }
 }
 
 // The next jump from a place on.
-pub fn next_jump(body: &[u8], cursor: Cursor) -> Next
+pub fn next_jump(body: &[u8], cursor: Cursor) -> Option<Jump>
     ensures { NextIs body.now cursor result }
 {
     let mut cursor = cursor;
     while cursor.at < body.len() {
         let moved = step(body, cursor);
-        let told = moved.told;
         cursor = moved.cursor;
-        match told {
-            Part::Worth(target) => {
-                return Next::Jump {
-                    target: cut(target),
-                    cursor,
-                };
-            }
-            Part::Empty => {}
+        if let Some(target) = moved.told {
+            return Some(Jump {
+                target: cut(target),
+                cursor,
+            });
         }
     }
     last(body, cursor)
 }
 
 // At a body's end: the list's last number, if there is one.
-fn last(body: &[u8], cursor: Cursor) -> Next
+fn last(body: &[u8], cursor: Cursor) -> Option<Jump>
     requires { length body.now ≤ cursor.at }
     ensures { NextIs body.now cursor result }
 {
-    let at = cursor.at;
-    let mode = cursor.mode;
-    let part = cursor.part;
-    if cursor.listed {
-        match part {
-            Part::Worth(target) => {
-                return Next::Jump {
-                    target: cut(target),
-                    cursor: Cursor {
-                        at,
-                        mode,
-                        listed: false,
-                        part: Part::Empty,
-                    },
-                };
-            }
-            Part::Empty => {}
-        }
+    match cursor.part {
+        Some(target) if cursor.listed => Some(Jump {
+            target: cut(target),
+            cursor: Cursor {
+                listed: false,
+                part: None,
+                ..cursor
+            },
+        }),
+        _ => None,
     }
-    Next::None
 }
 
 // One unit of the text, or one byte of a list.
@@ -113,9 +86,10 @@ fn step(body: &[u8], cursor: Cursor) -> Moved
     ensures { Moves body.now cursor result }
 {
     if cursor.listed {
-        return list_step(body, cursor);
+        list_step(body, cursor)
+    } else {
+        text_step(body, cursor)
     }
-    text_step(body, cursor)
 }
 
 // One byte of a list, or the first byte behind it, which is left to be read as any other.
@@ -128,18 +102,18 @@ fn list_step(body: &[u8], cursor: Cursor) -> Moved
     let part = cursor.part;
     let b = body[at];
     if base_ascii::is_digit(b) {
-        return lead(Part::Empty, at + 1, mode, true, with_digit(part, b - 48));
+        return lead(None, at + 1, mode, true, with_digit(part, b - 48));
     }
     if b == 0x20 {
-        return lead(Part::Empty, at + 1, mode, true, part);
+        return lead(None, at + 1, mode, true, part);
     }
     if b == 0x2C {
-        return lead(part, at + 1, mode, true, Part::Empty);
+        return lead(part, at + 1, mode, true, None);
     }
-    lead(part, at, mode, false, Part::Empty)
+    lead(part, at, mode, false, None)
 }
 
-fn lead(told: Part, at: usize, mode: Mode, listed: bool, part: Part) -> Moved
+fn lead(told: Option<usize>, at: usize, mode: Mode, listed: bool, part: Option<usize>) -> Moved
     ensures { result ≡ record { told = told; cursor = record { at = at; mode = mode; listed = listed; part = part } } }
 {
     Moved {
@@ -154,25 +128,18 @@ fn lead(told: Part, at: usize, mode: Mode, listed: bool, part: Part) -> Moved
 }
 
 // A part with one digit more, cut at 65536.
-fn with_digit(part: Part, digit: u8) -> Part
+fn with_digit(part: Option<usize>, digit: u8) -> Option<usize>
     ensures { result ≡ low_part (with_digit part digit) }
 {
-    match part {
-        Part::Empty => Part::Worth(digit as usize),
-        Part::Worth(value) => {
-            if value > 6553 {
-                return Part::Worth(65536);
-            }
-            Part::Worth(cut(value * 10 + digit as usize))
-        }
-    }
+    let tens = part.unwrap_or(0).saturating_mul(10);
+    Some(cut(tens.saturating_add(usize::from(digit))))
 }
 
 // A target, cut at 65536.
 fn cut(target: usize) -> usize
     ensures { result ≡ low target }
 {
-    if target > 65536 { 65536 } else { target }
+    target.min(65536)
 }
 
 // One unit of the text, or all that opens a list.
@@ -183,20 +150,20 @@ fn text_step(body: &[u8], cursor: Cursor) -> Moved
     let at = cursor.at;
     let mode = cursor.mode;
     match list_at(body, at, mode) {
-        Opened::List(from) => lead(Part::Empty, from, Mode::Plain, true, Part::Empty),
-        Opened::Nothing => unit_step(body, at, mode),
+        Some(from) => lead(None, from, Mode::Plain, true, None),
+        None => unit_step(body, at, mode),
     }
 }
 
 // One unit that opens no list.
 fn unit_step(body: &[u8], at: usize, mode: Mode) -> Moved
-    requires { (at < length body.now) × (targets_from Part.Empty (opened_list mode (get_or body.now at 0) (drop (at + 1) body.now)) ≡ []) }
-    ensures { Moves body.now (record { at = at; mode = mode; listed = false; part = Part.Empty }) result }
+    requires { (at < length body.now) × (targets_from None (opened_list mode (get_or body.now at 0) (drop (at + 1) body.now)) ≡ []) }
+    ensures { Moves body.now (record { at = at; mode = mode; listed = false; part = None }) result }
 {
     let taken = image_units::unit_at(body, at, mode, heed());
     let used = taken.used;
     let behind = taken.mode;
-    lead(Part::Empty, at + used, behind, false, Part::Empty)
+    lead(None, at + used, behind, false, None)
 }
 
 fn heed() -> Rules
@@ -211,50 +178,37 @@ fn heed() -> Rules
 }
 
 // The list that the byte at a place opens, which must be plain text.
-fn list_at(body: &[u8], at: usize, mode: Mode) -> Opened
+fn list_at(body: &[u8], at: usize, mode: Mode) -> Option<usize>
     requires { at < length body.now }
     ensures { Opens body.now at mode result }
 {
     match mode {
         Mode::Plain => plain_list(body, at),
-        Mode::Quoted => Opened::Nothing,
-        Mode::Remark => Opened::Nothing,
-        Mode::Data => Opened::Nothing,
-        Mode::QuotedData => Opened::Nothing,
+        _ => None,
     }
 }
 
 // GOTO, GOSUB and THEN open a list, and GO with TO behind it.
-fn plain_list(body: &[u8], at: usize) -> Opened
+fn plain_list(body: &[u8], at: usize) -> Option<usize>
     requires { at < length body.now }
     ensures { Opens body.now at Mode.Plain result }
 {
-    let b = body[at];
-    if b == 0x89 {
-        return Opened::List(at + 1);
+    match body[at] {
+        0x89 | 0x8D | 0xA7 => Some(at + 1),
+        0xCB => behind_go(body, at + 1),
+        _ => None,
     }
-    if b == 0x8D {
-        return Opened::List(at + 1);
-    }
-    if b == 0xA7 {
-        return Opened::List(at + 1);
-    }
-    if b == 0xCB {
-        return behind_go(body, at + 1);
-    }
-    Opened::Nothing
 }
 
 // Behind GO: spaces, and then TO.
-fn behind_go(body: &[u8], from: usize) -> Opened
+fn behind_go(body: &[u8], from: usize) -> Option<usize>
     requires { from ≤ length body.now }
     ensures { BehindGo body.now from result }
 {
     let to = from + search::front(&body[from..], Kind::Space);
-    if to < body.len() {
-        if body[to] == 0xA4 {
-            return Opened::List(to + 1);
-        }
+    if to < body.len() && body[to] == 0xA4 {
+        Some(to + 1)
+    } else {
+        None
     }
-    Opened::Nothing
 }

@@ -2,9 +2,8 @@
 -- Assumes nothing.
 use Prim.Native.Nat.{ℕ, ◌-◌, ◌≤◌, ◌<◌}
 use mathlib.Core.Path.{◌≡◌, refl, sym, ap, ◌∙◌}
-use mathlib.Core.Bool.{false}
 use mathlib.Core.List.{List}
-use lib.ListN.{length, set, get_or-eq_default}
+use lib.ListN.{length, set}
 use lib.Seq.{set_out}
 use Rattle.base_refusals.specs.declared.Refusal.{Refusal}
 use Rattle.image_readers.specs.declared.Line.{Line}
@@ -14,7 +13,7 @@ use Rattle.image_readers.proofs.ByLinks.{link_sound}
 use Rattle.image_readers.proofs.Equations.{next_nearer}
 use Rattle.base_refusals.proofs.Tight.{told_back}
 use Rattle.image_readers.proofs.Lined.{lined_line, lined_end, lined_refused}
-use Rattle.image_marks.specs.Marks.{line_marks, has_mark}
+use Rattle.image_marks.specs.Marks.{line_marks}
 use Rattle.std.specs.Prelude.{Option, Some, None, Result, Ok, Err}
 use Rattle.base_refusals.specs.Answer.{answered}
 
@@ -34,11 +33,12 @@ module _ {s marked₀ marked : List ℕ} {p : ℕ} (k : MarksAhead s marked₀ m
     unfolding line_marks
     marked_on = ap (λ (x : Lined). line_marks marked x.lines) (sym (lined_line link_sound s p (told_back is e))) ∙ k.gives
 
-    pub marks_turn : l.number < length marked → MarksAhead s marked₀ (set marked l.number 1) l.next
-    marks_turn h = record { gives = marked_on }
+    module _ {n : ℕ} (q : n ≡ l.number) where
+      pub marks_turn : n < length marked → MarksAhead s marked₀ (set marked n 1) l.next
+      marks_turn h = record { gives = rw q marked_on }
 
-    pub marks_past : length marked ≤ l.number → MarksAhead s marked₀ marked l.next
-    marks_past h = record { gives = rw (set_out marked l.number 1 h) at marked_on }
+      pub marks_past : length marked ≤ n → MarksAhead s marked₀ marked l.next
+      marks_past h = record { gives = rw (set_out marked l.number 1 (rw q at h)) at marked_on }
 
   pub marks_end : r ≡ Ok None → marked ≡ line_marks marked₀ (lined_from link_step s 2).lines
   unfolding line_marks
@@ -47,6 +47,3 @@ module _ {s marked₀ marked : List ℕ} {p : ℕ} (k : MarksAhead s marked₀ m
   pub marks_fault : {n : Refusal} → r ≡ Err n → marked ≡ line_marks marked₀ (lined_from link_step s 2).lines
   unfolding line_marks
   marks_fault is = ap (λ (x : Lined). line_marks marked x.lines) (sym (lined_refused link_sound s p (told_back is e))) ∙ k.gives
-
-pub mark_beyond : (marked : List ℕ) {n : ℕ} → length marked ≤ n → false ≡ has_mark marked n
-mark_beyond marked h = rw (get_or-eq_default marked 0 h)

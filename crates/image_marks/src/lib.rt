@@ -13,22 +13,12 @@ pub fn mark_numbers(image: &[u8], marked: &mut [u8])
     ensures { marked.new ≡ line_marks marked.old (lined_from link_step image.now 2).lines }
 {
     let mut offset: usize = 2;
-    loop {
-        match links::step(image, offset) {
-            Ok(Some(line)) => {
-                let number = line.number as usize;
-                if number < marked.len() {
-                    marked[number] = 1;
-                }
-                offset = line.next;
-            }
-            Ok(None) => {
-                return;
-            }
-            Err(_) => {
-                return;
-            }
+    while let Ok(Some(line)) = links::step(image, offset) {
+        let number = usize::from(line.number);
+        if number < marked.len() {
+            marked[number] = 1;
         }
+        offset = line.next;
     }
 }
 
@@ -36,8 +26,5 @@ pub fn mark_numbers(image: &[u8], marked: &mut [u8])
 pub fn has_mark(marked: &[u8], number: usize) -> bool
     ensures { result ≡ has_mark marked.now number }
 {
-    if number < marked.len() {
-        return marked[number] != 0;
-    }
-    false
+    number < marked.len() && marked[number] != 0
 }

@@ -1,18 +1,16 @@
 -- The step by terminators: a law for each answer, and what is known of a line that was found.
 -- Assumes nothing.
-use Prim.Native.Nat.{ℕ, ◌+◌, ◌-◌, ◌≤◌, ◌<◌, min}
-use mathlib.Core.Path.{◌≡◌, refl, ◌∙◌}
+use Prim.Native.Nat.{ℕ, ◌+◌, ◌-◌, ◌≤◌, ◌<◌}
+use mathlib.Core.Path.{◌≡◌, refl}
 use mathlib.Core.List.{List}
 use native.Mathlib.Omega.{arith}
 use lib.ListN.{length, get_or}
 use lib.Dec.{leb, ltb, eqb}
 use borrow.Author.Tests.{le-leb, lt-leb, le-ltb, lt-ltb, eq-eqb, ne_eqb, ltb-false, eqb-false}
-use Rattle.image_bytes.specs.ImageBytes.{body_end}
 use Rattle.image_bytes.proofs.Zeros.{body_end_within}
 use Rattle.base_refusals.specs.Answer.{done, refused}
 use Rattle.base_refusals.specs.Numbers.{image_too_long, too_short, unexpected_eof}
 use Rattle.image_readers.specs.declared.Line.{Line}
-use Rattle.image_readers.specs.Image.{line_at}
 use Rattle.image_readers.proofs.Equations.{LiesAt, Sound}
 use Rattle.image_readers.specs.Terminators.{terminated_line, terminator_step}
 use Rattle.image_readers.proofs.Finding.{sized_long, sized_short, Knows, cond_by, sized_knows, knows_length, knows_line}
@@ -63,17 +61,6 @@ module _ (s : List ℕ) (p : ℕ) where
               rw is (simp (le-ltb _ _ long, le-ltb _ _ short, lt-leb _ _ h, le-ltb _ _ two, ne_eqb _ _ e, le-ltb _ _ g))
 
 -- ---- what was found
-
--- a line whose body ends at the first 00, or at the image's end where there is none
-module _ (s : List ℕ) (p : ℕ) (h : p + 4 ≤ length s) {b : ℕ} (q : b ≡ body_end s p) {l : Line} where
-  next_at : {next : ℕ} → l ≡ line_at s p b next → next ≡ min (b + 1) (length s) → l ≡ terminated_line s p
-  next_at is x = is ∙ rw (x, q)
-
-  pub line_terminated : b < length s → l ≡ line_at s p b (b + 1) → l ≡ terminated_line s p
-  line_terminated z is = next_at is (omega arith)
-
-  pub line_open : length s ≤ b → l ≡ line_at s p b b → l ≡ terminated_line s p
-  line_open z is = next_at is (omega (arith, body_end_within s p h))
 
 -- what is known of a line that was found at p
 pub record TerminatedAt (s : List ℕ) (p : ℕ) (l : Line) : Type 0 where

@@ -2,15 +2,14 @@
 -- what the step promises.
 -- Assumes nothing.
 use Prim.Native.Nat.{ℕ, ◌+◌, ◌-◌, ◌≤◌, ◌<◌}
-use mathlib.Core.Path.{◌≡◌, sym, ap}
-use mathlib.Core.List.{List, []}
+use mathlib.Core.Path.{◌≡◌}
+use mathlib.Core.List.{List}
 use native.Mathlib.Omega.{arith}
 use lib.ListN.{length}
 use Rattle.base_refusals.specs.declared.Refusal.{Refusal}
 use Rattle.image_readers.specs.declared.By.{By}
 use Rattle.image_readers.specs.declared.By.TheVariants.{Terminators, Links}
 use Rattle.image_readers.specs.declared.Line.{Line}
-use Rattle.image_readers.specs.Bodies.{body_of, body_found, body_at}
 use Rattle.image_readers.specs.Links.{link_step}
 use Rattle.image_readers.specs.Terminators.{terminator_step}
 use Rattle.image_readers.specs.Readers.{step_by}
@@ -18,7 +17,7 @@ use Rattle.image_readers.proofs.Equations.{LiesAt, Sound, next_nearer}
 use Rattle.base_refusals.proofs.Tight.{told_back}
 use Rattle.image_readers.proofs.ByLinks.{link_sound}
 use Rattle.image_readers.proofs.ByTerminators.{terminator_sound}
-use Rattle.std.specs.Prelude.{Option, Some, None, Result, Ok, Err}
+use Rattle.std.specs.Prelude.{Option, Some, None, Result, Ok}
 use Rattle.base_refusals.specs.Answer.{answered}
 
 pub by_sound : (by : By) → Sound (step_by by)
@@ -49,16 +48,7 @@ module _ (by : By) (s : List ℕ) (p : ℕ) {r : Result (Option Line) Refusal} {
   pub found_nearer : length s - l.next < length s - p
   found_nearer = next_nearer (by_sound by) s p (told_back is e)
 
-  pub found_body : body_of s l ≡ body_at (step_by by) s p
-  found_body = sym (ap (body_found s) (told_back is e))
-
 -- no line was found
 module _ (by : By) (s : List ℕ) (p : ℕ) {r : Result (Option Line) Refusal} where
   pub end_long : r ≡ Ok None → answered r ≡ step_by by s p → 0 + 1 < length s
   end_long is e = (by_sound by).long_enough s p (told_back is e)
-
-  pub end_body : r ≡ Ok None → answered r ≡ step_by by s p → [] ≡ body_at (step_by by) s p
-  end_body is e = sym (ap (body_found s) (told_back is e))
-
-  pub refused_body : {m : Refusal} → r ≡ Err m → answered r ≡ step_by by s p → [] ≡ body_at (step_by by) s p
-  refused_body is e = sym (ap (body_found s) (told_back is e))

@@ -56,8 +56,6 @@ fn terminated_line(image: &[u8], offset: usize) -> Line
     ensures { result ≡ terminated_line image.now offset }
 {
     let to = body_end(image, offset);
-    if to < image.len() {
-        return line_at(image, offset, to, to + 1);
-    }
-    line_at(image, offset, to, to)
+    let next = image.len().min(to + 1);
+    line_at(image, offset, to, next)
 }

@@ -24,7 +24,7 @@ use Rattle.image_relink.specs.Relinking.{come_round, in_memory, zero_sought, new
 -- ---- a byte in memory
 
 module _ (s : List ℕ) (p : ℕ) where
-  pub not_within : length s ≤ p → false ≡ in_memory s p
+  pub not_within : length s ≤ p → ltb p (length s) ≡ in_memory s p
   unfolding in_memory
   not_within h = rw (le-ltb p (length s) h)
 
@@ -68,43 +68,45 @@ module _ (s : List ℕ) (p : ℕ) where
 pub count_fits : (s : List ℕ) (p : ℕ) {r : Zero} {y : ℕ} → r ≡ At y → r ≡ zero_sought s p 256 5 → Fits w64 (y + 1)
 count_fits s p is e = record { fits = omega (arith, count_small s p 256 5 (omega arith) (sym e ∙ is)) }
 
--- y comes next, with so many counts left
-pub record ZeroAhead (s : List ℕ) (p left y : ℕ) : Type 0 where
-  pub small : y < 256
-  pub few : left ≤ 256
-  pub gives : zero_sought s p left y ≡ zero_sought s p 256 5
+-- the counts from 5 to i are passed, none of them a 00's; behind 255 they come round to 0
+pub record ZeroAhead (s : List ℕ) (p i : ℕ) : Type 0 where
+  pub gives : zero_sought s p (261 - i) (i % 256) ≡ zero_sought s p 256 5
 
-pub ahead_start : (s : List ℕ) (p : ℕ) → ZeroAhead s p 256 5
-ahead_start s p = record { small = omega arith; few = omega arith; gives = refl }
+pub ahead_start : (s : List ℕ) (p : ℕ) → ZeroAhead s p 5
+ahead_start s p = record { gives = refl }
 
-module _ {s : List ℕ} {p left y : ℕ} (k : ZeroAhead s p left y) where
-  module _ {b : Bool} {at : ℕ} (h : 0 < left) (is : at ≡ come_round (p + y)) (e : b ≡ in_memory s at) where
-    memory_is : in_memory s (come_round (p + y)) ≡ b
+module _ {s : List ℕ} {p i : ℕ} (k : ZeroAhead s p i) where
+  module _ {b : Bool} {at : ℕ} (h : i < 261) (is : at ≡ come_round (p + i % 256)) (e : b ≡ in_memory s at) where
+    memory_is : in_memory s (come_round (p + i % 256)) ≡ b
     memory_is = ap (in_memory s) (sym is) ∙ sym e
 
     pub ahead_outside : not b ≡ true → ZeroOutside ≡ zero_sought s p 256 5
-    ahead_outside n = let f : in_memory s (come_round (p + y)) ≡ false = memory_is ∙ not-true b n in sym (sym k.gives ∙ sought_step s p left y h ∙ rw f)
+    ahead_outside n =
+        let f : in_memory s (come_round (p + i % 256)) ≡ false = memory_is ∙ not-true b n in
+        sym (sym k.gives ∙ sought_step s p (261 - i) (i % 256) (omega arith) ∙ rw f)
 
     module _ (n : not b ≡ false) where
-      pub ahead_found : get_or s at 0 ≡ 0 → At y ≡ zero_sought s p 256 5
+      pub ahead_found : get_or s at 0 ≡ 0 → At (i % 256) ≡ zero_sought s p 256 5
       ahead_found z =
-          let f : in_memory s (come_round (p + y)) ≡ true = memory_is ∙ not-false b n in
-          let o : get_or s (come_round (p + y)) 0 ≡ 0 = ap (λ (i : ℕ). get_or s i 0) (sym is) ∙ z in
-          sym (sym k.gives ∙ sought_step s p left y h ∙ rw (f, eq-eqb (get_or s (come_round (p + y)) 0) 0 o))
+          let f : in_memory s (come_round (p + i % 256)) ≡ true = memory_is ∙ not-false b n in
+          let o : get_or s (come_round (p + i % 256)) 0 ≡ 0 = ap (λ (j : ℕ). get_or s j 0) (sym is) ∙ z in
+          sym (sym k.gives ∙ sought_step s p (261 - i) (i % 256) (omega arith) ∙ rw (f, eq-eqb (get_or s (come_round (p + i % 256)) 0) 0 o))
 
-      pub ahead_turn : (get_or s at 0 ≡ 0 → ⊥) → ZeroAhead s p (left - 1) ((y + 1) % 256)
+      pub ahead_turn : (get_or s at 0 ≡ 0 → ⊥) → ZeroAhead s p (i + 1)
       ahead_turn o =
-          let f : in_memory s (come_round (p + y)) ≡ true = memory_is ∙ not-false b n in
-          let other : get_or s (come_round (p + y)) 0 ≡ 0 → ⊥ = λ z. o (ap (λ (i : ℕ). get_or s i 0) is ∙ z) in
+          let f : in_memory s (come_round (p + i % 256)) ≡ true = memory_is ∙ not-false b n in
+          let other : get_or s (come_round (p + i % 256)) 0 ≡ 0 → ⊥ = λ z. o (ap (λ (j : ℕ). get_or s j 0) is ∙ z) in
+          let left : 261 - (i + 1) ≡ 261 - i - 1 = omega arith in
+          let round : (i + 1) % 256 ≡ (i % 256 + 1) % 256 = omega arith in
           record {
-            small = omega arith;
-            few = omega (arith, k.few);
-            gives = sym (sym k.gives ∙ sought_step s p left y h ∙ rw (f, ne_eqb (get_or s (come_round (p + y)) 0) 0 other));
+            gives =
+                rw (left, round)
+                (sym (sym k.gives ∙ sought_step s p (261 - i) (i % 256) (omega arith) ∙ rw (f, ne_eqb (get_or s (come_round (p + i % 256)) 0) 0 other)));
           }
 
-  pub ahead_end : left ≤ 0 → Nowhere ≡ zero_sought s p 256 5
+  pub ahead_end : 261 ≤ i → Nowhere ≡ zero_sought s p 256 5
   unfolding zero_sought
-  ahead_end h = let e : left ≡ 0 = omega arith in rw e at k.gives
+  ahead_end h = let e : 261 - i ≡ 0 = omega arith in rw e at k.gives
 
 -- ---- a line
 
@@ -114,14 +116,14 @@ module _ (s : List ℕ) (p count : ℕ) {low : ℕ} {b : Bool} (i : low ≡ come
   unfolding stored
   store_outside n = let f : in_memory s (come_round p) ≡ false = ap (in_memory s) (sym i) ∙ sym e ∙ not-true b n in rw f
 
-  module _ {load old high : ℕ} (n : not b ≡ false) (j : high ≡ come_round (p + 1)) (a : load ≡ low_first_at s 0) (c : old ≡ get_or s low 0 + 256 * get_or s high 0) where
+  module _ {load read old high : ℕ} (n : not b ≡ false) (j : high ≡ come_round (p + 1)) (q : load ≡ read) (a : read ≡ low_first_at s 0) (c : old ≡ get_or s low 0 + 256 * get_or s high 0) where
     compared : stored s p count
         ≡ cond (eqb ((load + p - 2 + count) % 65536) old) (cond (eqb count 0) EndlessLine (KeptLink (p + count))) (ChangedLink ((load + p - 2 + count) % 65536))
     unfolding stored
     compared =
         let f : in_memory s (come_round p) ≡ true = ap (in_memory s) (sym i) ∙ sym e ∙ not-false b n in
         let o : old_link s p ≡ old = ap (λ (x : ℕ). get_or s x 0 + 256 * get_or s (come_round (p + 1)) 0) (sym i) ∙ ap (λ (x : ℕ). get_or s low 0 + 256 * get_or s x 0) (sym j) ∙ sym c in
-        rw (f, o, ← a)
+        rw (f, o, ← (q ∙ a))
 
     pub store_changed : ((load + p - 2 + count) % 65536 ≡ old → ⊥) → ChangedLink ((load + p - 2 + count) % 65536) ≡ stored s p count
     store_changed other = sym (compared ∙ rw (ne_eqb ((load + p - 2 + count) % 65536) old other))

@@ -6,9 +6,10 @@
 -- round to 0, to the line's own link and number. The count is raised once more, and the line's address plus the count, in 16 bits, is
 -- stored as the new link, and is where it goes on. Memory is taken for plain bytes, also at 0000 and 0001, which are the processor's port.
 -- Assumes nothing.
-use Rattle.std.specs.Prelude.{ℕ, zero, suc, ◌+◌, ◌*◌, ◌-◌, ◌%◌, Bool, cond, ◌&&◌, List, eqb, ltb, length, get_or}
+use Rattle.std.specs.Prelude.{ℕ, Result, Ok, Err, zero, suc, ◌+◌, ◌*◌, ◌-◌, ◌%◌, Bool, cond, ◌&&◌, List, eqb, ltb, length, get_or}
 use Rattle.base_steps.specs.Again.{again}
 use Rattle.base_refusals.specs.Answer.{Answer, done, refused, numbered}
+use Rattle.base_refusals.specs.declared.Refusal.{Refusal}
 use Rattle.image_bytes.specs.ImageBytes.{address_at}
 use Rattle.image_readers.specs.Image.{sized}
 use Rattle.image_relink.specs.declared.Zero.{Zero}
@@ -16,7 +17,7 @@ use Rattle.image_relink.specs.declared.Zero.TheVariants.{At, Outside as ZeroOuts
 use Rattle.image_relink.specs.declared.Passed.{Passed}
 use Rattle.image_relink.specs.declared.Passed.TheVariants.{End, Kept as KeptLink, Changed as ChangedLink, Outside, Endless as EndlessLine}
 use Rattle.image_relink.specs.declared.Relinked.{Relinked}
-use Rattle.image_relink.specs.declared.Relinked.TheVariants.{Same, Changed, Leaves, Endless, Refused}
+use Rattle.image_relink.specs.declared.Relinked.TheVariants.{Same, Changed, Leaves, Endless}
 
 -- Memory has 65,536 bytes, and comes round from FFFF to 0, as the routine's addresses do: behind the last of them stands the image's own first
 -- byte again. The offset of the byte of memory that an offset leads to.
@@ -95,9 +96,9 @@ unfoldable pub relinking : List ℕ → Answer Relinking
 relinking s = sized s (done (relink_from s 2))
 
 -- the enum's cases
-abbrev pub relinked_answer : Relinked → Answer Relinking
-relinked_answer Same = done same
-relinked_answer (Changed offset link) = done (changed offset link)
-relinked_answer Leaves = done leaves
-relinked_answer Endless = done endless
-relinked_answer (Refused r) = refused (numbered r)
+abbrev pub relinked_answer : Result Relinked Refusal → Answer Relinking
+relinked_answer (Ok Same) = done same
+relinked_answer (Ok (Changed offset link)) = done (changed offset link)
+relinked_answer (Ok Leaves) = done leaves
+relinked_answer (Ok Endless) = done endless
+relinked_answer (Err r) = refused (numbered r)

@@ -44,37 +44,36 @@ pub enum Relinked {
     Leaves,
     // The routine never ends.
     Endless,
-    Refused(Refusal),
 }
 
 // Follows the routine through an image up to the first link that it changes.
-pub fn relink(image: &[u8]) -> Relinked
+pub fn relink(image: &[u8]) -> Result<Relinked, Refusal>
     ensures { relinked_answer result ≡ relinking image.now }
 {
     let length = image.len();
     if length > LONGEST {
-        return Relinked::Refused(Refusal::ImageTooLong { length });
+        return Err(Refusal::ImageTooLong { length });
     }
     if length < 2 {
-        return Relinked::Refused(Refusal::TooShort);
+        return Err(Refusal::TooShort);
     }
     let mut offset: usize = 2;
     loop {
         match pass(image, offset) {
             Passed::End => {
-                return Relinked::Same;
+                return Ok(Relinked::Same);
             }
             Passed::Kept(next) => {
                 offset = next;
             }
             Passed::Changed(link) => {
-                return Relinked::Changed { offset, link };
+                return Ok(Relinked::Changed { offset, link });
             }
             Passed::Outside => {
-                return Relinked::Leaves;
+                return Ok(Relinked::Leaves);
             }
             Passed::Endless => {
-                return Relinked::Endless;
+                return Ok(Relinked::Endless);
             }
         }
     }
@@ -108,7 +107,7 @@ fn store(image: &[u8], offset: usize, high: usize, count: usize) -> Passed
     if !is_in_memory(image, low) {
         return Passed::Outside;
     }
-    let sum = image_bytes::low_first_at(image, 0) as usize + offset - 2 + count;
+    let sum = usize::from(image_bytes::low_first_at(image, 0)) + offset - 2 + count;
     let link = (sum % 65536) as u16;
     if link != image_bytes::low_first(image[low], image[high]) {
         return Passed::Changed(link);
@@ -124,9 +123,9 @@ fn zero_behind(image: &[u8], offset: usize) -> Zero
     requires { (2 ≤ offset) × (offset ≤ 65537) }
     ensures { result ≡ zero_sought image.now offset 256 5 }
 {
-    let mut left: usize = 256;
-    let mut y: usize = 5;
-    while left > 0 {
+    // The count is one byte, and comes round from 255 to 0.
+    for i in 5..261 {
+        let y = i % 256;
         let at = come_round(offset + y);
         if !is_in_memory(image, at) {
             return Zero::Outside;
@@ -134,8 +133,6 @@ fn zero_behind(image: &[u8], offset: usize) -> Zero
         if image[at] == 0 {
             return Zero::At(y);
         }
-        left -= 1;
-        y = (y + 1) % 256;
     }
     Zero::Nowhere
 }
@@ -152,8 +149,5 @@ fn come_round(offset: usize) -> usize
 fn is_in_memory(image: &[u8], offset: usize) -> bool
     ensures { result ≡ in_memory image.now offset }
 {
-    if offset >= image.len() {
-        return false;
-    }
-    image.len() < 65539
+    offset < image.len() && image.len() < 65539
 }

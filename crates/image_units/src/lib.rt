@@ -56,11 +56,9 @@ pub fn unit_at(body: &[u8], i: usize, mode: Mode, rules: Rules) -> Taken
     ensures { result ≡ unit_at rules mode (get_or body.now i 0) (drop (i + 1) body.now) }
 {
     match mode {
-        Mode::Plain => unquoted(body, i, Mode::Plain, rules),
-        Mode::Quoted => quoted(body[i], Mode::Quoted),
+        Mode::Plain | Mode::Data => unquoted(body, i, mode, rules),
+        Mode::Quoted | Mode::QuotedData => quoted(body[i], mode),
         Mode::Remark => one(Unit::Remarked(body[i]), Mode::Remark),
-        Mode::Data => unquoted(body, i, Mode::Data, rules),
-        Mode::QuotedData => quoted(body[i], Mode::QuotedData),
     }
 }
 
@@ -100,23 +98,21 @@ fn prefixed(body: &[u8], i: usize, mode: Mode) -> Taken
     requires { i < length body.now }
     ensures { result ≡ prefixed_unit mode (drop (i + 1) body.now) }
 {
-    if i + 1 < body.len() {
-        return Taken {
-            unit: Unit::Pair(body[i + 1]),
+    match body.get(i + 1) {
+        Some(b) => Taken {
+            unit: Unit::Pair(*b),
             used: 2,
             mode,
-        };
+        },
+        None => one(Unit::Lone, mode),
     }
-    one(Unit::Lone, mode)
 }
 
 fn quoted(b: u8, mode: Mode) -> Taken
     ensures { result ≡ quoted_unit mode b }
 {
-    if b == 0x22 {
-        return one(Unit::Char(b), toggled(mode));
-    }
-    one(Unit::Char(b), mode)
+    let behind = if b == 0x22 { toggled(mode) } else { mode };
+    one(Unit::Char(b), behind)
 }
 
 fn one(unit: Unit, mode: Mode) -> Taken
@@ -146,31 +142,10 @@ fn toggled(mode: Mode) -> Mode
 fn behind(rules: Rules, mode: Mode, b: u8) -> Mode
     ensures { result ≡ mode_behind rules mode b }
 {
-    match mode {
-        Mode::Plain => {
-            if b == 0x8F {
-                return opened(rules.remarks, Mode::Remark);
-            }
-            if b == 0x83 {
-                return opened(rules.items, Mode::Data);
-            }
-            Mode::Plain
-        }
-        Mode::Data => {
-            if b == 0x3A {
-                return Mode::Plain;
-            }
-            Mode::Data
-        }
-        Mode::Quoted => Mode::Quoted,
-        Mode::Remark => Mode::Remark,
-        Mode::QuotedData => Mode::QuotedData,
+    match (mode, b) {
+        (Mode::Plain, 0x8F) if rules.remarks => Mode::Remark,
+        (Mode::Plain, 0x83) if rules.items => Mode::Data,
+        (Mode::Data, 0x3A) => Mode::Plain,
+        _ => mode,
     }
-}
-
-// The mode that a token opens, if that is heeded.
-fn opened(heeded: bool, mode: Mode) -> Mode
-    ensures { result ≡ cond heeded mode Mode.Plain }
-{
-    if heeded { mode } else { Mode::Plain }
 }

@@ -8,6 +8,8 @@ ghost use Rattle.image_readers.specs.Terminators.{terminator_step};
 ghost use Rattle.image_walk.specs.Places.{walk_at, behind};
 ghost use Rattle.base_refusals.specs.Answer.{answered};
 
+use base_refusals::Refusal;
+use image_readers::Line;
 
 // An image, and the offset at which the walk stands.
 #[derive(Clone, Copy)]
@@ -67,7 +69,6 @@ fn next_offset(image: &[u8], offset: usize) -> usize
 {
     match image_readers::terminators::step(image, offset) {
         Ok(Some(line)) => line.next,
-        Ok(None) => offset,
-        Err(_) => offset,
+        Ok(None) | Err(_) => offset,
     }
 }

@@ -34,16 +34,16 @@ fn counted(kept: bool) -> Answer
     ensures { Sendable result }
 {
     if kept {
-        return Answer::done();
+        Answer::done()
+    } else {
+        Answer::refused(Refusal::TooManyImages)
     }
-    Answer::refused(Refusal::TooManyImages)
 }
 
 // Whether bytes are so many images, each behind its length, and nothing else.
 fn fills(images: &[u8], count: u32) -> bool {
     let mut at: usize = 0;
-    let mut left = count;
-    while left > 0 {
+    for _ in 0..count {
         if images.len() - at < 4 {
             return false;
         }
@@ -52,7 +52,6 @@ fn fills(images: &[u8], count: u32) -> bool {
             return false;
         }
         at += 4 + length;
-        left -= 1;
     }
     at == images.len()
 }
@@ -68,19 +67,14 @@ fn take_all(images: &[u8], totals: &mut [u64]) -> bool {
         }
         let from = at + 4;
         let to = from + length;
-        if !is_kept(totals, &images[from..to]) {
-            kept = false;
-        }
+        kept = is_kept(totals, &images[from..to]) && kept;
         at = to;
     }
     kept
 }
 
 fn is_kept(totals: &mut [u64], image: &[u8]) -> bool {
-    if let Carried::Refused(_) = count_images::add_image(totals, image) {
-        return false;
-    }
-    true
+    !matches!(count_images::add_image(totals, image), Carried::Refused(_))
 }
 
 // The answer's numbers: images taken, images refused, tokens counted, each token's count, each token's share.
@@ -96,28 +90,20 @@ fn put_totals(totals: &[u64], out: &mut [u8])
 fn put_tokens(totals: &[u64], out: &mut [u8])
     requires { length out.old ≡ 3176 }
 {
-    let mut place: usize = 0;
-    while place < 197 {
+    for place in 0..197 {
         let token = count_images::token_at(place);
         put_number(out, 3 + place, count_at(totals, token as usize));
         put_number(out, 200 + place, count_totals::share(totals, token));
-        place += 1;
     }
 }
 
 fn count_at(totals: &[u64], k: usize) -> u64 {
-    if k < totals.len() { totals[k] } else { 0 }
+    totals.get(k).copied().unwrap_or(0)
 }
 
 // Stores a number of eight bytes at its place among such numbers, the low byte first.
 fn put_number(out: &mut [u8], place: usize, n: u64)
     requires { (place ≤ 396) × (8 * place + 8 ≤ length out.old) }
 {
-    let mut left = n;
-    let mut i: usize = 0;
-    while i < 8 {
-        out[8 * place + i] = (left % 256) as u8;
-        left /= 256;
-        i += 1;
-    }
+    out[8 * place..8 * place + 8].copy_from_slice(&n.to_le_bytes());
 }

@@ -12,15 +12,15 @@ pub fn byte_of(dialect: Dialect) -> u8 {
 }
 
 pub fn default_load(payload: &[u8]) -> bool {
-    if payload.len() < 1 {
+    let [byte, ..] = payload else {
         return judge_frames::reject();
-    }
-    match word_dialects::dialect_by_number(payload[0]) {
+    };
+    match word_dialects::dialect_by_number(*byte) {
         Ok(dialect) => send_load(word_dialects::default_load(dialect)),
         Err(_) => judge_frames::reject(),
     }
 }
 
 fn send_load(load: u16) -> bool {
-    Answer::done().number(load as usize).send()
+    Answer::done().number(usize::from(load)).send()
 }

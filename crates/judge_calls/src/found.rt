@@ -15,10 +15,10 @@ pub fn line_by_number(payload: &[u8]) -> bool {
 
 fn send_sought(image: &[u8], number: u16, limit: usize) -> bool {
     match image_find::find_line(image, number, limit) {
-        Sought::Found { visited, line } => send_found(image, visited, line),
-        Sought::Nowhere { visited } => Answer::done().number(visited).byte(0).send(),
-        Sought::LimitReached => Answer::beginning(19).send(),
-        Sought::Refused(refusal) => judge_frames::refuse(refusal),
+        Ok(Sought::Found { visited, line }) => send_found(image, visited, line),
+        Ok(Sought::Nowhere { visited }) => Answer::done().number(visited).byte(0).send(),
+        Ok(Sought::LimitReached) => Answer::beginning(19).send(),
+        Err(refusal) => judge_frames::refuse(refusal),
     }
 }
 

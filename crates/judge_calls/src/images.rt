@@ -1,12 +1,15 @@
 // Ops 06 to 09, 18 and 19: the readers.
 ghost use Rattle.std.specs.Prelude.{◌≤◌};
 
-use image_readers::{By, Line, Overview};
+use image_readers::{By, Line};
 use judge_frames::Answer;
 
 pub fn check(image: &[u8], by: By) -> bool {
     match image_readers::check_by(image, by) {
-        Ok(Overview { load, lines }) => Answer::done().number(load as usize).number(lines).send(),
+        Ok(seen) => Answer::done()
+            .number(usize::from(seen.load))
+            .number(seen.lines)
+            .send(),
         Err(refusal) => judge_frames::refuse(refusal),
     }
 }
@@ -35,10 +38,12 @@ fn send_step(image: &[u8], offset: usize, by: By, is_addressed: bool) -> bool {
 fn found(line: Line, is_addressed: bool) -> Answer
     ensures { (5 ≤ result.len) × (result.len ≤ 32) }
 {
+    let answer = Answer::done().byte(1);
     if is_addressed {
-        return Answer::done().byte(1).number(line.address);
+        answer.number(line.address)
+    } else {
+        answer
     }
-    Answer::done().byte(1)
 }
 
 // A line behind what the answer holds: link, number, next offset, body length, body.
@@ -46,8 +51,8 @@ pub fn send_line(answer: Answer, line: Line, body: &[u8]) -> bool
     requires { (5 ≤ answer.len) × (answer.len ≤ 32) }
 {
     answer
-        .number(line.link as usize)
-        .number(line.number as usize)
+        .number(usize::from(line.link))
+        .number(usize::from(line.number))
         .number(line.next)
         .number(body.len())
         .send_with(body)

@@ -1,9 +1,7 @@
 // Op 1A: the line at a place of the image that a text would have.
 use crate::texts;
 use crunch_rules::{MeasuredLine, Options};
-use image_readers::Line;
 use judge_frames::Answer;
-use texts::Asked;
 
 pub fn measured_line(payload: &[u8]) -> bool {
     if payload.len() < 12 {
@@ -11,8 +9,8 @@ pub fn measured_line(payload: &[u8]) -> bool {
     }
     let place = judge_frames::u64_at(payload, 4) as usize;
     match texts::with_options(payload) {
-        Asked::With(options) => send_line(&payload[12..], options, place),
-        Asked::Unknown => judge_frames::reject(),
+        Some(options) => send_line(&payload[12..], options, place),
+        None => judge_frames::reject(),
     }
 }
 
@@ -24,24 +22,15 @@ fn send_line(text: &[u8], options: Options, place: usize) -> bool {
     }
 }
 
-// A body never ends before it begins; the line does not say so.
-fn body_length(line: Line) -> usize {
-    if line.to < line.from {
-        0
-    } else {
-        line.to - line.from
-    }
-}
-
 // Address, link, number, body length, text line.
 fn send_measured(found: MeasuredLine) -> bool {
     let line = found.line;
     Answer::done()
         .byte(1)
         .number(line.address)
-        .number(line.link as usize)
-        .number(line.number as usize)
-        .number(body_length(line))
+        .number(usize::from(line.link))
+        .number(usize::from(line.number))
+        .number(line.to.saturating_sub(line.from))
         .number(found.origin)
         .send()
 }

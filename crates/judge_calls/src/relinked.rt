@@ -5,11 +5,11 @@ use judge_frames::Answer;
 // 0 for links that stay; 1, the offset of the first that does not and the new one; 2 where the image is left; 3 for no end.
 pub fn relink(image: &[u8]) -> bool {
     match image_relink::relink(image) {
-        Relinked::Same => judge_frames::tell(0),
-        Relinked::Changed { offset, link } => send_changed(offset, link),
-        Relinked::Leaves => judge_frames::tell(2),
-        Relinked::Endless => judge_frames::tell(3),
-        Relinked::Refused(refusal) => judge_frames::refuse(refusal),
+        Ok(Relinked::Same) => judge_frames::tell(0),
+        Ok(Relinked::Changed { offset, link }) => send_changed(offset, link),
+        Ok(Relinked::Leaves) => judge_frames::tell(2),
+        Ok(Relinked::Endless) => judge_frames::tell(3),
+        Err(refusal) => judge_frames::refuse(refusal),
     }
 }
 
@@ -17,6 +17,6 @@ fn send_changed(offset: usize, link: u16) -> bool {
     Answer::done()
         .byte(1)
         .number(offset)
-        .number(link as usize)
+        .number(usize::from(link))
         .send()
 }

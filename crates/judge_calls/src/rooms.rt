@@ -1,13 +1,12 @@
 // Ops 01, 02, 0A, 0B, 10, 11, 14 to 17, 1C, 1F, 30 and 31: the calls that write into a lent buffer, and those that tell the room for it.
 ghost use Rattle.std.specs.Prelude.{◌≤◌};
 
-use base_refusals::Refusal;
 use crate::texts;
+use base_refusals::Refusal;
 use crunch_rules::Options;
 use image_readers::By;
 use judge_frames::rooms;
 use list_options::ListOptions;
-use texts::Asked;
 
 #[derive(Clone, Copy)]
 pub enum Call {
@@ -17,13 +16,6 @@ pub enum Call {
     // The line index, and the report of jumps with no target.
     Index,
     Report,
-}
-
-// What a request asks for.
-#[derive(Clone, Copy)]
-pub enum Request {
-    Known(Call),
-    Unknown,
 }
 
 // How many bytes of a payload say what is called.
@@ -39,55 +31,38 @@ fn head_of(op: u8) -> usize
     }
 }
 
-fn request_of(op: u8, payload: &[u8]) -> Request {
+// What a request asks for, if it stands for a call.
+fn request_of(op: u8, payload: &[u8]) -> Option<Call> {
     match op {
-        0x01 | 0x02 => crunching(texts::plain(payload)),
-        0x0A | 0x0B => Request::Known(Call::List),
-        0x10 | 0x11 => crunching(texts::with_options(payload)),
-        0x14 | 0x15 => listing_in(payload, 0),
-        0x16 | 0x17 => listing_in(payload, 1),
-        0x1C => Request::Known(Call::Index),
-        0x1F => Request::Known(Call::Report),
+        0x01 | 0x02 => Some(Call::Crunch(texts::plain(payload)?)),
+        0x0A | 0x0B => Some(Call::List),
+        0x10 | 0x11 => Some(Call::Crunch(texts::with_options(payload)?)),
+        0x14 | 0x15 => listing_under(*payload.first()?, 0, By::Terminators),
+        0x16 | 0x17 => listing_under(*payload.first()?, 1, By::Terminators),
+        0x1C => Some(Call::Index),
+        0x1F => Some(Call::Report),
         _ => listing_by_links(payload),
     }
 }
 
-fn crunching(asked: Asked) -> Request {
-    match asked {
-        Asked::With(options) => Request::Known(Call::Crunch(options)),
-        Asked::Unknown => Request::Unknown,
-    }
-}
-
-// Under the dialect that the payload names, in a mode.
-fn listing_in(payload: &[u8], mode: u8) -> Request {
-    if payload.len() < 1 {
-        return Request::Unknown;
-    }
-    listing_under(payload[0], mode, By::Terminators)
-}
-
 // By links, in the mode that the payload names.
-fn listing_by_links(payload: &[u8]) -> Request {
-    if payload.len() < 2 {
-        return Request::Unknown;
+fn listing_by_links(payload: &[u8]) -> Option<Call> {
+    match payload {
+        [dialect, mode, ..] => listing_under(*dialect, *mode, By::Links),
+        _ => None,
     }
-    listing_under(payload[0], payload[1], By::Links)
 }
 
 // A dialect's byte, and a mode's: 0 the old one, 1 the second.
-fn listing_under(dialect: u8, mode: u8, by: By) -> Request {
+fn listing_under(dialect: u8, mode: u8, by: By) -> Option<Call> {
     if mode > 1 {
-        return Request::Unknown;
+        return None;
     }
-    match word_dialects::dialect_by_number(dialect) {
-        Ok(dialect) => Request::Known(Call::ListUnder(ListOptions {
-            dialect,
-            remarks: mode == 1,
-            by,
-        })),
-        Err(_) => Request::Unknown,
-    }
+    Some(Call::ListUnder(ListOptions {
+        dialect: word_dialects::dialect_by_number(dialect).ok()?,
+        remarks: mode == 1,
+        by,
+    }))
 }
 
 // Answers a call with a lent buffer. Behind the head the payload has the buffer's size, and what is read.
@@ -100,21 +75,15 @@ pub fn answer(op: u8, payload: &[u8], room: &mut [u8]) -> bool {
     if size > room.len() {
         return judge_frames::reject();
     }
-    answer_in(
-        request_of(op, payload),
-        &payload[from..],
-        &mut room[0..size],
-    )
+    answer_in(request_of(op, payload), &payload[from..], &mut room[..size])
 }
 
-fn answer_in(request: Request, input: &[u8], room: &mut [u8]) -> bool {
-    match request {
-        Request::Known(call) => {
-            rooms::fill(room);
-            judge_frames::length_of(written(call, input, room)).send_with(room)
-        }
-        Request::Unknown => judge_frames::reject(),
-    }
+fn answer_in(request: Option<Call>, input: &[u8], room: &mut [u8]) -> bool {
+    let Some(call) = request else {
+        return judge_frames::reject();
+    };
+    rooms::fill(room);
+    judge_frames::length_of(written(call, input, room)).send_with(room)
 }
 
 fn written(call: Call, input: &[u8], room: &mut [u8]) -> Result<usize, Refusal> {
@@ -134,8 +103,8 @@ pub fn measure(op: u8, payload: &[u8]) -> bool {
         return judge_frames::reject();
     }
     match request_of(op, payload) {
-        Request::Known(call) => send_room(call, &payload[from..]),
-        Request::Unknown => judge_frames::reject(),
+        Some(call) => send_room(call, &payload[from..]),
+        None => judge_frames::reject(),
     }
 }
 
@@ -145,8 +114,7 @@ fn send_room(call: Call, input: &[u8]) -> bool {
         Call::Crunch(options) => send_length(crunch_image::room(input, options)),
         Call::List => send_length(list_image::room(input)),
         Call::ListUnder(options) => send_length(list_image::room_under(input, options)),
-        Call::Index => judge_frames::reject(),
-        Call::Report => judge_frames::reject(),
+        Call::Index | Call::Report => judge_frames::reject(),
     }
 }
 

@@ -4,50 +4,41 @@ use crunch_rules::Options;
 use guess::resolve;
 use word_dialects::Dialect;
 
-#[derive(Clone, Copy)]
-pub enum Asked {
-    With(Options),
-    Unknown,
-}
-
 // The load address and the dialect's byte that a payload begins with, without options.
-pub fn plain(payload: &[u8]) -> Asked {
-    if payload.len() < 3 {
-        return Asked::Unknown;
-    }
-    asked_for(judge_frames::u16_at(payload, 0), payload[2], 0)
+pub fn plain(payload: &[u8]) -> Option<Options> {
+    let [low, high, dialect, ..] = payload else {
+        return None;
+    };
+    asked_for(u16::from_le_bytes([*low, *high]), *dialect, 0)
 }
 
 // The same, and the byte of options.
-pub fn with_options(payload: &[u8]) -> Asked {
-    if payload.len() < 4 {
-        return Asked::Unknown;
-    }
-    asked_for(judge_frames::u16_at(payload, 0), payload[2], payload[3])
+pub fn with_options(payload: &[u8]) -> Option<Options> {
+    let [low, high, dialect, bits, ..] = payload else {
+        return None;
+    };
+    asked_for(u16::from_le_bytes([*low, *high]), *dialect, *bits)
 }
 
 // Bit 0 of the options: the machine profile; bit 1: short forms. No other bit is known.
-fn asked_for(load: u16, dialect: u8, bits: u8) -> Asked {
+fn asked_for(load: u16, dialect: u8, bits: u8) -> Option<Options> {
     if bits > 3 {
-        return Asked::Unknown;
+        return None;
     }
-    match word_dialects::dialect_by_number(dialect) {
-        Ok(dialect) => Asked::With(Options {
-            load,
-            dialect,
-            profile: bits % 2 == 1,
-            forms: bits / 2 == 1,
-        }),
-        Err(_) => Asked::Unknown,
-    }
+    Some(Options {
+        load,
+        dialect: word_dialects::dialect_by_number(dialect).ok()?,
+        profile: bits % 2 == 1,
+        forms: bits / 2 == 1,
+    })
 }
 
 pub fn resolved_dialect(payload: &[u8]) -> bool {
-    if payload.len() < 1 {
+    let [byte, text @ ..] = payload else {
         return judge_frames::reject();
-    }
-    match word_dialects::dialect_by_number(payload[0]) {
-        Ok(dialect) => send_resolved(&payload[1..], dialect),
+    };
+    match word_dialects::dialect_by_number(*byte) {
+        Ok(dialect) => send_resolved(text, dialect),
         Err(_) => judge_frames::reject(),
     }
 }

@@ -9,5 +9,5 @@ pub fn dialect_by_name(word: &[u8]) -> bool {
 }
 
 pub fn is_tsb_word(word: &[u8]) -> bool {
-    judge_frames::tell(word_match::tsb::is_tsb_keyword_name(word) as u8)
+    judge_frames::tell(u8::from(word_match::tsb::is_tsb_keyword_name(word)))
 }

@@ -14,22 +14,18 @@ fn add_both(state: State, bytes: &[u8]) -> State {
     digest_sha256::add(first, &bytes[cut..])
 }
 
-// A proved loop has to end, and nothing says that an input does: the turns are counted down, from a number that no run uses up.
+// A proved loop has to end, and nothing says that an input does: it has more turns than a run uses up.
 fn main() {
     let mut buffer = io::buffer();
     let mut state = digest_sha256::start();
-    let mut turns = u64::MAX;
-    while turns > 0 {
+    for _ in 0..u64::MAX {
         let count = io::read_full(STDIN_FILENO, &mut buffer);
         if count == 0 {
             break;
         }
         state = add_both(state, &buffer[..count]);
-        turns -= 1;
     }
-    io::write_all(
-        STDOUT_FILENO,
-        &digest_sha256::hex(digest_sha256::finish(state)),
-    );
+    let digest = digest_sha256::hex(digest_sha256::finish(state));
+    io::write_all(STDOUT_FILENO, &digest);
     io::write_all(STDOUT_FILENO, b"  -\n");
 }

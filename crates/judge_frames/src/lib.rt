@@ -3,7 +3,7 @@
 
 pub mod rooms;
 
-ghost use Rattle.std.specs.Prelude.{◌≡◌, ◌+◌, ◌*◌, ◌^◌, ◌≤◌, length};
+ghost use Rattle.std.specs.Prelude.{◌≡◌, ◌+◌, ◌≤◌, length};
 ghost use Rattle.judge_frames.specs.FramesHelpers.{u16_at, u32_at, u64_at, Sendable};
 
 use base_refusals::Refusal;
@@ -16,39 +16,21 @@ pub fn u16_at(bytes: &[u8], at: usize) -> u16
     requires { at + 2 ≤ length bytes.now }
     ensures { result ≡ u16_at bytes.now at }
 {
-    u16_of(bytes[at], bytes[at + 1])
+    u16::from_le_bytes([bytes[at], bytes[at + 1]])
 }
 
 pub fn u32_at(bytes: &[u8], at: usize) -> u32
     requires { at + 4 ≤ length bytes.now }
     ensures { result ≡ u32_at bytes.now at }
 {
-    u32_of(u16_at(bytes, at), u16_at(bytes, at + 2))
+    u32::from(u16_at(bytes, at)) + 65_536 * u32::from(u16_at(bytes, at + 2))
 }
 
 pub fn u64_at(bytes: &[u8], at: usize) -> u64
     requires { at + 8 ≤ length bytes.now }
     ensures { result ≡ u64_at bytes.now at }
 {
-    u64_of(u32_at(bytes, at), u32_at(bytes, at + 4))
-}
-
-fn u16_of(low: u8, high: u8) -> u16
-    ensures { result ≡ low + 2 ^ 8 * high }
-{
-    (low as u16) + 256 * (high as u16)
-}
-
-fn u32_of(low: u16, high: u16) -> u32
-    ensures { result ≡ low + 2 ^ 16 * high }
-{
-    (low as u32) + 65_536 * (high as u32)
-}
-
-fn u64_of(low: u32, high: u32) -> u64
-    ensures { result ≡ low + 2 ^ 32 * high }
-{
-    (low as u64) + 4_294_967_296 * (high as u64)
+    u64::from(u32_at(bytes, at)) + 4_294_967_296 * u64::from(u32_at(bytes, at + 4))
 }
 
 // An answer while it is put together. Its first four bytes are kept for the length of its body, which is known last.
@@ -88,14 +70,11 @@ impl Answer {
     {
         let code = base_refusals::refusal_code(refusal);
         let bare = Answer::beginning(code.number);
-        if code.count == 0 {
-            return bare;
+        match code.count {
+            0 => bare,
+            1 => bare.number(code.first),
+            _ => bare.number(code.first).number(code.second),
         }
-        let one = bare.number(code.first);
-        if code.count == 1 {
-            return one;
-        }
-        one.number(code.second)
     }
 
     pub fn byte(mut self, b: u8) -> Self
@@ -108,26 +87,15 @@ impl Answer {
         self
     }
 
-    fn two_bytes(self, n: usize) -> Self
-        requires { self.len + 2 ≤ 64 }
-        ensures { result.len ≡ self.len + 2 }
-    {
-        self.byte((n % 256) as u8).byte((n / 256 % 256) as u8)
-    }
-
-    fn four_bytes(self, n: usize) -> Self
-        requires { self.len + 4 ≤ 64 }
-        ensures { result.len ≡ self.len + 4 }
-    {
-        self.two_bytes(n).two_bytes(n / 65_536)
-    }
-
     // A number of eight bytes.
-    pub fn number(self, n: usize) -> Self
+    pub fn number(mut self, n: usize) -> Self
         requires { self.len + 8 ≤ 64 }
         ensures { result.len ≡ self.len + 8 }
     {
-        self.four_bytes(n).four_bytes(n / 4_294_967_296)
+        let at = self.len;
+        self.bytes[at..at + 8].copy_from_slice(&(n as u64).to_le_bytes());
+        self.len = at + 8;
+        self
     }
 
     // Writes the answer; false where it cannot be written.
@@ -159,11 +127,9 @@ impl Answer {
     fn send_before(mut self, behind: usize) -> bool
         requires { Sendable self × (behind ≤ 10000000000000000000) }
     {
-        let len = self.len;
-        self.len = 0;
-        let whole = self.four_bytes(len - 4 + behind);
-        let bytes = whole.bytes;
-        write_front(&bytes, len)
+        let size = (self.len - 4 + behind) % 4_294_967_296;
+        self.bytes[..4].copy_from_slice(&(size as u32).to_le_bytes());
+        io::write_all(STDOUT_FILENO, &self.bytes[..self.len])
     }
 }
 
@@ -175,13 +141,6 @@ pub fn length_of(outcome: Result<usize, Refusal>) -> Answer
         Ok(n) => Answer::done().number(n),
         Err(refusal) => Answer::refused(refusal),
     }
-}
-
-fn write_front(bytes: &[u8; 64], len: usize) -> bool
-    requires { len ≤ 64 }
-{
-    let all: &[u8] = bytes;
-    io::write_all(STDOUT_FILENO, &all[0..len])
 }
 
 // Answers a request that stands for no call.

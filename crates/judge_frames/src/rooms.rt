@@ -5,9 +5,5 @@ ghost use Rattle.std.specs.Prelude.{◌≡◌, length, replicate};
 pub fn fill(room: &mut [u8])
     ensures { room.new ≡ replicate (length room.old) 0xA5 }
 {
-    let mut i: usize = 0;
-    while i < room.len() {
-        room[i] = 0xA5;
-        i += 1;
-    }
+    room.fill(0xA5);
 }

@@ -4,10 +4,8 @@
 // Then, for each of the 256 bytes, the listing of a line that holds the byte alone, and of one that holds a quote and the byte.
 #![tactic(auto)]
 
-
 use escape_bytes::Escape;
 use word_match::sets::Sets;
-use word_search::Match;
 use word_tables::{Words, spellings};
 
 // The descriptors of standard input and output.
@@ -26,29 +24,16 @@ fn print_code(byte: u8) {
 }
 
 // The token of a word or an operator, or 0.
-fn token_of(text: &[u8], words: Words) -> u8
-{
+fn token_of(text: &[u8], words: Words) -> u8 {
     let sets = Sets {
         tsb: false,
         demoted: [false; 123],
         basic35: true,
         forms: false,
     };
-    match word_match::match_plain(text, words, sets) {
-        Some(Match {
-            index: _,
-            used: _,
-            token,
-        }) => token,
-        None => match word_match::match_operator(text, words) {
-            Some(Match {
-                index: _,
-                used: _,
-                token,
-            }) => token,
-            None => 0,
-        },
-    }
+    word_match::match_plain(text, words, sets)
+        .or(word_match::match_operator(text, words))
+        .map_or(0, |found| found.token)
 }
 
 // A row: a token, and the word that it is listed as.
@@ -81,15 +66,11 @@ fn print_escape(name: &[u8]) {
 
 fn print_escapes(names: &[u8]) {
     let mut from: usize = 0;
-    let mut i: usize = 0;
-    while i < names.len() {
-        if names[i] != b'\n' {
-            i += 1;
-            continue;
+    for (i, b) in names.iter().enumerate() {
+        if *b == b'\n' {
+            print_escape(&names[from..i]);
+            from = i + 1;
         }
-        print_escape(&names[from..i]);
-        i += 1;
-        from = i;
     }
 }
 
@@ -100,9 +81,7 @@ fn print_listing(byte: u8, image: &[u8]) {
     io::write_all(STDOUT_FILENO, b"\t");
     match list_image::list(image, &mut text) {
         Ok(n) => {
-            if n <= text.len() {
-                io::write_all(STDOUT_FILENO, &text[0..n]);
-            }
+            io::write_all(STDOUT_FILENO, &text[..n.min(text.len())]);
         }
         Err(_) => {
             io::write_all(STDOUT_FILENO, b"refused\n");
@@ -123,7 +102,7 @@ fn main() {
     io::write_all(STDOUT_FILENO, b"# words\n");
     print_words();
     io::write_all(STDOUT_FILENO, b"# escapes\n");
-    print_escapes(&names[0..count]);
+    print_escapes(&names[..count]);
     io::write_all(STDOUT_FILENO, b"# listings\n");
     print_listings();
 }

@@ -8,8 +8,6 @@ use lib.Dec.{eqb}
 use Rattle.image_units.specs.declared.Mode.{Mode}
 use Rattle.image_units.specs.declared.Mode.TheVariants.{Plain, Quoted, Remark, Data, QuotedData}
 use Rattle.image_jumps.specs.declared.Cursor.{Cursor}
-use Rattle.image_jumps.specs.declared.Part.{Part}
-use Rattle.image_jumps.specs.declared.Part.TheVariants.{Empty, Worth}
 use Rattle.image_faults.specs.declared.Fault.{Fault}
 use Rattle.image_faults.specs.declared.Fault.TheVariants.{OutsideMemory, NumberTooHigh, NotAscending, ZeroInBody, BodyLength, NoTarget, LinkChanges, LinksLeave, LinksEndless}
 use Rattle.image_fitness.specs.declared.Check.{Check}
@@ -18,11 +16,11 @@ use Rattle.image_fitness.specs.declared.Stage.{Stage}
 use Rattle.image_fitness.specs.declared.Stage.TheVariants.{Memory, Line, Relinking, Done}
 use Rattle.image_fitness.specs.declared.Place.{Place}
 use Rattle.image_fitness.specs.declared.Found.{Found}
-use Rattle.image_fitness.specs.declared.Found.TheVariants.{Fault as FoundFault, None}
 use Rattle.image_fitness.specs.FaultHelpers.{faults_at, FaultIs}
 use Rattle.library_numbers.specs.declared.faults.WalkNumbers.{WalkNumbers}
 use Rattle.library_numbers.specs.declared.faults.FaultCode.{FaultCode}
 use Rattle.library_numbers.specs.FaultNumbers.{mode_number, worth_of, value_of, plain_walk, jumps_walk, check_walk, stage_walk, walk_numbers, mode_of, part_of, cursor_of, stage_of, walk_place, fault_code, found_code, FaultLeft}
+use Rattle.std.specs.Prelude.{Option, Some, None}
 
 -- ---- numbers name what they were made from
 
@@ -38,9 +36,9 @@ yes_back : (b : Bool) → not (eqb (cond b 1 0) 0) ≡ b
 yes_back true = refl
 yes_back false = refl
 
-part_back : (p : Part) → part_of (not (eqb (worth_of p) 0)) (value_of p) ≡ p
-part_back Empty = refl
-part_back (Worth n) = refl
+part_back : (p : Option ℕ) → part_of (not (eqb (worth_of p) 0)) (value_of p) ≡ p
+part_back None = refl
+part_back (Some n) = refl
 
 cursor_back : (c : Cursor) (offset least : ℕ) → cursor_of (jumps_walk c offset least) ≡ c
 cursor_back c offset least = rw (mode_back c.mode, yes_back c.listed, part_back c.part) refl
@@ -98,10 +96,10 @@ mode_other (suc (suc (suc (suc zero)))) a b c d = absurd (d refl)
 mode_other (suc (suc (suc (suc (suc n))))) a b c d = refl
 
 module _ (x : WalkNumbers) where
-  pub cursor_made : {m : Mode} → m ≡ mode_of x.mode → {p : Part} → p ≡ part_of (not (eqb x.begun 0)) x.value
+  pub cursor_made : {m : Mode} → m ≡ mode_of x.mode → {p : Option ℕ} → p ≡ part_of (not (eqb x.begun 0)) x.value
       → record { at = x.at; mode = m; listed = not (eqb x.listed 0); part = p } ≡ cursor_of x
   cursor_made {m} mode part =
-      ap (λ (y : Part). record { at = x.at; mode = m; listed = not (eqb x.listed 0); part = y }) part
+      ap (λ (y : Option ℕ). record { at = x.at; mode = m; listed = not (eqb x.listed 0); part = y }) part
       ∙ ap (λ (y : Mode). record { at = x.at; mode = y; listed = not (eqb x.listed 0); part = part_of (not (eqb x.begun 0)) x.value }) mode
 
   pub place_made : {s : Stage} → s ≡ stage_of x.stage x → record { stage = s; offset = x.offset; least = x.least } ≡ walk_place x
@@ -127,10 +125,10 @@ module _ (x : WalkNumbers) where
 pub tells_mode : (m : Mode) {k : Mode} → m ≡ k → {n : ℕ} → n ≡ mode_number k → n ≡ mode_number m
 tells_mode m e is = is ∙ ap mode_number (sym e)
 
-pub tells_worth : (p : Part) {k : Part} → p ≡ k → {n : ℕ} → n ≡ worth_of k → n ≡ worth_of p
+pub tells_worth : (p : Option ℕ) {k : Option ℕ} → p ≡ k → {n : ℕ} → n ≡ worth_of k → n ≡ worth_of p
 tells_worth p e is = is ∙ ap worth_of (sym e)
 
-pub tells_value : (p : Part) {k : Part} → p ≡ k → {n : ℕ} → n ≡ value_of k → n ≡ value_of p
+pub tells_value : (p : Option ℕ) {k : Option ℕ} → p ≡ k → {n : ℕ} → n ≡ value_of k → n ≡ value_of p
 tells_value p e is = is ∙ ap value_of (sym e)
 
 pub tells_jumps : (c : Cursor) (offset least : ℕ) {m : ℕ} → m ≡ mode_number c.mode → {l : ℕ} → l ≡ cond c.listed 1 0 → {w : ℕ} → w ≡ worth_of c.part → {v : ℕ} → v ≡ value_of c.part
@@ -147,10 +145,10 @@ tells_stage p e is = is ∙ ap (λ (y : Stage). stage_walk y p.offset p.least) (
 pub tells_fault : (f : Fault) {k : Fault} → f ≡ k → (x : WalkNumbers) {c : FaultCode} → c ≡ fault_code k x → c ≡ fault_code f x
 tells_fault f e x is = is ∙ ap (λ (y : Fault). fault_code y x) (sym e)
 
-pub tells_found : (r : Found) {f : Fault} {q : Place} → r ≡ FoundFault f q → {x : WalkNumbers} → x ≡ walk_numbers q → {c : FaultCode} → c ≡ fault_code f x → c ≡ found_code r
-tells_found r {f} e number is = is ∙ ap (fault_code f) number ∙ ap found_code (sym e)
+pub tells_found : (r : Option Found) {m : Found} → r ≡ Some m → {x : WalkNumbers} → x ≡ walk_numbers m.place → {c : FaultCode} → c ≡ fault_code m.fault x → c ≡ found_code r
+tells_found r {m} e number is = is ∙ ap (fault_code m.fault) number ∙ ap found_code (sym e)
 
-pub tells_none : (r : Found) → r ≡ None → {x : WalkNumbers} → x ≡ walk_numbers (record { stage = Done; offset = 0; least = 0 }) → {c : FaultCode} → c ≡ record { kind = 0; first = 0; second = 0; place = x } → c ≡ found_code r
+pub tells_none : (r : Option Found) → r ≡ None → {x : WalkNumbers} → x ≡ walk_numbers (record { stage = Done; offset = 0; least = 0 }) → {c : FaultCode} → c ≡ record { kind = 0; first = 0; second = 0; place = x } → c ≡ found_code r
 tells_none r e number is = is ∙ ap (λ (y : WalkNumbers). record { kind = 0; first = 0; second = 0; place = y }) number ∙ ap found_code (sym e)
 
 -- the place behind a fault
@@ -167,13 +165,13 @@ placed LinksEndless x = refl
 
 -- the next fault
 module _ (has : ℕ → Bool) (s : List ℕ) where
-  left_of_lem : (p : Place) (r : Found) → FaultIs has s p r → FaultLeft has s (faults_at has s p) (found_code r)
-  left_of_lem p (FoundFault f q) is =
-      subst (λ (fs : List Fault). FaultLeft has s fs (fault_code f (walk_numbers q))) (sym is)
-      (ap (fault_code f) (sym (placed f (walk_numbers q))), ap (λ (y : WalkNumbers). faults_at has s (walk_place y)) (placed f (walk_numbers q)) ∙ ap (faults_at has s) (walk_back q))
+  left_of_lem : (p : Place) (r : Option Found) → FaultIs has s p r → FaultLeft has s (faults_at has s p) (found_code r)
+  left_of_lem p (Some m) is =
+      subst (λ (fs : List Fault). FaultLeft has s fs (fault_code m.fault (walk_numbers m.place))) (sym is)
+      (ap (fault_code m.fault) (sym (placed m.fault (walk_numbers m.place))), ap (λ (y : WalkNumbers). faults_at has s (walk_place y)) (placed m.fault (walk_numbers m.place)) ∙ ap (faults_at has s) (walk_back m.place))
   left_of_lem p None is = subst (λ (fs : List Fault). FaultLeft has s fs (found_code None)) (sym is) refl
 
-  pub tells_next : (x : WalkNumbers) {p : Place} → p ≡ walk_place x → (r : Found) → FaultIs has s p r → {c : FaultCode} → c ≡ found_code r → FaultLeft has s (faults_at has s (walk_place x)) c
+  pub tells_next : (x : WalkNumbers) {p : Place} → p ≡ walk_place x → (r : Option Found) → FaultIs has s p r → {c : FaultCode} → c ≡ found_code r → FaultLeft has s (faults_at has s (walk_place x)) c
   tells_next x {p} at r is code =
       subst (λ (y : FaultCode). FaultLeft has s (faults_at has s (walk_place x)) y) (sym code)
       (subst (λ (y : Place). FaultLeft has s (faults_at has s y) (found_code r)) at (left_of_lem p r is))

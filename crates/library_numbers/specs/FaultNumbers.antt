@@ -4,8 +4,6 @@ use Rattle.std.specs.Prelude.{ℕ, zero, suc, ◌≡◌, Bool, not, cond, List, 
 use Rattle.image_units.specs.declared.Mode.{Mode}
 use Rattle.image_units.specs.declared.Mode.TheVariants.{Plain, Quoted, Remark, Data, QuotedData}
 use Rattle.image_jumps.specs.declared.Cursor.{Cursor}
-use Rattle.image_jumps.specs.declared.Part.{Part}
-use Rattle.image_jumps.specs.declared.Part.TheVariants.{Empty, Worth}
 use Rattle.image_faults.specs.declared.Fault.{Fault}
 use Rattle.image_faults.specs.declared.Fault.TheVariants.{OutsideMemory, NumberTooHigh, NotAscending, ZeroInBody, BodyLength, NoTarget, LinkChanges, LinksLeave, LinksEndless}
 use Rattle.image_fitness.specs.declared.Check.{Check}
@@ -14,10 +12,10 @@ use Rattle.image_fitness.specs.declared.Stage.{Stage}
 use Rattle.image_fitness.specs.declared.Stage.TheVariants.{Memory, Line, Relinking, Done}
 use Rattle.image_fitness.specs.declared.Place.{Place}
 use Rattle.image_fitness.specs.declared.Found.{Found}
-use Rattle.image_fitness.specs.declared.Found.TheVariants.{Fault as FoundFault, None}
 use Rattle.image_fitness.specs.FaultHelpers.{faults_at}
 use Rattle.library_numbers.specs.declared.faults.WalkNumbers.{WalkNumbers}
 use Rattle.library_numbers.specs.declared.faults.FaultCode.{FaultCode}
+use Rattle.std.specs.Prelude.{Option, Some, None}
 
 -- ---- a place in numbers (`walk_back`, proofs/Walking.antt: they name the place that they were made from)
 
@@ -28,13 +26,13 @@ mode_number Remark = 2
 mode_number Data = 3
 mode_number QuotedData = 4
 
-abbrev pub worth_of : Part → ℕ
-worth_of Empty = 0
-worth_of (Worth n) = 1
+abbrev pub worth_of : Option ℕ → ℕ
+worth_of None = 0
+worth_of (Some n) = 1
 
-abbrev pub value_of : Part → ℕ
-value_of Empty = 0
-value_of (Worth n) = n
+abbrev pub value_of : Option ℕ → ℕ
+value_of None = 0
+value_of (Some n) = n
 
 abbrev pub plain_walk : ℕ → ℕ → ℕ → WalkNumbers
 plain_walk stage offset least = record { stage = stage; mode = 0; listed = 0; begun = 0; at = 0; value = 0; offset = offset; least = least }
@@ -78,8 +76,8 @@ mode_of (suc (suc (suc zero))) = Data
 mode_of (suc (suc (suc (suc zero)))) = QuotedData
 mode_of (suc (suc (suc (suc (suc n))))) = Plain
 
-abbrev pub part_of : Bool → ℕ → Part
-part_of begun value = cond begun (Worth value) Empty
+abbrev pub part_of : Bool → ℕ → Option ℕ
+part_of begun value = cond begun (Some value) None
 
 abbrev pub cursor_of : WalkNumbers → Cursor
 cursor_of x = record { at = x.at; mode = mode_of x.mode; listed = not (eqb x.listed 0); part = part_of (not (eqb x.begun 0)) x.value }
@@ -115,8 +113,8 @@ fault_code LinksEndless x = record { kind = 9; first = 0; second = 0; place = x 
 abbrev pub no_fault : FaultCode
 no_fault = record { kind = 0; first = 0; second = 0; place = plain_walk 7 0 0 }
 
-abbrev pub found_code : Found → FaultCode
-found_code (FoundFault f q) = fault_code f (walk_numbers q)
+abbrev pub found_code : Option Found → FaultCode
+found_code (Some m) = fault_code m.fault (walk_numbers m.place)
 found_code None = no_fault
 
 -- the first of the faults that are left, and a place at which the others are left; or none

@@ -6,7 +6,7 @@ ghost use Rattle.library_numbers.specs.FaultNumbers.{mode_of, mode_number, stage
 
 use image_faults::Fault;
 use image_fitness::{Check, Found, Place, Stage};
-use image_jumps::{Cursor, Part};
+use image_jumps::Cursor;
 use image_units::Mode;
 
 // A place of the walk. A stage is 0 before all; 1 to 5 at the number, the order, a zero, the length and the jumps of a line; 6 behind the last
@@ -91,14 +91,10 @@ fn cursor_of(given: WalkNumbers) -> Cursor
     }
 }
 
-fn part_of(begun: bool, value: usize) -> Part
+fn part_of(begun: bool, value: usize) -> Option<usize>
     ensures { result ≡ part_of begun value }
 {
-    if begun {
-        Part::Worth(value)
-    } else {
-        Part::Empty
-    }
+    if begun { Some(value) } else { None }
 }
 
 pub fn mode_of(number: u8) -> Mode
@@ -115,12 +111,12 @@ pub fn mode_of(number: u8) -> Mode
 
 // ---- to numbers
 
-fn found_code(found: Found) -> FaultCode
+fn found_code(found: Option<Found>) -> FaultCode
     ensures { result ≡ found_code found }
 {
     match found {
-        Found::Fault { fault, place } => fault_code(fault, walk_numbers(place)),
-        Found::None => told(0, 0, 0, plain_walk(7, 0, 0)),
+        Some(Found { fault, place }) => fault_code(fault, walk_numbers(place)),
+        None => told(0, 0, 0, plain_walk(7, 0, 0)),
     }
 }
 
@@ -215,21 +211,21 @@ fn yes_or_no(b: bool) -> u8
     if b { 1 } else { 0 }
 }
 
-fn worth_of(part: Part) -> u8
+fn worth_of(part: Option<usize>) -> u8
     ensures { result ≡ worth_of part }
 {
     match part {
-        Part::Empty => 0,
-        Part::Worth(_) => 1,
+        None => 0,
+        Some(_) => 1,
     }
 }
 
-fn value_of(part: Part) -> usize
+fn value_of(part: Option<usize>) -> usize
     ensures { result ≡ value_of part }
 {
     match part {
-        Part::Empty => 0,
-        Part::Worth(value) => value,
+        None => 0,
+        Some(value) => value,
     }
 }
 

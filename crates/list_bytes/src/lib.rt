@@ -5,6 +5,8 @@ ghost use Rattle.std.specs.Prelude.{◌≡◌, [], ◌∷◌, ◌%◌, get_or};
 ghost use Rattle.list_bytes.specs.ByteTexts.{hex_digits, byte_text, remark_text};
 ghost use Rattle.list_bytes.specs.HeldHelpers.{held};
 
+const HEX_DIGITS: [u8; 16] = *b"0123456789ABCDEF";
+
 // A text of at most six bytes: the first len of them, and zeros behind.
 #[derive(Clone, Copy)]
 pub struct ByteText {
@@ -25,32 +27,26 @@ fn one(b: u8) -> ByteText
 pub fn byte_to_string(b: u8) -> ByteText
     ensures { result ≡ held (byte_text b) }
 {
-    if b == 0 {
-        return ByteText {
+    match b {
+        0 => ByteText {
             bytes: *b"{null}",
             len: 6,
-        };
-    }
-    if b == 0x0D {
-        return one(0x0A);
-    }
-    if base_ascii::between(0x20, 0x5F, b) {
-        return one(b);
-    }
-    if b == 0x60 {
-        return ByteText {
+        },
+        0x0D => one(b'\n'),
+        0x20..=0x5F => one(b),
+        0x60 => ByteText {
             bytes: [0xE2, 0x94, 0x80, 0, 0, 0],
             len: 3,
-        };
-    }
-    if base_ascii::between(0xC1, 0xDA, b) {
-        return one(b - 0x80);
-    }
-    let high = hex_digit(b / 16);
-    let low = hex_digit(b % 16);
-    ByteText {
-        bytes: [0x7B, 0x24, high, low, 0x7D, 0],
-        len: 5,
+        },
+        0xC1..=0xDA => one(b - 0x80),
+        _ => {
+            let high = hex_digit(b / 16);
+            let low = hex_digit(b % 16);
+            ByteText {
+                bytes: [b'{', b'$', high, low, b'}', 0],
+                len: 5,
+            }
+        }
     }
 }
 
@@ -58,19 +54,15 @@ pub fn byte_to_string(b: u8) -> ByteText
 pub fn remark_to_string(b: u8) -> ByteText
     ensures { result ≡ held (remark_text b) }
 {
-    if base_ascii::between(0x61, 0x7A, b) {
-        return one(b);
+    match b {
+        0x61..=0x7A => one(b),
+        _ => byte_to_string(b),
     }
-    byte_to_string(b)
 }
 
 // The hex digit of a value below 16; any other value is taken as its last digit.
 pub fn hex_digit(value: u8) -> u8
     ensures { result ≡ get_or hex_digits (value % 16) 0 }
 {
-    let digit = value % 16;
-    if digit < 10 {
-        return 0x30 + digit;
-    }
-    0x41 + (digit - 10)
+    HEX_DIGITS[usize::from(value % 16)]
 }

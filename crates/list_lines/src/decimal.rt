@@ -7,26 +7,20 @@ ghost use Rattle.base_steps.specs.Decimal.{decimal};
 pub fn places(n: u16) -> usize
     ensures { result ≡ length (decimal n) }
 {
-    if n < 10 {
-        return 1;
+    match n {
+        0..=9 => 1,
+        10..=99 => 2,
+        100..=999 => 3,
+        1000..=9999 => 4,
+        _ => 5,
     }
-    if n < 100 {
-        return 2;
-    }
-    if n < 1000 {
-        return 3;
-    }
-    if n < 10000 {
-        return 4;
-    }
-    5
 }
 
 fn digit(n: u16, unit: u16) -> u8
     requires { 0 < unit }
     ensures { result ≡ 48 + n / unit % 10 }
 {
-    48 + (n / unit % 10) as u8
+    b'0' + (n / unit % 10) as u8
 }
 
 // Stores a number's digits from a place on, and answers the place behind them.

@@ -25,8 +25,7 @@ pub fn measure_body(texts: Texts, rules: Rules, body: &[u8]) -> usize
             i += 1;
         } else {
             let taken = image_units::unit_at(body, i, mode, rules);
-            let unit = taken.unit;
-            n += list_spelling::unit_length(texts, unit);
+            n += list_spelling::unit_length(texts, taken.unit);
             i += taken.used;
             mode = taken.mode;
         }
@@ -36,13 +35,7 @@ pub fn measure_body(texts: Texts, rules: Rules, body: &[u8]) -> usize
 
 // Stores the listing of a body from a place on, and answers the place behind it. A second loop beside `measure_body`: one for both would ask at each
 // unit which of the two it serves.
-pub fn put_body(
-    out: &mut [u8],
-    at: usize,
-    texts: Texts,
-    rules: Rules,
-    body: &[u8],
-) -> usize
+pub fn put_body(out: &mut [u8], at: usize, texts: Texts, rules: Rules, body: &[u8]) -> usize
     requires { (length body.now ≤ 1048576) × Room out.old at (body_listing rules body.now) }
     ensures { Put out.old at (body_listing rules body.now) result out.new }
 {
@@ -57,8 +50,7 @@ pub fn put_body(
             i += 1;
         } else {
             let taken = image_units::unit_at(body, i, mode, rules);
-            let unit = taken.unit;
-            to = list_spelling::put_unit(out, to, texts, unit);
+            to = list_spelling::put_unit(out, to, texts, taken.unit);
             i += taken.used;
             mode = taken.mode;
         }
@@ -80,22 +72,16 @@ pub fn put_head(out: &mut [u8], at: usize, number: u16) -> usize
     ensures { Put out.old at (head_listing number) result out.new }
 {
     let space = decimal::put_decimal(out, at, number);
-    out[space] = 0x20;
+    out[space] = b' ';
     space + 1
 }
 
 // Stores a line's body and its end from a place on, and answers the place behind them.
-pub fn put_rest(
-    out: &mut [u8],
-    at: usize,
-    texts: Texts,
-    rules: Rules,
-    body: &[u8],
-) -> usize
+pub fn put_rest(out: &mut [u8], at: usize, texts: Texts, rules: Rules, body: &[u8]) -> usize
     requires { (length body.now ≤ 1048576) × Room out.old at (rest_listing rules body.now) }
     ensures { Put out.old at (rest_listing rules body.now) result out.new }
 {
     let to = put_body(out, at, texts, rules, body);
-    out[to] = 0x0A;
+    out[to] = b'\n';
     to + 1
 }

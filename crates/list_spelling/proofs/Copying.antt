@@ -1,20 +1,21 @@
--- A text stored: one byte; its first four and its last four; or the loop over more, with its invariant, a turn, and its end.
+-- A text stored: one byte; its first four and its last four; or in one copy.
 -- Assumes nothing.
-use Prim.Native.Nat.{ℕ, zero, suc, ◌+◌, ◌-◌, ◌≤◌, ◌<◌}
-use mathlib.Core.Path.{◌≡◌, refl, ap, ◌∙◌}
-use mathlib.Core.List.{List, [], ◌∷◌}
-use native.Mathlib.Numerals.{add-one}
+use Prim.Native.Nat.{ℕ, zero, suc, ◌+◌, ◌-◌, ◌≤◌}
+use mathlib.Core.Path.{◌≡◌, refl, sym, ap, ◌∙◌}
+use mathlib.Core.List.{List, [], ◌∷◌, ◌++◌, append_assoc}
 use native.Mathlib.Omega.{arith}
 use native.Mathlib.Nat.{add-zero}
-use lib.ListN.{length, get_or, take, drop, set, length-set, length-drop, drop_of_length-le}
-use lib.Seq.{sets, set-set, take_all, drop-cons}
+use lib.ListN.{length, get_or, take, drop, set, length-drop}
+use lib.Seq.{sets, sets-eq, length-sets, set-set, take_all, drop-drop}
+use Rattle.std.proofs.lemmas.List.{length-take-le}
+use borrow.Rule.Slice.PartMut.{put_mid}
 use Rattle.base_lent.specs.Stores.{Room, Put}
 use Rattle.base_lent.proofs.Storing.{set_before}
 
 -- a text of one byte
 module _ {text : List ℕ} {at : ℕ} {buffer : List ℕ} where
-  pub one_put : length text ≡ 1 → Put buffer at text (at + 1) (set buffer at (get_or text 0 0))
-  one_put e = record { ends = omega arith; stored = go text e }
+  pub one_put : length text ≡ 1 → Put buffer at text (at + length text) (set buffer at (get_or text 0 0))
+  one_put e = record { ends = refl; stored = go text e }
     where
       go : (t : List ℕ) → length t ≡ 1 → set buffer at (get_or t 0 0) ≡ sets buffer at t
       go [] h = absurd (omega arith)
@@ -39,46 +40,20 @@ overlapping l at (suc i) (suc j) (b ∷ t) h =
     let e : at + suc i ≡ suc at + i = omega arith in
     rw e (overlapping (set l at b) (suc at) i j t (omega arith))
 
-pub ends_stored : (buffer text : List ℕ) (at : ℕ) {half out : List ℕ} → out ≡ sets half (at + (length text - 4)) (take 4 (drop (length text - 4) text))
-    → half ≡ sets buffer at (take 4 (drop 0 text)) → 4 ≤ length text → length text ≤ 8 → out ≡ sets buffer at text
-ends_stored buffer text at e f low high =
-    let i = length text - 4 in
-    let last : take 4 (drop i text) ≡ drop i text = take_all 4 (drop i text) (omega (arith, length-drop i text)) in
-    e ∙ rw (f, last) (overlapping buffer at i 4 text (omega arith))
+-- a text copied into a part
+pub copied : (d t : List ℕ) (at : ℕ) {k : ℕ} {part : List ℕ} → k ≡ length t → at + k ≤ length d → part ≡ t → put_mid at k d part ≡ sets d at t
+copied d t at size h e =
+    rw (size, e)
+    (ap (λ (s : List ℕ). take at d ++ (t ++ s)) (drop-drop (length t) at d) ∙ sym (sets-eq t d at (omega arith) ∙ append_assoc (take at d) t (drop (at + length t) d)))
 
-pub four_stored : (l text : List ℕ) (at i : ℕ) → (at + 4 ≤ length l) × (i + 4 ≤ length text)
-    → set (set (set (set l at (get_or text i 0)) (at + 1) (get_or text (i + 1) 0)) (at + 2) (get_or text (i + 2) 0)) (at + 3) (get_or text (i + 3) 0) ≡ sets l at (take 4 (drop i text))
-four_stored l text at i h =
-    let e₁ : at + 1 ≡ suc at = omega arith in
-    let e₂ : at + 2 ≡ suc (suc at) = omega arith in
-    let e₃ : at + 3 ≡ suc (suc (suc at)) = omega arith in
-    let f₁ : i + 1 ≡ suc i = omega arith in
-    let f₂ : i + 2 ≡ suc (suc i) = omega arith in
-    let f₃ : i + 3 ≡ suc (suc (suc i)) = omega arith in
-    rw (e₁, e₂, e₃, f₁, f₂, f₃, drop-cons text i 0 (omega (arith, h.1)), drop-cons text (suc i) 0 (omega (arith, h.1)), drop-cons text (suc (suc i)) 0 (omega (arith, h.1)), drop-cons text (suc (suc (suc i))) 0 (omega (arith, h.1)))
+pub all_stored : {d t part : List ℕ} {at : ℕ} → Room d at t → part ≡ t → Put d at t (at + length t) (put_mid at (at + length t - at) d part)
+all_stored {d} {t} {part} {at} r e = record { ends = refl; stored = copied d t at {k = at + length t - at} (omega arith) (omega (arith, r.room)) e }
 
--- i bytes of the text are stored from the place on: what is left makes the whole
-pub record Copied (text : List ℕ) (at : ℕ) (buffer out : List ℕ) (i : ℕ) : Type 0 where
-  pub within : i ≤ length text
-  pub fits : at + length text ≤ length buffer
-  pub sized : length out ≡ length buffer
-  pub gives : sets out (at + i) (drop i text) ≡ sets buffer at text
-
-pub copied_start : {text : List ℕ} {at : ℕ} {buffer : List ℕ} → Room buffer at text → Copied text at buffer buffer 0
-copied_start {text} {at} {buffer} r =
-    let z : at + 0 ≡ at = omega arith in
-    record { within = omega arith; fits = r.room; sized = refl; gives = ap (λ (n : ℕ). sets buffer n text) z }
-
-module _ {text : List ℕ} {at : ℕ} {buffer out : List ℕ} {i : ℕ} (c : Copied text at buffer out i) where
-  pub copied_turn : i < length text → Copied text at buffer (set out (at + i) (get_or text i 0)) (i + 1)
-  copied_turn h =
-      let next : at + (i + 1) ≡ suc (at + i) = omega arith in
-      record {
-        within = omega arith;
-        fits = c.fits;
-        sized = length-set out (at + i) (get_or text i 0) ∙ c.sized;
-        gives = rw (next, add-one) (rw (drop-cons text i 0 h) at c.gives);
-      }
-
-  pub copied_end : length text ≤ i → Put buffer at text (at + i) out
-  copied_end h = record { ends = omega arith; stored = rw (drop_of_length-le text h) at c.gives }
+pub ends_stored : (d t : List ℕ) (at : ℕ) {p q : List ℕ} → Room d at t → p ≡ take 4 t → q ≡ take (length t - (length t - 4)) (drop (length t - 4) t) → 4 ≤ length t → length t ≤ 8
+    → put_mid (at + (length t - 4)) (at + (length t - 4) + 4 - (at + (length t - 4))) (put_mid at (at + 4 - at) d p) q ≡ sets d at t
+ends_stored d t at r e f low high =
+    let i = length t - 4 in
+    rw (copied d (take 4 t) at {k = at + 4 - at} (omega (arith, length-take-le 4 t low)) (omega (arith, r.room)) e)
+    (copied (sets d at (take 4 t)) (drop i t) (at + i) {k = at + i + 4 - (at + i)} (omega (arith, length-drop i t)) (omega (arith, r.room, length-sets d at (take 4 t)))
+    (f ∙ take_all (length t - i) (drop i t) (omega (arith, length-drop i t)))
+    ∙ overlapping d at i 4 t (omega arith))

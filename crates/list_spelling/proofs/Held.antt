@@ -7,7 +7,7 @@ use mathlib.Core.List.{List}
 use native.Mathlib.Omega.{arith}
 use lib.Dec.{eqb}
 use lib.ListN.{length, take, drop, replicate}
-use lib.Seq.{sets-eq, length-sets, take-append_seam}
+use lib.Seq.{sets-eq, take-append_seam}
 use Rattle.base_ascii.specs.Bytes.{between}
 use Rattle.list_bytes.specs.ByteTexts.{hex_byte, byte_text, remark_text}
 use Rattle.list_bytes.specs.HeldHelpers.{held}
@@ -41,8 +41,8 @@ module _ (s : List ℕ) {t : ByteText} where
         ∙ ap (take (length s)) (sets-eq s (replicate 6 0) 0 (omega arith))
         ∙ take-append_seam s (drop (0 + length s) (replicate 6 0))
 
-    pub held_within : t.len ≤ length t.bytes
-    held_within = rw e (omega (arith, length-sets (replicate 6 0) 0 s))
+    pub held_few : t.len ≤ 6
+    held_few = omega (arith, held_length e)
 
     pub held_long : t.len ≡ length (take t.len t.bytes)
     held_long = held_length e ∙ ap length (sym held_text)

@@ -2,15 +2,15 @@
 -- what the calls promise.
 -- Assumes nothing.
 use Prim.Native.Nat.{ℕ, ◌/◌, ◌%◌, ◌≤◌, ◌<◌}
-use mathlib.Core.Path.{◌≡◌, refl, ap, ◌∙◌}
-use mathlib.Core.Bool.{Bool, true, ◌&&◌}
+use mathlib.Core.Path.{◌≡◌, refl, sym, ap, ◌∙◌}
+use mathlib.Core.Bool.{Bool, true, false, ◌&&◌}
 use mathlib.Core.List.{List, [], ◌∷◌, ◌++◌}
 use native.Mathlib.Omega.{arith}
-use lib.Dec.{T, ltb, ltb→lt}
+use lib.Dec.{T, eqb, ltb, ltb→lt}
 use lib.ListN.{length, get_or, take}
 use mir.Syntax.{w8}
 use mir.Val.{Fits}
-use borrow.Author.Tests.{ne_eqb, lt-ltb}
+use borrow.Author.Tests.{ne_eqb, eqb-true, eqb-false, lt-ltb}
 use Rattle.word_search.specs.Find.{Entry}
 use Rattle.word_search.proofs.Search.{and_left, and_right}
 use Rattle.base_lent.specs.Stores.{Room, Put}
@@ -59,6 +59,12 @@ module _ (b : ℕ) {id : ℕ} where
       e ∙ word_below id low ∙ simp (lt-ltb _ _ h) (ap (λ (k : ℕ). with_token k tsb_words) is)
 
 -- ---- the unit's text
+
+pub filled : {n : ℕ} {e : Bool} → e ≡ eqb n 0 → e ≡ false → 0 < n
+filled {n} e f = let other = eqb-false n 0 (sym e ∙ f) in omega arith
+
+pub emptied : {n : ℕ} {e : Bool} → e ≡ eqb n 0 → e ≡ true → n ≤ 0
+emptied {n} e f = let none : n ≡ 0 = eqb-true n 0 (sym e ∙ f) in omega arith
 
 no_length : (s : List ℕ) → length s ≤ 0 → [] ≡ s
 no_length [] h = refl

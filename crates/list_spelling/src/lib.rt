@@ -1,7 +1,7 @@
 // How the units of a body are spelt in a listing.
 #![tactic(auto)]
 
-ghost use Rattle.std.specs.Prelude.{◌≡◌, ◌+◌, ◌≤◌, length, take, drop};
+ghost use Rattle.std.specs.Prelude.{◌≡◌, ◌≤◌, length};
 ghost use Rattle.std.proofs.lemmas.List.Edits.{sets};
 ghost use Rattle.base_lent.specs.Stores.{Room, Put};
 ghost use Rattle.list_texts.specs.TextsHelpers.{or_digits};
@@ -17,9 +17,9 @@ pub fn lists_as_itself(b: u8) -> bool
     ensures { result ≡ lists_as_itself b }
 {
     match b {
-        0x22 => false,
-        0x3A => false,
-        _ => base_ascii::between(0x20, 0x5F, b),
+        b'"' | b':' => false,
+        0x20..=0x5F => true,
+        _ => false,
     }
 }
 
@@ -32,11 +32,8 @@ pub fn unit_length(texts: Texts, unit: Unit) -> usize
         Unit::Token(b) => token_length(list_texts::word_at(texts, b), b),
         Unit::Token35(b) => token_length(list_texts::word35_at(texts, b), b),
         Unit::Pair(b) => {
-            let n = tsb_word(texts, b).len();
-            if n > 0 {
-                return n;
-            }
-            8
+            let word = tsb_word(texts, b);
+            if word.is_empty() { 8 } else { word.len() }
         }
         Unit::Lone => 4,
         Unit::Remarked(b) => list_bytes::remark_to_string(b).len,
@@ -47,14 +44,13 @@ pub fn unit_length(texts: Texts, unit: Unit) -> usize
 fn token_length(word: &[u8], b: u8) -> usize
     ensures { result ≡ length (or_digits b word.now) }
 {
-    let n = word.len();
-    if n > 0 {
-        return n;
+    if !word.is_empty() {
+        word.len()
+    } else if b < 0xCC {
+        0
+    } else {
+        4
     }
-    if b < 0xCC {
-        return 0;
-    }
-    4
 }
 
 // Stores a unit's text from a place on, and answers the place behind it.
@@ -65,26 +61,22 @@ pub fn put_unit(out: &mut [u8], at: usize, texts: Texts, unit: Unit) -> usize
     match unit {
         Unit::Char(b) => {
             let text = list_bytes::byte_to_string(b);
-            let n = text.len;
-            let held = text.bytes;
-            put(out, at, &held[..n])
+            put(out, at, &text.bytes[..text.len])
         }
         Unit::Token(b) => put_token(out, at, list_texts::word_at(texts, b), b),
         Unit::Token35(b) => put_token(out, at, list_texts::word35_at(texts, b), b),
         Unit::Pair(b) => {
             let word = tsb_word(texts, b);
-            if word.len() > 0 {
-                return put(out, at, word);
+            if word.is_empty() {
+                put(out, at, &pair_digits(b))
+            } else {
+                put(out, at, word)
             }
-            let held = pair_digits(b);
-            put(out, at, &held)
         }
         Unit::Lone => put(out, at, b"{64}"),
         Unit::Remarked(b) => {
             let text = list_bytes::remark_to_string(b);
-            let n = text.len;
-            let held = text.bytes;
-            put(out, at, &held[..n])
+            put(out, at, &text.bytes[..text.len])
         }
     }
 }
@@ -94,34 +86,28 @@ fn put_token(out: &mut [u8], at: usize, word: &[u8], b: u8) -> usize
     requires { Room out.old at (or_digits b word.now) }
     ensures { Put out.old at (or_digits b word.now) result out.new }
 {
-    if word.len() > 0 {
-        return put(out, at, word);
+    if !word.is_empty() {
+        put(out, at, word)
+    } else if b < 0xCC {
+        at
+    } else {
+        put(out, at, &list_texts::digits(b))
     }
-    if b < 0xCC {
-        return at;
-    }
-    let held = list_texts::digits(b);
-    put(out, at, &held)
 }
 
 // Stores a text from a place on, and answers the place behind it. One byte is stored at once, and four to eight, as most words have, by
-// the first four and the last four.
+// the first four and the last four: a copy of a known size takes no call.
 pub fn put(out: &mut [u8], at: usize, text: &[u8]) -> usize
     requires { Room out.old at text.now }
     ensures { Put out.old at text.now result out.new }
 {
-    let n = text.len();
-    match n {
-        1 => {
-            out[at] = text[0];
-            at + 1
-        }
-        4..=8 => {
-            put_ends(out, at, text);
-            at + n
-        }
-        _ => copy(out, at, text),
+    let end = at + text.len();
+    match text.len() {
+        1 => out[at] = text[0],
+        4..=8 => put_ends(out, at, text),
+        _ => out[at..end].copy_from_slice(text),
     }
+    end
 }
 
 // Stores the first four bytes of a text, and the last four: of four to eight, that is all.
@@ -130,36 +116,9 @@ fn put_ends(out: &mut [u8], at: usize, text: &[u8])
     ensures { out.new ≡ sets out.old at text.now }
 {
     let last = text.len() - 4;
-    put_four(out, at, text, 0);
-    put_four(out, at + last, text, last);
-}
-
-// Stores four bytes of a text, from its place i on. All are read before one is stored, so that they move as one.
-fn put_four(out: &mut [u8], at: usize, text: &[u8], i: usize)
-    requires { (at + 4 ≤ length out.old) × (i + 4 ≤ length text.now) }
-    ensures { out.new ≡ sets out.old at (take 4 (drop i text.now)) }
-{
-    let a = text[i];
-    let b = text[i + 1];
-    let c = text[i + 2];
-    let d = text[i + 3];
-    out[at] = a;
-    out[at + 1] = b;
-    out[at + 2] = c;
-    out[at + 3] = d;
-}
-
-// The same, byte by byte.
-fn copy(out: &mut [u8], at: usize, text: &[u8]) -> usize
-    requires { Room out.old at text.now }
-    ensures { Put out.old at text.now result out.new }
-{
-    let mut i: usize = 0;
-    while i < text.len() {
-        out[at + i] = text[i];
-        i += 1;
-    }
-    at + i
+    let end = at + last;
+    out[at..at + 4].copy_from_slice(&text[..4]);
+    out[end..end + 4].copy_from_slice(&text[last..]);
 }
 
 // The TSB word of 64 and the byte behind it; empty where there is none.
@@ -167,10 +126,11 @@ pub fn tsb_word<'a>(texts: Texts<'a>, b: u8) -> &'a [u8]
     ensures { result.now ≡ tsb_text b }
 {
     let id = tsb_id(b);
-    if id >= 0x80 {
-        return &texts.bytes[..0];
+    if id < 0x80 {
+        list_texts::word_at(texts, id)
+    } else {
+        &[]
     }
-    list_texts::word_at(texts, id)
 }
 
 // The byte that a TSB word is listed under: B1, B2 and B3 are read as 3E, 3D and 3C.
@@ -190,5 +150,5 @@ fn pair_digits(b: u8) -> [u8; 8]
 {
     let high = list_bytes::hex_digit(b / 16);
     let low = list_bytes::hex_digit(b % 16);
-    [0x7B, 0x36, 0x34, 0x7D, 0x7B, high, low, 0x7D]
+    [b'{', b'6', b'4', b'}', b'{', high, low, b'}']
 }

@@ -12,7 +12,6 @@ use mir.Val.{Fits}
 use borrow.Author.Tests.{ne_eqb, lt-ltb, le-ltb, ltb-true, ltb-false}
 use Rattle.base_ascii.specs.Bytes.{between}
 use Rattle.base_ascii.proofs.Ranges.{between_in}
-use Rattle.word_search.specs.Compare.{same}
 use Rattle.word_search.specs.Spelling.{bytes_of}
 use Rattle.word_search.proofs.Search.{and_left, and_right}
 use Rattle.word_tables.specs.Basic35.{basic35_spellings}
@@ -107,14 +106,7 @@ text35_made k = go (between 0xCC 0xFD k) refl
 
 -- ---- `is_text_of`
 
-module _ (k : ℕ) (text : List ℕ) {r digits : Bool} {t : List ℕ} where
-  pub same_digits : r ≡ same t text → t ≡ braced k → digits ≡ true → digits ≡ between 0xCC 0xFE k → r ≡ same (text_of k) text
-  unfolding listed_word
-  same_digits q e y is =
-      let low : 0xCC ≤ k = omega (arith, between_in 0xCC 0xFE k (sym is ∙ y)) in
-      let made : or_digits k [] ≡ text_of k = rw (← is, y) at (text_made k) in
-      q ∙ ap (λ (w : List ℕ). same w text) (digits_for k [] e low (omega arith) ∙ made)
-
-  pub same_word : r ≡ same t text → t ≡ listed_word k → digits ≡ false → digits ≡ between 0xCC 0xFE k → r ≡ same (text_of k) text
-  unfolding listed_word
-  same_word q e n is = q ∙ ap (λ (w : List ℕ). same w text) (e ∙ simp (sym is ∙ n))
+pub digits_text : (k : ℕ) → 0xCC ≤ k → k ≤ 0xFE → text_of k ≡ braced k
+digits_text k low high =
+    let other : k ≡ 0xFF → ⊥ = λ q. omega arith in
+    behind_words k low ∙ simp (ne_eqb _ _ other)

@@ -1,17 +1,15 @@
 -- The two tables of words as the definition gives them; such tables spell the words. So the stored constants do, which are these tables.
 -- Assumes nothing.
-use Prim.Native.Nat.{ℕ, zero, suc, ◌+◌, ◌-◌, ◌<◌}
-use mathlib.Core.Path.{◌≡◌, refl, sym, ap, ◌∙◌}
-use mathlib.Core.Bool.{Bool, true, false, not}
+use Prim.Native.Nat.{ℕ, zero, suc, ◌+◌, ◌-◌, ◌<◌, ◌≤◌}
+use mathlib.Core.Path.{◌≡◌, refl, ap, ◌∙◌}
 use mathlib.Core.List.{List, [], ◌∷◌, ◌++◌, append-nil}
 use native.Mathlib.Nat.{le_of_suc-le-suc}
 use native.Mathlib.Omega.{arith}
 use lib.ListN.{length, get_or, length-append, get_or-append}
 use lib.Seq.{get_or-append-add}
-use borrow.Author.Tests.{not-true, not-false}
+use borrow.Author.Tests.{le-leb}
 use Rattle.base_ascii.specs.Bytes.{between}
-use Rattle.base_ascii.proofs.Ranges.{between_in}
-use Rattle.word_search.specs.RunHelpers.{Lies, joined, starts, word_of}
+use Rattle.word_search.specs.RunHelpers.{joined, starts, word_of}
 use Rattle.word_search.proofs.Runs.{run_lies, run_word}
 use Rattle.word_tables.specs.Basic35.{basic35_spellings}
 use Rattle.list_texts.specs.TextsHelpers.{listed_word, listed_word35, SpellsTexts}
@@ -69,18 +67,9 @@ texts_spelt e f = rw (e, f, ← append-nil (joined all_texts), ← append-nil (s
 
 -- ---- `word35_at`
 
-module _ (k : ℕ) {r : Bool} where
-  pub word35_other : {t : List ℕ} → t ≡ listed_word k → not r ≡ true → r ≡ between 0xCC 0xFD k → t ≡ listed_word35 k
-  unfolding listed_word35
-  word35_other e n is = e ∙ simp (sym is ∙ not-true r n)
-
-  module _ {bytes index : List ℕ} {w : ℕ} where
-    pub word35_lies : w ≡ k → not r ≡ false → r ≡ between 0xCC 0xFD k → SpellsTexts bytes index → Lies bytes index (w + 52)
-    word35_lies e n is sp = sp.lies (w + 52) (omega (arith, between_in 0xCC 0xFD k (sym is ∙ not-false r n)))
-
-    pub word35_own : {t : List ℕ} → t ≡ word_of bytes index (w + 52) → w ≡ k → not r ≡ false → r ≡ between 0xCC 0xFD k → SpellsTexts bytes index → t ≡ listed_word35 k
-    unfolding listed_word35
-    word35_own q e n is sp =
-        let y : between 0xCC 0xFD k ≡ true = sym is ∙ not-false r n in
-        let at : w + 52 ≡ 256 + (k - 0xCC) = omega (arith, between_in 0xCC 0xFD k y) in
-        q ∙ ap (word_of bytes index) at ∙ sp.spells35 (k - 0xCC) (omega (arith, between_in 0xCC 0xFD k y)) ∙ simp y
+pub word35_own : (k : ℕ) {bytes index : List ℕ} {w : ℕ} {t : List ℕ} → SpellsTexts bytes index → 0xCC ≤ k → k ≤ 0xFD → w ≡ k → t ≡ word_of bytes index (w + 52)
+    → t ≡ listed_word35 k
+unfolding listed_word35 between
+word35_own k {bytes} {index} {w} sp low high e q =
+    let at : w + 52 ≡ 256 + (k - 0xCC) = omega arith in
+    q ∙ ap (word_of bytes index) at ∙ sp.spells35 (k - 0xCC) (omega arith) ∙ simp (le-leb _ _ low, le-leb _ _ high)

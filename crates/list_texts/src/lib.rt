@@ -341,7 +341,9 @@ pub struct Texts<'a> {
 }
 
 // The run, lent.
-pub fn stored_texts() -> Texts<'static> {
+pub fn stored_texts() -> Texts<'static>
+    ensures { SpellsTexts result.bytes.now result.starts.now }
+{
     Texts {
         bytes: &TEXT_BYTES,
         starts: &TEXT_STARTS,
@@ -352,17 +354,17 @@ pub fn stored_texts() -> Texts<'static> {
 pub fn word_at<'a>(texts: Texts<'a>, k: u8) -> &'a [u8]
     ensures { result.now ≡ listed_word k }
 {
-    word_search::word_at(texts.bytes, texts.starts, k as usize)
+    word_search::word_at(texts.bytes, texts.starts, usize::from(k))
 }
 
 // The word of a byte under BASIC 3.5.
 pub fn word35_at<'a>(texts: Texts<'a>, k: u8) -> &'a [u8]
     ensures { result.now ≡ listed_word35 k }
 {
-    if !base_ascii::between(0xCC, 0xFD, k) {
-        return word_at(texts, k);
+    match k {
+        0xCC..=0xFD => word_search::word_at(texts.bytes, texts.starts, usize::from(k) + 52),
+        _ => word_at(texts, k),
     }
-    word_search::word_at(texts.bytes, texts.starts, base_ascii::wide(k) + 52)
 }
 
 // The two digits of a byte in braces.
@@ -371,16 +373,15 @@ pub fn digits(k: u8) -> [u8; 4]
 {
     let high = list_bytes::hex_digit(k / 16);
     let low = list_bytes::hex_digit(k % 16);
-    [0x7B, high, low, 0x7D]
+    [b'{', high, low, b'}']
 }
 
 // Whether the text is the one of a byte.
 pub fn is_text_of(k: u8, text: &[u8]) -> bool
     ensures { result ≡ same (text_of k) text.now }
 {
-    if base_ascii::between(0xCC, 0xFE, k) {
-        let held = digits(k);
-        return word_search::same(&held, text);
+    match k {
+        0xCC..=0xFE => word_search::same(&digits(k), text),
+        _ => word_search::same(word_at(stored_texts(), k), text),
     }
-    word_search::same(word_at(stored_texts(), k), text)
 }

@@ -15,7 +15,7 @@ use Rattle.disk_rules.specs.Calls.{After, leaving}
 use Rattle.disk_rules.specs.declared.Holding.{Holding}
 use Rattle.disk_directory.specs.Listing.{directory_text, Shows}
 use Rattle.disk_rules.specs.declared.DiskCheck.{DiskCheck}
-use Rattle.image_index_entries.specs.declared.Held.{Held}
+use Rattle.image_index_entries.specs.declared.Numbers.{Numbers}
 use Rattle.image_relink.specs.Relinking.{Relinking, relinked_answer}
 use Rattle.image_relink.specs.declared.Relinked.{Relinked}
 use Rattle.image_relink.specs.declared.Relinked.TheVariants.{Changed as RelinkedAsChanged}
@@ -23,7 +23,7 @@ use Rattle.count_images.specs.Carried.{Kept, carried_answer, carried}
 use Rattle.count_images.specs.declared.Carried.{Carried}
 use Rattle.count_images.specs.declared.Carried.TheVariants.{Apart}
 use Rattle.moldthatch.specs.Told.{Told, told_code, bare_code, told_disk, holding_code, shown_directory, held_code, relinking_code, fate_code, told_totals}
-use Rattle.std.specs.Prelude.{Result, Ok, Err}
+use Rattle.std.specs.Prelude.{Option, Result, Ok, Err}
 
 module _ (o : Result ℕ Refusal) {c : Code} (code : c ≡ length_code (answered o)) where
   pub tells : {b : List ℕ} {l : Lent} → left o b ≡ l → ◌≡◌ {A = Told} (record { code = c; buffer = b }) (told_code l)
@@ -71,14 +71,14 @@ tells_directory (Err r) code disk buffer {b} shows =
 
 -- ---- indexes, relinking, counts
 
-pub tells_held : (r : Held) {m : Held} → r ≡ m → {c : Code} → c ≡ held_code m → c ≡ held_code r
+pub tells_held : (r : Option Numbers) {m : Option Numbers} → r ≡ m → {c : Code} → c ≡ held_code m → c ≡ held_code r
 tells_held r e code = code ∙ ap held_code (sym e)
 
-pub tells_entry : (r : Held) {c : Code} → c ≡ held_code r → {h : Held} → r ≡ h → c ≡ held_code h
+pub tells_entry : (r : Option Numbers) {c : Code} → c ≡ held_code r → {h : Option Numbers} → r ≡ h → c ≡ held_code h
 tells_entry r code q = code ∙ ap held_code q
 
-pub tells_relinked : (r : Relinked) {m : Relinked} → r ≡ m → {a : Answer Relinking} → relinked_answer r ≡ a → {c : Code} → c ≡ relinking_code (relinked_answer m) → c ≡ relinking_code a
-tells_relinked r e q code = code ∙ ap (λ (x : Relinked). relinking_code (relinked_answer x)) (sym e) ∙ ap relinking_code q
+pub tells_relinked : (r : Result Relinked Refusal) {m : Result Relinked Refusal} → r ≡ m → {a : Answer Relinking} → relinked_answer r ≡ a → {c : Code} → c ≡ relinking_code (relinked_answer m) → c ≡ relinking_code a
+tells_relinked r e q code = code ∙ ap (λ (x : Result Relinked Refusal). relinking_code (relinked_answer x)) (sym e) ∙ ap relinking_code q
 
 pub tells_fate : (r : Carried) {m : Carried} → r ≡ m → {c : Code} → c ≡ fate_code (carried_answer m) → c ≡ fate_code (carried_answer r)
 tells_fate r e code = code ∙ ap (λ (x : Carried). fate_code (carried_answer x)) (sym e)
@@ -92,6 +92,6 @@ pub tells_apart : (r : Carried) {f : Refusal} → r ≡ Apart f → {q : Code} �
 tells_apart r e code number made = made ∙ ap (λ (x : ℕ). record { number = 0; count = 1; first = x; second = 0 }) (number ∙ ap (λ (x : Code). x.number) code) ∙ ap (λ (x : Carried). fate_code (carried_answer x)) (sym e)
 
 -- a link that is changed
-pub tells_link : (r : Relinked) {offset link : ℕ} → r ≡ RelinkedAsChanged offset link → {n : ℕ} → n ≡ link → {a : Answer Relinking} → relinked_answer r ≡ a
+pub tells_link : (r : Result Relinked Refusal) {offset link : ℕ} → r ≡ Ok (RelinkedAsChanged offset link) → {n : ℕ} → n ≡ link → {a : Answer Relinking} → relinked_answer r ≡ a
     → record { number = 0; count = 2; first = offset; second = n } ≡ relinking_code a
 tells_link r {offset} e number q = tells_relinked r e q (ap (λ (x : ℕ). record { number = 0; count = 2; first = offset; second = x }) number)

@@ -35,10 +35,10 @@ module _ {c : LineCode} where
   pub tells_found : (r : Result (Option Line) Refusal) → c ≡ step_code (answered r) → {a : Answer (Option Line)} → answered r ≡ a → c ≡ step_code a
   tells_found r code q = code ∙ ap step_code q
 
-  pub tells_sought : (r : Sought) {m : Sought} → r ≡ m → c ≡ visit_code (sought_answer m) → c ≡ visit_code (sought_answer r)
-  tells_sought r e code = code ∙ ap (λ (x : Sought). visit_code (sought_answer x)) (sym e)
+  pub tells_sought : (r : Result Sought Refusal) {m : Result Sought Refusal} → r ≡ m → c ≡ visit_code (sought_answer m) → c ≡ visit_code (sought_answer r)
+  tells_sought r e code = code ∙ ap (λ (x : Result Sought Refusal). visit_code (sought_answer x)) (sym e)
 
-  pub tells_visit : (r : Sought) → c ≡ visit_code (sought_answer r) → {a : Answer Visit} → sought_answer r ≡ a → c ≡ visit_code a
+  pub tells_visit : (r : Result Sought Refusal) → c ≡ visit_code (sought_answer r) → {a : Answer Visit} → sought_answer r ≡ a → c ≡ visit_code a
   tells_visit r code q = code ∙ ap visit_code q
 
   pub tells_measured : (r : LineMeasured) {m : LineMeasured} → r ≡ m → c ≡ measured_code (answered m) → c ≡ measured_code (answered r)

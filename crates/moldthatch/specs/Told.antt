@@ -1,6 +1,6 @@
 -- What callers in other languages are told: each answer as one code (crates/base_refusals/specs/Code.antt).
 -- Assumes nothing.
-use Rattle.std.specs.Prelude.{ℕ, min, cond, List, [], ◌∷◌, length}
+use Rattle.std.specs.Prelude.{ℕ, Option, Some, None, min, cond, List, [], ◌∷◌, length}
 use Rattle.std.proofs.lemmas.List.Edits.{sets}
 use Rattle.base_refusals.specs.Answer.{Answer, done, refused}
 use Rattle.base_refusals.specs.Code.{code_of, answer_code, length_code}
@@ -11,8 +11,7 @@ use Rattle.disk_rules.specs.Calls.{After}
 use Rattle.disk_rules.specs.declared.Holding.{Holding}
 use Rattle.disk_rules.specs.Check.{sound}
 use Rattle.disk_directory.specs.Listing.{directory_text}
-use Rattle.image_index_entries.specs.declared.Held.{Held}
-use Rattle.image_index_entries.specs.declared.Held.TheVariants.{Nothing, Numbers}
+use Rattle.image_index_entries.specs.declared.Numbers.{Numbers}
 use Rattle.image_relink.specs.Relinking.{Relinking, same, changed, leaves, endless}
 use Rattle.count_images.specs.Carried.{Fate, counted, counted_apart, no_totals, Kept}
 
@@ -46,9 +45,9 @@ shown_directory disk buffer =
     (record { code = code_of bad_disk; buffer = buffer })
 
 -- an index's two numbers, or none
-abbrev pub held_code : Held → Code
-held_code Nothing = answer_code (done [])
-held_code (Numbers a b) = answer_code (done (a ∷ b ∷ []))
+abbrev pub held_code : Option Numbers → Code
+held_code None = answer_code (done [])
+held_code (Some e) = answer_code (done (e.first ∷ e.second ∷ []))
 
 -- nothing where every link is as it was; the offset and the new link of the first that is changed; 0 where the routine leaves the image, 1
 -- where it never ends

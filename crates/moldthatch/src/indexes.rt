@@ -8,7 +8,7 @@ ghost use Rattle.image_relink.specs.Relinking.{relinking, relinked_answer};
 ghost use Rattle.moldthatch.specs.Told.{told_code, held_code, relinking_code};
 
 use base_refusals::Code;
-use image_index_entries::{Held, Kind};
+use image_index_entries::{Numbers, Kind};
 use image_relink::Relinked;
 
 // Writes the line index of an image into the start of a buffer: its length.
@@ -51,17 +51,17 @@ pub extern "C" fn moldthatch_index_look_up(number: usize, index: &[u8]) -> Code
     held_code(image_index_entries::look_up(number, index))
 }
 
-fn held_code(held: Held) -> Code
+fn held_code(held: Option<Numbers>) -> Code
     ensures { result ≡ held_code held }
 {
     match held {
-        Held::Nothing => Code {
+        None => Code {
             number: 0,
             count: 0,
             first: 0,
             second: 0,
         },
-        Held::Numbers { first, second } => Code {
+        Some(Numbers { first, second }) => Code {
             number: 0,
             count: 2,
             first,
@@ -76,20 +76,20 @@ pub extern "C" fn moldthatch_relink(image: &[u8]) -> Code
     ensures { result ≡ relinking_code (relinking image.now) }
 {
     match image_relink::relink(image) {
-        Relinked::Same => Code {
+        Ok(Relinked::Same) => Code {
             number: 0,
             count: 0,
             first: 0,
             second: 0,
         },
-        Relinked::Changed { offset, link } => Code {
+        Ok(Relinked::Changed { offset, link }) => Code {
             number: 0,
             count: 2,
             first: offset,
             second: base_ascii::wide16(link),
         },
-        Relinked::Leaves => base_refusals::with_one(0, 0),
-        Relinked::Endless => base_refusals::with_one(0, 1),
-        Relinked::Refused(refusal) => base_refusals::refusal_code(refusal),
+        Ok(Relinked::Leaves) => base_refusals::with_one(0, 0),
+        Ok(Relinked::Endless) => base_refusals::with_one(0, 1),
+        Err(refusal) => base_refusals::refusal_code(refusal),
     }
 }

@@ -79,14 +79,14 @@ fn step_code(step: Result<Option<Line>, Refusal>) -> LineCode
     }
 }
 
-fn sought_code(sought: Sought) -> LineCode
+fn sought_code(sought: Result<Sought, Refusal>) -> LineCode
     ensures { result ≡ visit_code (sought_answer sought) }
 {
     match sought {
-        Sought::Found { visited, line } => line_code(1, visited, line),
-        Sought::Nowhere { visited } => no_line(0, 1, visited),
-        Sought::LimitReached => no_line(19, 0, 0),
-        Sought::Refused(refusal) => refused_line(refusal),
+        Ok(Sought::Found { visited, line }) => line_code(1, visited, line),
+        Ok(Sought::Nowhere { visited }) => no_line(0, 1, visited),
+        Ok(Sought::LimitReached) => no_line(19, 0, 0),
+        Err(refusal) => refused_line(refusal),
     }
 }
 

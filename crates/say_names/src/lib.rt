@@ -14,8 +14,7 @@ pub fn behind(word: &[u8], n: usize) -> &[u8]
     requires { n < length word.now }
     ensures { result.now ≡ drop (n + 1) word.now }
 {
-    let from = n + 1;
-    &word[from..]
+    &word[n + 1..]
 }
 
 // What stands behind a word's last mark, or the word where it has none.

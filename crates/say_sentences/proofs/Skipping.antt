@@ -42,7 +42,5 @@ module _ {rows : List ℕ} {count i left : ℕ} (k : Skipping rows count i left)
       let none : left ≡ 0 = omega arith in
       take_all (length rows - i) (drop i rows) (omega (arith, length-drop i rows)) ∙ rw none at k.gives
 
-  pub skipping_end : length rows ≤ i → take (length rows - i) (drop i rows) ≡ behind_rows count rows
-  skipping_end h =
-      take_all (length rows - i) (drop i rows) (omega (arith, length-drop i rows)) ∙ drop_of_length-le rows h ∙ sym (behind_none left)
-      ∙ rw (drop_of_length-le rows h) at k.gives
+  pub skipping_end : length rows ≤ i → [] ≡ behind_rows count rows
+  skipping_end h = sym (behind_none left) ∙ rw (drop_of_length-le rows h) at k.gives

@@ -45,33 +45,23 @@ const PLACED: [u8; 52] = *b"text line #, column #: a byte that no text may hold\
 fn behind_rows(rows: &[u8], count: usize) -> &[u8]
     ensures { result.now ≡ behind_rows count rows.now }
 {
-    let mut i: usize = 0;
     let mut left = count;
-    while left > 0 {
-        if rows.len() <= i {
+    for (i, b) in rows.iter().enumerate() {
+        if left == 0 {
             return &rows[i..];
         }
-        if rows[i] == 0x0A {
+        if *b == b'\n' {
             left -= 1;
-            i += 1;
-        } else {
-            i += 1;
         }
     }
-    &rows[i..]
-}
-
-fn wide(x: u8) -> usize
-    ensures { result ≡ x }
-{
-    x as usize
+    b""
 }
 
 fn put_sentence(out: &mut [u8], at: usize, code: Code) -> usize
     requires { at ≤ length out.old }
     ensures { Clipped out.old at (sentence_of code) result out.new }
 {
-    let number = wide(code.number);
+    let number = usize::from(code.number);
     if number > 0 {
         let row = behind_rows(&ROWS, number - 1);
         return fill(out, at, row, code.first, code.second, 0);
@@ -121,5 +111,5 @@ pub fn message(name: &[u8], text: &[u8], code: Code, out: &mut [u8]) -> usize
 {
     let from = put_name(out, name);
     let to = put_placed(out, from, text, code);
-    put_number(out, to, wide(code.number))
+    put_number(out, to, usize::from(code.number))
 }

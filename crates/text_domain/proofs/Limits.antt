@@ -1,16 +1,17 @@
 -- The domain of a text: the loop over its bytes, and what is answered.
 -- Assumes nothing.
-use Prim.Native.Nat.{ℕ, zero, suc, ◌+◌, ◌-◌, ◌≤◌, ◌<◌}
+use Prim.Native.Nat.{ℕ, zero, suc, ◌+◌, ◌-◌, ◌≤◌, ◌<◌, max}
 use mathlib.Core.Path.{◌≡◌, refl, sym, ap, ◌∙◌}
-use mathlib.Core.Bool.{Bool, true, false, not, ◌&&◌, false≢true}
+use mathlib.Core.Bool.{Bool, true, false, ◌&&◌, false≢true}
 use mathlib.Core.List.{List, [], ◌∷◌}
 use native.Mathlib.Omega.{arith}
 use lib.Dec.{eqb, ltb}
 use lib.ListN.{length, get_or, take, drop, drop_of_length-le}
 use lib.Seq.{drop-drop}
-use borrow.Author.Tests.{lt-ltb, le-ltb, le-leb, lt-leb, ltb-true, not-true, not-false}
+use borrow.Author.Tests.{lt-ltb, le-ltb, le-leb, lt-leb, ltb-true, eq-eqb, ne_eqb, eqb-true, eqb-false}
+use Rattle.std.specs.List.{starts_with as begins}
 use Rattle.base_ascii.specs.Search.{starts_with, front}
-use Rattle.base_ascii.proofs.Searching.{Onward, onward_by, onward_end, passes_all, tail, here, front_le, front_drop, starts_long}
+use Rattle.base_ascii.proofs.Searching.{Onward, onward_by, onward_end, passes_all, tail, here, front_le, front_drop}
 use Rattle.base_refusals.specs.Numbers.{text_too_long, bad_byte}
 use Rattle.base_refusals.specs.Answer.{done, refused}
 use Rattle.text_domain.specs.Domain.{is_pi, domain_length, checked_text}
@@ -42,17 +43,23 @@ pi_long (b ∷ []) p = go (eqb b 0xCF) p
     go false e = absurd (false≢true e)
 pi_long (b ∷ c ∷ s) p = omega arith
 
-module _ (t : List ℕ) {x : Bool} where
-  pub pi_no : not x ≡ true → x ≡ starts_with 0xCF t → false ≡ is_pi t
-  unfolding is_pi
-  pi_no e p = ap (λ (r : Bool). r && starts_with 0x80 (drop 1 t)) (sym (not-true x e) ∙ p)
+eqb_back : (a b : ℕ) → eqb a b ≡ eqb b a
+eqb_back a b = go (eqb b a) refl
+  where
+    go : (r : Bool) → eqb b a ≡ r → eqb a b ≡ eqb b a
+    go true e = rw e (eq-eqb a b (sym (eqb-true b a e)))
+    go false e = rw e (ne_eqb a b (λ q. eqb-false b a e (sym q)))
 
-  pub pi_some : not x ≡ false → x ≡ starts_with 0xCF t → 1 ≤ length t
-  pi_some e p = starts_long 0xCF t (sym p ∙ not-false x e)
-
-  pub pi_first : {y : Bool} → y ≡ starts_with 0x80 (take (length t - 1) (drop 1 t)) → not x ≡ false → x ≡ starts_with 0xCF t → y ≡ is_pi t
-  unfolding is_pi
-  pi_first q e p = q ∙ ap (starts_with 0x80) (tail t 1) ∙ ap (λ (r : Bool). r && starts_with 0x80 (drop 1 t)) (sym (not-false x e) ∙ p)
+pub pi_begins : (t : List ℕ) → begins eqb t (0xCF ∷ 0x80 ∷ []) ≡ is_pi t
+unfolding is_pi starts_with
+pi_begins [] = refl
+pi_begins (b ∷ []) = rw (eqb_back 0xCF b, starts_with) refl
+pi_begins (b ∷ c ∷ s) = rw (eqb_back 0xCF b, eqb_back 0x80 c, starts_with) (go (eqb b 0xCF) (eqb c 0x80))
+  where
+    go : (x y : Bool) → (x && (y && true)) ≡ (x && y)
+    go true true = refl
+    go true false = refl
+    go false y = refl
 
 pair : (b : ℕ) (s : List ℕ) → 0x80 ≤ b → is_pi (b ∷ s) ≡ true → domain_length (b ∷ s) ≡ suc (suc (domain_length (drop 1 s)))
 unfolding domain_length
@@ -73,16 +80,16 @@ module _ {s : List ℕ} {i : ℕ} where
   domain_byte l h o = let e : domain_length (drop i s) ≡ suc (domain_length (drop (i + 1) s)) = rw (here s i h) (below _ _ l) in onward_by o 1 (omega arith)
 
   module _ {r : Bool} where
-    pub domain_pi : not r ≡ false → r ≡ is_pi (take (length s - i) (drop i s)) → 0x80 ≤ get_or s i 0 → i < length s → Onward domain_length s 0 i → Onward domain_length s 0 (i + 2)
+    pub domain_pi : r ≡ true → r ≡ is_pi (take (length s - i) (drop i s)) → 0x80 ≤ get_or s i 0 → i < length s → Onward domain_length s 0 i → Onward domain_length s 0 (i + 2)
     domain_pi t q l h o =
         let two : i + 1 + 1 ≡ i + 2 = omega arith in
         let n : drop 1 (drop (i + 1) s) ≡ drop (i + 2) s = drop-drop 1 (i + 1) s ∙ ap (λ (j : ℕ). drop j s) two in
-        let e : domain_length (drop i s) ≡ suc (suc (domain_length (drop (i + 2) s))) = rw (here s i h, ← n) (pair _ _ l (pi_at s i q h ∙ not-false r t)) in
+        let e : domain_length (drop i s) ≡ suc (suc (domain_length (drop (i + 2) s))) = rw (here s i h, ← n) (pair _ _ l (pi_at s i q h ∙ t)) in
         onward_by o 2 (omega arith)
 
-    pub domain_stop : not r ≡ true → r ≡ is_pi (take (length s - i) (drop i s)) → 0x80 ≤ get_or s i 0 → i < length s → Onward domain_length s 0 i → i ≡ domain_length s
+    pub domain_stop : r ≡ false → r ≡ is_pi (take (length s - i) (drop i s)) → 0x80 ≤ get_or s i 0 → i < length s → Onward domain_length s 0 i → i ≡ domain_length s
     domain_stop t q l h o =
-        let e : domain_length (drop i s) ≡ 0 = rw (here s i h) (outside _ _ l (pi_at s i q h ∙ not-true r t)) in omega (arith, onward_end o e)
+        let e : domain_length (drop i s) ≡ 0 = rw (here s i h) (outside _ _ l (pi_at s i q h ∙ t)) in omega (arith, onward_end o e)
 
 -- ---- bytes below 80 in front
 
@@ -92,7 +99,7 @@ low_eight {s} {i} f h t l =
     let o : Onward (front is_low) s 0 i = record { gives = omega (arith, front_drop is_low i s f) } in
     omega (arith, (passes_all is_low 8 (λ k m. lt-ltb (get_or s (i + k) 0) 0x80 (omega (arith, each_of t k m))) (omega arith) o).gives)
 
-pub low_sixteen : {s : List ℕ} {i a b r : ℕ} → r < 0x80 → (a ≤ r) × (b ≤ r) → Tops s i a → Tops s (i + 8) b → 16 ≤ length s - i → i ≤ front is_low s → i + 16 ≤ front is_low s
+pub low_sixteen : {s : List ℕ} {i a b r : ℕ} → r < 0x80 → r ≡ max a b → Tops s i a → Tops s (i + 8) b → 16 ≤ length s - i → i ≤ front is_low s → i + 16 ≤ front is_low s
 low_sixteen l m t u h f = omega (arith, low_eight (low_eight f (omega arith) t (omega arith)) (omega arith) u (omega arith))
 
 pub low_within : (s : List ℕ) {i : ℕ} → i ≤ front is_low s → i ≤ length s

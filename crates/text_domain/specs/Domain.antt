@@ -4,9 +4,7 @@
 use Rattle.std.specs.Prelude.{ℕ, suc, Bool, true, false, ◌&&◌, List, [], ◌∷◌, leb, ltb, length, drop}
 use Rattle.base_ascii.specs.Search.{starts_with}
 use Rattle.base_refusals.specs.Numbers.{text_too_long, bad_byte}
-use Rattle.base_refusals.specs.Answer.{Answer, done, refused, numbered}
-use Rattle.std.specs.Prelude.{Result, Ok, Err}
-use Rattle.base_refusals.specs.declared.Refusal.{Refusal}
+use Rattle.base_refusals.specs.Answer.{Answer, done, refused}
 
 -- the text begins with the pair CF 80
 unfoldable pub is_pi : List ℕ → Bool

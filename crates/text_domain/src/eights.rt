@@ -2,24 +2,15 @@
 ghost use Rattle.std.specs.Prelude.{◌+◌, ◌≤◌, length};
 ghost use Rattle.text_domain.specs.EightHelpers.{Tops};
 
-pub fn larger(a: u8, b: u8) -> u8
-    ensures { (a ≤ result) × (b ≤ result) }
-{
-    if a < b { b } else { a }
-}
-
 // A byte that none of the eight from a place on is above.
 pub fn top_of_eight(text: &[u8], i: usize) -> u8
     requires { i + 8 ≤ length text.now }
     ensures { Tops text.now i result }
 {
-    let a = larger(
-        larger(text[i], text[i + 1]),
-        larger(text[i + 2], text[i + 3]),
-    );
-    let b = larger(
-        larger(text[i + 4], text[i + 5]),
-        larger(text[i + 6], text[i + 7]),
-    );
-    larger(a, b)
+    let a = text[i].max(text[i + 1]).max(text[i + 2]).max(text[i + 3]);
+    let b = text[i + 4]
+        .max(text[i + 5])
+        .max(text[i + 6])
+        .max(text[i + 7]);
+    a.max(b)
 }

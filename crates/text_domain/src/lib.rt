@@ -7,8 +7,7 @@ ghost use Rattle.text_domain.specs.Domain.{is_pi, domain_length, checked_text};
 ghost use Rattle.text_domain.specs.DomainHelpers.{is_low};
 ghost use Rattle.base_refusals.specs.Answer.{answered};
 
-use crate::eights::{larger, top_of_eight};
-use base_ascii::search;
+use crate::eights::top_of_eight;
 use base_refusals::Refusal;
 
 mod eights;
@@ -17,19 +16,17 @@ mod eights;
 fn is_pi(text: &[u8]) -> bool
     ensures { result ≡ is_pi text.now }
 {
-    if !search::starts_with(text, 0xCF) {
-        return false;
-    }
-    search::starts_with(&text[1..], 0x80)
+    text.starts_with(b"\xCF\x80")
 }
 
-// So many bytes in front are below 80, and perhaps more: two eights are passed at a time.
+// So many bytes in front are below 80, and perhaps more: two eights are passed at a time, which is faster than a byte at a time (measured in
+// bench/, see docs/SPEED.md).
 fn passed_by_eights(text: &[u8]) -> usize
     ensures { result ≤ front is_low text.now }
 {
     let mut i: usize = 0;
     while text.len() - i >= 16 {
-        if larger(top_of_eight(text, i), top_of_eight(text, i + 8)) >= 0x80 {
+        if top_of_eight(text, i).max(top_of_eight(text, i + 8)) >= 0x80 {
             return i;
         }
         i += 16;
@@ -45,11 +42,10 @@ fn domain_length(text: &[u8]) -> usize
     while i < text.len() {
         if text[i] < 0x80 {
             i += 1;
-        } else {
-            if !is_pi(&text[i..]) {
-                return i;
-            }
+        } else if is_pi(&text[i..]) {
             i += 2;
+        } else {
+            return i;
         }
     }
     i

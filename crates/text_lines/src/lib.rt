@@ -45,7 +45,7 @@ fn end_mark(text: &[u8], rule: LineRule) -> usize
 }
 
 // Passes the run of one byte that begins at a place: all of it, or all but fewer than four bytes. Most runs are short. Behind sixteen bytes a
-// run is passed four bytes at a time.
+// run is passed four bytes at a time. The loops of this crate run for each text line and count by hand, as measured in bench/ (docs/SPEED.md).
 fn behind_run(text: &[u8], from: usize, b: u8) -> usize
     ensures { run_end b text.now result ≡ run_end b text.now from }
 {
@@ -69,16 +69,7 @@ fn long_run(text: &[u8], from: usize, b: u8) -> usize
 {
     let mut i = from;
     while text.len() - i >= 4 {
-        if text[i] != b {
-            return i;
-        }
-        if text[i + 1] != b {
-            return i;
-        }
-        if text[i + 2] != b {
-            return i;
-        }
-        if text[i + 3] != b {
+        if text[i] != b || text[i + 1] != b || text[i + 2] != b || text[i + 3] != b {
             return i;
         }
         i += 4;
@@ -87,7 +78,6 @@ fn long_run(text: &[u8], from: usize, b: u8) -> usize
 }
 
 // The place behind the blanks that stand from a place on. Most are a run of one byte, which is passed first, with one test for each.
-// These loops stand here, and not in `base_ascii::search`, because they are run for each text line.
 fn behind_blanks(text: &[u8], from: usize) -> usize
     ensures { result ≡ from + front is_blank (drop from text.now) }
 {
@@ -113,10 +103,7 @@ fn behind_blanks(text: &[u8], from: usize) -> usize
 fn behind_fours(text: &[u8], from: usize) -> usize
     ensures { AboveCr text.now from result }
 {
-    if text.len() <= from {
-        return from;
-    }
-    if text[from] <= 0x0D {
+    if text.len() <= from || text[from] <= 0x0D {
         return from;
     }
     let mut i: usize = from + 1;
@@ -143,14 +130,12 @@ pub fn next_line(text: &[u8], from: usize, rule: LineRule) -> TextLine
     ensures { result ≡ line_from rule text.now from }
 {
     // In a run of line ends each line ends where it begins.
-    if from < text.len() {
-        if text[from] == 0x0A {
-            return TextLine {
-                begin: from,
-                end: from,
-                next: from + 1,
-            };
-        }
+    if from < text.len() && text[from] == 0x0A {
+        return TextLine {
+            begin: from,
+            end: from,
+            next: from + 1,
+        };
     }
     let begin = behind_blanks(text, from);
     let mut i = begin;

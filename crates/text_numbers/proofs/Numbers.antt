@@ -72,9 +72,11 @@ module _ {s : List ℕ} {i v : ℕ} where
       let w : v ≡ min (decimal_from 0 s) most = omega arith in
       cc
 
-  pub valued_end : length s ≤ i → Valued s i v → record { count = i; value = v } ≡ digits_in s
+  pub valued_end : length s ≤ i → Valued s i v → record { count = length s; value = v } ≡ digits_in s
   unfolding decimal_from
-  valued_end h k = valued_is (front_end is_digit h k.counted) (rw (drop_of_length-le s h)) k
+  valued_end h k =
+      let e : length s ≡ i = omega (arith, front_end is_digit h k.counted, front_le is_digit s) in
+      rw e (valued_is (front_end is_digit h k.counted) (rw (drop_of_length-le s h)) k)
 
   module _ {r : Bool} where
     pub valued_stop : not r ≡ true → r ≡ is_digit (get_or s i 0) → i < length s → Valued s i v → record { count = i; value = v } ≡ digits_in s
@@ -155,7 +157,7 @@ module _ (l t : List ℕ) {d : Digits} where
   pub line_missing : d.count ≡ 0 → d ≡ digits_in t → t ≡ trim l → (length t ≡ 0 → ⊥) → Missing ≡ numbering l
   line_missing z q e n = by_read l t e (trimmed_missing t n (sym (is_count t q) ∙ z))
 
-  pub line_range : 65535 < d.value → d ≡ digits_in t → t ≡ trim l → (d.count ≡ 0 → ⊥) → OutOfRange d.value ≡ numbering l
+  pub line_range : (d.value < 65536 → ⊥) → d ≡ digits_in t → t ≡ trim l → (d.count ≡ 0 → ⊥) → OutOfRange d.value ≡ numbering l
   unfolding digits_read
   line_range h q e n =
       let high : 65535 < decimal_from 0 t = omega (arith, is_value t q) in
@@ -177,11 +179,11 @@ module _ (l t : List ℕ) {d : Digits} where
     pub body_fits : Fits w64 (length l) → Fits w64 (a + d.count + k)
     body_fits f = Fits-le (omega (arith, body_low, trim_within l, ap length e)) f
 
-    pub line_numbered : d.value ≤ 65535 → (d.count ≡ 0 → ⊥) → Numbered d.value (a + d.count + k) (a + length t) ≡ numbering l
+    pub line_numbered : {v : ℕ} → (d.value < 65536) × (v ≡ d.value) → (d.count ≡ 0 → ⊥) → Numbered v (a + d.count + k) (a + length t) ≡ numbering l
     unfolding digits_read
-    line_numbered h n =
-        let low : decimal_from 0 t ≤ 65535 = omega (arith, is_value t q) in
-        let v : d.value ≡ decimal_from 0 t = omega (arith, is_value t q) in
+    line_numbered {v = number} h n =
+        let low : decimal_from 0 t ≤ 65535 = omega (arith, is_value t q, h) in
+        let v : number ≡ decimal_from 0 t = omega (arith, is_value t q, h) in
         let end : a + length t ≡ trimmed_end l = omega (arith, ap length e) in
         let start : a + d.count + k ≡ trimmed_end l - length (past (equals 0x20) (past is_digit t)) = omega (arith, body_long, body_low) in
         rw (v, start, end) (by_read l t e (some t q n ∙ taken _ _ (le-leb _ _ low)))

@@ -36,27 +36,23 @@ pub enum Numbering {
 fn with_digit(value: u32, digit: u8) -> u32
     ensures { result ≡ min (value * 10 + digit) 4294967295 }
 {
-    let longer = value as u64 * 10 + digit as u64;
-    if longer > 4294967295 {
-        return 4294967295;
-    }
-    longer as u32
+    value.saturating_mul(10).saturating_add(u32::from(digit))
 }
 
 fn digits_in(text: &[u8]) -> Digits
     ensures { result ≡ digits_of text.now }
 {
-    let mut count: usize = 0;
     let mut value: u32 = 0;
-    while count < text.len() {
-        let b = text[count];
-        if !base_ascii::is_digit(b) {
+    for (count, b) in text.iter().enumerate() {
+        if !base_ascii::is_digit(*b) {
             return Digits { count, value };
         }
-        value = with_digit(value, b - 48);
-        count += 1;
+        value = with_digit(value, *b - 48);
     }
-    Digits { count, value }
+    Digits {
+        count: text.len(),
+        value,
+    }
 }
 
 // What a line is: both ends trimmed, then its digits, then spaces, then the body.
@@ -64,26 +60,24 @@ pub fn number_line(line: &[u8]) -> Numbering
     ensures { result ≡ numbering line.now }
 {
     // Most blank lines are empty.
-    if line.len() == 0 {
+    if line.is_empty() {
         return Numbering::Blank;
     }
     let text = base_ascii::trim(line);
-    if text.len() == 0 {
+    if text.is_empty() {
         return Numbering::Blank;
     }
-    let digits = digits_in(text);
-    let count = digits.count;
-    let value = digits.value;
+    let Digits { count, value } = digits_in(text);
     if count == 0 {
         return Numbering::Missing;
     }
-    if value > 65535 {
+    let Ok(number) = u16::try_from(value) else {
         return Numbering::OutOfRange { value };
-    }
+    };
     let spaces = search::front(&text[count..], Kind::Space);
     let from = base_ascii::leading_space(line);
     Numbering::Numbered {
-        number: value as u16,
+        number,
         body_from: from + count + spaces,
         body_to: from + text.len(),
     }

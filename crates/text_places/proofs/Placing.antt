@@ -1,15 +1,17 @@
 -- Laws of the place of an offset: what ends a line, the place behind a byte, and the loop over a text.
 -- Assumes nothing.
-use Prim.Native.Nat.{ℕ, zero, suc, ◌+◌, ◌-◌, ◌≤◌, ◌<◌}
+use Prim.Native.Nat.{ℕ, zero, suc, ◌+◌, ◌-◌, ◌≤◌, ◌<◌, min}
 use mathlib.Core.Path.{◌≡◌, refl, sym, ap, ◌∙◌}
-use mathlib.Core.Bool.{Bool, true, false, cond, not}
+use mathlib.Core.Bool.{Bool, true, false, cond, not, ◌&&◌}
 use mathlib.Core.List.{List, [], ◌∷◌}
 use native.Mathlib.Numerals.{add-one}
+use native.Mathlib.Decide.{dec_le}
 use native.Mathlib.Omega.{arith}
 use lib.Dec.{eqb}
 use lib.ListN.{length, get_or, take, drop, length-drop, drop_of_length-le}
 use lib.Seq.{drop-cons, take_all}
-use borrow.Author.Tests.{eq-eqb, ne_eqb}
+use borrow.Author.Tests.{eq-eqb, ne_eqb, eqb-true, eqb-false}
+use Rattle.std.specs.List.{starts_with}
 use Rattle.text_places.specs.Place.{ends_line, place_behind, place_from, text_place}
 use Rattle.text_places.specs.declared.Place.{Place}
 
@@ -26,9 +28,21 @@ module _ {b : ℕ} (s : List ℕ) where
   unfolding ends_line
   ends_next n e = simp (ne_eqb b 0x0A n, eq-eqb b 0x0D e)
 
-pub ends_last : {b : ℕ} (s : List ℕ) → (b ≡ 0x0A → ⊥) → b ≡ 0x0D → length s ≡ 0 → true ≡ ends_line b s
-ends_last [] n e z = ends_next [] n e
-ends_last (c ∷ s) n e z = absurd (omega arith)
+eqb_back : (a b : ℕ) → eqb a b ≡ eqb b a
+eqb_back a b = go (eqb b a) refl
+  where
+    go : (r : Bool) → eqb b a ≡ r → eqb a b ≡ eqb b a
+    go true e = rw e (eq-eqb a b (sym (eqb-true b a e)))
+    go false e = rw e (ne_eqb a b (λ q. eqb-false b a e (sym q)))
+
+-- LF stands in front
+pub begins_lf : (s : List ℕ) → starts_with eqb s (0x0A ∷ []) ≡ eqb (get_or s 0 0) 0x0A
+begins_lf [] = refl
+begins_lf (c ∷ s) = rw (eqb_back 0x0A c) (go (eqb c 0x0A))
+  where
+    go : (x : Bool) → (x && true) ≡ x
+    go true = refl
+    go false = refl
 
 module _ (b : ℕ) (s : List ℕ) (p : Place) where
   pub past_end_lem : {r : Bool} → r ≡ ends_line b s → r ≡ true → ◌≡◌ {A = Place} (record { line = p.line + 1; column = 1 }) (place_behind p b s)
@@ -94,9 +108,12 @@ module _ {text : List ℕ} {offset i : ℕ} {at : Place} (k : Passed text offset
         gives = rw (e, add-one) (rw (drop-cons text i 0 h, n, add-one) at k.gives);
       }
 
-  pub passed_there : offset ≤ i → at ≡ text_place text offset
+  pub passed_end : min offset (length text) ≤ i → at ≡ text_place text offset
   unfolding place_from
-  passed_there h = let n : offset - i ≡ 0 = omega arith in rw n at k.gives
-
-  pub passed_end : length text ≤ i → at ≡ text_place text offset
-  passed_end h = sym (from_none at (offset - i)) ∙ rw (drop_of_length-le text h) at k.gives
+  passed_end h = go (dec_le offset i)
+    where
+      go : Dec (offset ≤ i) → at ≡ text_place text offset
+      go (yes l) = let n : offset - i ≡ 0 = omega arith in rw n at k.gives
+      go (no g) =
+          let end : length text ≤ i = omega arith in
+          sym (from_none at (offset - i)) ∙ rw (drop_of_length-le text end) at k.gives

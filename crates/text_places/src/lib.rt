@@ -15,16 +15,7 @@ pub struct Place {
 fn ends_line(b: u8, rest: &[u8]) -> bool
     ensures { result ≡ ends_line b rest.now }
 {
-    if b == 0x0A {
-        return true;
-    }
-    if b != 0x0D {
-        return false;
-    }
-    if rest.len() == 0 {
-        return true;
-    }
-    rest[0] != 0x0A
+    b == b'\n' || (b == b'\r' && !rest.starts_with(b"\n"))
 }
 
 // The place behind a byte.
@@ -33,17 +24,17 @@ fn past(place: Place, b: u8, rest: &[u8]) -> Place
     ensures { result ≡ past_of place b rest.now }
 {
     if ends_line(b, rest) {
-        return Place {
+        Place {
             line: place.line + 1,
             column: 1,
-        };
-    }
-    if b == 0x80 {
-        return place;
-    }
-    Place {
-        line: place.line,
-        column: place.column + 1,
+        }
+    } else if b == 0x80 {
+        place
+    } else {
+        Place {
+            column: place.column + 1,
+            ..place
+        }
     }
 }
 
@@ -52,14 +43,9 @@ pub fn place_of(text: &[u8], offset: usize) -> Place
     requires { length text.now ≤ 1048576 }
     ensures { result ≡ text_place text.now offset }
 {
-    let mut i: usize = 0;
     let mut at = Place { line: 1, column: 1 };
-    while i < text.len() {
-        if i >= offset {
-            return at;
-        }
+    for i in 0..offset.min(text.len()) {
         at = past(at, text[i], &text[i + 1..]);
-        i += 1;
     }
     at
 }

@@ -8,12 +8,10 @@ use Rattle.base_ascii.specs.Bytes.{is_ascii}
 use Rattle.base_ascii.specs.Trim.{trim}
 use Rattle.word_search.specs.Find.{Name, meaning}
 use Rattle.base_refusals.specs.Numbers.{unknown_dialect}
-use Rattle.base_refusals.specs.Answer.{Answer, done, refused, numbered}
+use Rattle.base_refusals.specs.Answer.{Answer, done, refused}
 use Rattle.word_search.specs.Spelling.{◌means◌}
 use Rattle.word_dialects.specs.declared.Dialect.{Dialect}
 use Rattle.word_dialects.specs.declared.Dialect.TheVariants.{Auto, BasicV2, Tsb, Basic35}
-use Rattle.std.specs.Prelude.{Result, Ok, Err}
-use Rattle.base_refusals.specs.declared.Refusal.{Refusal}
 
 -- the dialect of a number: there are four
 unfoldable pub by_number : ℕ → Answer Dialect

@@ -6,9 +6,8 @@ ghost use Rattle.word_dialects.specs.Dialects.{by_number, named, is_basic35, def
 ghost use Rattle.base_refusals.specs.Answer.{answered};
 
 use base_refusals::Refusal;
-use word_search::{Section, Test};
 
-#[derive(Clone, Copy)]
+#[derive(Clone, Copy, PartialEq, Eq)]
 pub enum Dialect {
     // Decide by the program.
     Auto,
@@ -20,20 +19,17 @@ pub enum Dialect {
     Basic35,
 }
 
-const NAME_BYTES: [u8; 46] = *b"AUTOBASIC2BASICV2V2BASIC-V2TSBSIMONSEXTBASIC35";
-
-const NAME_STARTS: [u16; 10] = [0, 4, 10, 17, 19, 27, 30, 36, 39, 46];
-
-const NAME_DIALECTS: [Dialect; 9] = [
-    Dialect::Auto,
-    Dialect::BasicV2,
-    Dialect::BasicV2,
-    Dialect::BasicV2,
-    Dialect::BasicV2,
-    Dialect::Tsb,
-    Dialect::Tsb,
-    Dialect::Tsb,
-    Dialect::Basic35,
+// Each name of a dialect.
+const NAMES: [(&[u8], Dialect); 9] = [
+    (b"auto", Dialect::Auto),
+    (b"basic2", Dialect::BasicV2),
+    (b"basicv2", Dialect::BasicV2),
+    (b"v2", Dialect::BasicV2),
+    (b"basic-v2", Dialect::BasicV2),
+    (b"tsb", Dialect::Tsb),
+    (b"simons", Dialect::Tsb),
+    (b"ext", Dialect::Tsb),
+    (b"basic35", Dialect::Basic35),
 ];
 
 // The dialect of a number, as callers in other languages give it.
@@ -53,23 +49,14 @@ pub fn dialect_by_number(number: u8) -> Result<Dialect, Refusal>
 pub fn dialect_by_name(word: &[u8]) -> Result<Dialect, Refusal>
     ensures { answered result ≡ named word.now }
 {
-    if word.len() > 64 {
-        return Err(Refusal::UnknownDialect);
-    }
-    if !base_ascii::is_ascii(word) {
+    if word.len() > 64 || !base_ascii::is_ascii(word) {
         return Err(Refusal::UnknownDialect);
     }
     let name = base_ascii::trim(word);
-    let k = word_search::first_passing(
-        Test::Alike,
-        name,
-        &NAME_BYTES,
-        &NAME_STARTS,
-        Section { from: 0, to: 9 },
-        0,
-    );
-    if k < 9 {
-        return Ok(NAME_DIALECTS[k]);
+    for (known, dialect) in NAMES {
+        if word_search::alike(known, name) {
+            return Ok(dialect);
+        }
     }
     Err(Refusal::UnknownDialect)
 }
@@ -77,20 +64,12 @@ pub fn dialect_by_name(word: &[u8]) -> Result<Dialect, Refusal>
 pub fn is_basic35(dialect: Dialect) -> bool
     ensures { result ≡ is_basic35 dialect }
 {
-    match dialect {
-        Dialect::Auto => false,
-        Dialect::BasicV2 => false,
-        Dialect::Tsb => false,
-        Dialect::Basic35 => true,
-    }
+    dialect == Dialect::Basic35
 }
 
 // The address that programs of a dialect are loaded at where no other is asked for.
 pub fn default_load(dialect: Dialect) -> u16
     ensures { result ≡ default_load dialect }
 {
-    if is_basic35(dialect) {
-        return 0x1001;
-    }
-    0x0801
+    if is_basic35(dialect) { 0x1001 } else { 0x0801 }
 }

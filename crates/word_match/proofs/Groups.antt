@@ -13,7 +13,7 @@ use Rattle.word_search.specs.Compare.{begins, alike, shortens, passes}
 use Rattle.word_search.specs.Find.{Entry, first_that}
 use Rattle.word_search.specs.RunHelpers.{Ready, raised, word_of, first_from}
 use Rattle.word_search.specs.declared.Match.{Match}
-use Rattle.word_search.specs.declared.Match.TheVariants.{Word, Nothing}
+use Rattle.std.specs.Prelude.{Option, Some, None}
 use Rattle.word_search.specs.declared.Test.{Test}
 use Rattle.word_search.specs.declared.Test.TheVariants.{Begins, Alike, Same, Shortens}
 use Rattle.word_search.proofs.Comparing.{raise_raised}
@@ -24,8 +24,8 @@ use Rattle.word_tables.proofs.Ranged.{ranged}
 
 -- the first word that passes a test of its place and its bytes
 unfoldable pub first_placed : (ℕ → List ℕ → Bool) → List Placed → Option Match
-first_placed p [] = Nothing
-first_placed p (x ∷ xs) = elim (p x.place x.word) [ true ↦ Word x.place (length x.word) x.token | false ↦ first_placed p xs ]
+first_placed p [] = None
+first_placed p (x ∷ xs) = elim (p x.place x.word) [ true ↦ Some (record { index = x.place; used = length x.word; token = x.token }) | false ↦ first_placed p xs ]
 
 -- ---- the words of other groups do not pass
 
@@ -42,8 +42,8 @@ module _ (p : ℕ → List ℕ → Bool) (b : ℕ) (only : Confined p b) where
       go (eqb (initial e.word) b) (p k e.word) refl refl (first_grouped es (suc k) (and_right (between 32 95 (initial e.word)) _ r))
     where
       go : (g q : Bool) → eqb (initial e.word) b ≡ g → p k e.word ≡ q → first_placed p (grouped b (suc k) es) ≡ first_that p es (suc k)
-          → first_placed p (elim g [ true ↦ record { place = k; word = e.word; token = e.token } ∷ grouped b (suc k) es | false ↦ grouped b (suc k) es ])
-          ≡ elim q [ true ↦ Word k (length e.word) e.token | false ↦ first_that p es (suc k) ]
+          → ◌≡◌ {A = Option Match} (first_placed p (elim g [ true ↦ record { place = k; word = e.word; token = e.token } ∷ grouped b (suc k) es | false ↦ grouped b (suc k) es ]))
+          (elim q [ true ↦ Some (record { index = k; used = length e.word; token = e.token }) | false ↦ first_that p es (suc k) ])
       go true true u v h = rw (first_placed, v)
       go true false u v h = rw (first_placed, v) h
       go false true u v h = absurd (eqb-false _ _ u (only k e.word (and_left (between 32 95 (initial e.word)) _ r) v))
@@ -148,7 +148,7 @@ module _ (bytes index : List ℕ) where
 
     -- what is found at place r of those up to an end
     abbrev pub answer : ℕ → ℕ → Option Match
-    answer end r = elim (ltb r end) [ true ↦ word_found bytes index r | false ↦ Nothing ]
+    answer end r = elim (ltb r end) [ true ↦ word_found bytes index r | false ↦ None ]
 
     pub first_stored : (n i : ℕ) → first_placed p (stored_words bytes index i n) ≡ answer (i + n) (first_from passes_placed i n)
     unfolding first_placed stored_words first_from
@@ -159,7 +159,7 @@ module _ (bytes index : List ℕ) where
         end = omega arith
 
         go : (r : Bool) → first_placed p (stored_words bytes index (suc i) n) ≡ answer (suc i + n) (first_from passes_placed (suc i) n)
-            → ◌≡◌ {A = Match} (elim r [ true ↦ word_found bytes index i | false ↦ first_placed p (stored_words bytes index (suc i) n) ])
+            → ◌≡◌ {A = Option Match} (elim r [ true ↦ word_found bytes index i | false ↦ first_placed p (stored_words bytes index (suc i) n) ])
             (answer (i + suc n) (elim r [ true ↦ i | false ↦ first_from passes_placed (suc i) n ]))
         go true h = rw (answer, lt-ltb i (i + suc n) (omega arith))
         go false h = h ∙ ap (λ (e : ℕ). answer e (first_from passes_placed (suc i) n)) end

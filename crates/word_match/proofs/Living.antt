@@ -13,7 +13,7 @@ use Rattle.word_search.specs.Compare.{begins, passes}
 use Rattle.word_search.specs.Find.{Entry, first_that, among_in}
 use Rattle.word_search.specs.RunHelpers.{Stored, word_of, passes_at, first_from}
 use Rattle.word_search.specs.declared.Match.{Match}
-use Rattle.word_search.specs.declared.Match.TheVariants.{Word, Nothing}
+use Rattle.std.specs.Prelude.{Option, Some, None}
 use Rattle.word_search.specs.declared.Section.{Section}
 use Rattle.word_search.specs.declared.Test.TheVariants.{Begins}
 use Rattle.word_search.proofs.Comparing.{raise_begins}
@@ -44,41 +44,41 @@ begun_capitals t = first_capitals (λ k w. passes Begins w t) (λ k w. raise_beg
 
 module _ (s : Sets) (t : List ℕ) where
   -- where TSB words are not live, none is
-  dead : s.tsb ≡ false → (es : List Entry) (k : ℕ) → first_that (λ k w. is_live s k && begins w t) es k ≡ Nothing
+  dead : s.tsb ≡ false → (es : List Entry) (k : ℕ) → first_that (λ k w. is_live s k && begins w t) es k ≡ None
   unfolding first_that is_live
   dead e [] k = refl
   dead e (x ∷ es) k = rw (first_that, is_live, e) (dead e es (suc k))
 
-  pub live_dead : not s.tsb ≡ true → (es : List Entry) → Nothing ≡ live_word s es t
+  pub live_dead : not s.tsb ≡ true → (es : List Entry) → None ≡ live_word s es t
   unfolding live_word among_in
   live_dead e es = go (among_in (is_demoted s) es t)
     where
-      go : (m : Option Match) → Nothing ≡ elim m [ Word i u k ↦ Nothing | Nothing ↦ among_in (is_live s) es t ]
-      go (Word i u k) = refl
-      go Nothing = sym (dead (not-true _ e) es 0)
+      go : (m : Option Match) → ◌≡◌ {A = Option Match} None (elim m [ Some m ↦ None | None ↦ among_in (is_live s) es t ])
+      go (Some w) = refl
+      go None = sym (dead (not-true _ e) es 0)
 
   -- where no demoted word matches, each word that matches is live
-  alive : s.tsb ≡ true → (es : List Entry) (k : ℕ) → Nothing ≡ first_that (λ k w. is_demoted s k && begins w t) es k
+  alive : s.tsb ≡ true → (es : List Entry) (k : ℕ) → None ≡ first_that (λ k w. is_demoted s k && begins w t) es k
       → first_that (λ k w. passes Begins w t) es k ≡ first_that (λ k w. is_live s k && begins w t) es k
   unfolding first_that is_live passes
   alive e [] k n = refl
   alive e (x ∷ es) k n = go s.tsb e (is_demoted s k) (begins x.word t) n (alive e es (suc k))
     where
-      go : (a : Bool) → a ≡ true → (d b : Bool) → Nothing ≡ elim (d && b) [ true ↦ Word k (length x.word) x.token | false ↦ first_that (λ k w. is_demoted s k && begins w t) es (suc k) ]
-          → (Nothing ≡ first_that (λ k w. is_demoted s k && begins w t) es (suc k) → first_that (λ k w. passes Begins w t) es (suc k) ≡ first_that (λ k w. is_live s k && begins w t) es (suc k))
-          → ◌≡◌ {A = Match} (elim b [ true ↦ Word k (length x.word) x.token | false ↦ first_that (λ k w. passes Begins w t) es (suc k) ])
-          (elim ((a && not d) && b) [ true ↦ Word k (length x.word) x.token | false ↦ first_that (λ k w. is_live s k && begins w t) es (suc k) ])
+      go : (a : Bool) → a ≡ true → (d b : Bool) → ◌≡◌ {A = Option Match} None (elim (d && b) [ true ↦ Some (record { index = k; used = length x.word; token = x.token }) | false ↦ first_that (λ k w. is_demoted s k && begins w t) es (suc k) ])
+          → (None ≡ first_that (λ k w. is_demoted s k && begins w t) es (suc k) → first_that (λ k w. passes Begins w t) es (suc k) ≡ first_that (λ k w. is_live s k && begins w t) es (suc k))
+          → ◌≡◌ {A = Option Match} (elim b [ true ↦ Some (record { index = k; used = length x.word; token = x.token }) | false ↦ first_that (λ k w. passes Begins w t) es (suc k) ])
+          (elim ((a && not d) && b) [ true ↦ Some (record { index = k; used = length x.word; token = x.token }) | false ↦ first_that (λ k w. is_live s k && begins w t) es (suc k) ])
       go false u d b q f = absurd (false≢true u)
       go true u true true q f = let z : ◌≡◌ {A = ℕ} 0 1 = cc in absurd (omega arith)
       go true u true false q f = f q
       go true u false true q f = refl
       go true u false false q f = f q
 
-  live_found : (es : List Entry) {m : Option Match} → not s.tsb ≡ false → Nothing ≡ among_in (is_demoted s) es t → m ≡ first_that (λ k w. passes Begins w t) es 0 → m ≡ live_word s es t
+  live_found : (es : List Entry) {m : Option Match} → not s.tsb ≡ false → None ≡ among_in (is_demoted s) es t → m ≡ first_that (λ k w. passes Begins w t) es 0 → m ≡ live_word s es t
   unfolding live_word among_in
   live_found es e n q = q ∙ alive (not-false _ e) es 0 n ∙ rw (live_word, sym n)
 
-  live_demoted : (es : List Entry) {i u k : ℕ} → Word i u k ≡ among_in (is_demoted s) es t → Nothing ≡ live_word s es t
+  live_demoted : (es : List Entry) {m : Match} → Some m ≡ among_in (is_demoted s) es t → None ≡ live_word s es t
   unfolding live_word
   live_demoted es q = rw (live_word, sym q)
 
@@ -133,7 +133,7 @@ module _ (s : Sets) (t bytes index : List ℕ) where
         next (i + 1) _ (omega (arith, v.up)) (omega arith) (rw q at e) (sym (first_next demoted_at i g.to l (rw (← p, d))) ∙ v.gives)
 
     pub living_demoted : {k : ℕ} → get_or s.demoted k false ≡ true → k ≡ get_or index (362 + i) 0 → i < x.to → x ≡ group_at index Tsb (initial t) → Living i → SpellsWords bytes index
-        → Nothing ≡ live_word s tsb_words t
+        → None ≡ live_word s tsb_words t
     unfolding demoted_at is_demoted passes_at passes
     living_demoted d p h q v sp =
         let l : i < g.to = rw q at h in
@@ -178,8 +178,5 @@ module _ (s : Sets) (t bytes index : List ℕ) where
     pub living_word : {m : Option Match} {first : ℕ} → m ≡ word_found bytes index first → first < x.to → first ≡ first_from (passes_at Begins t bytes index) x.from (x.to - x.from) → m ≡ live_word s tsb_words t
     living_word m l f = end (match_found Begins t bytes index Tsb m l f q sp)
 
-    pub living_none : {first : ℕ} → x.to ≤ first → first ≡ first_from (passes_at Begins t bytes index) x.from (x.to - x.from) → Nothing ≡ live_word s tsb_words t
+    pub living_none : {first : ℕ} → x.to ≤ first → first ≡ first_from (passes_at Begins t bytes index) x.from (x.to - x.from) → None ≡ live_word s tsb_words t
     living_none l f = end (match_none Begins t bytes index Tsb l f q sp)
-
-pub index_long_lem : {bytes index : List ℕ} → SpellsWords bytes index → 1044 ≤ length index
-index_long_lem sp = sp.index_long

@@ -16,7 +16,7 @@ use Rattle.word_search.specs.Compare.{passes}
 use Rattle.word_search.specs.Find.{Entry, first_that, match_in, word_in, name_in}
 use Rattle.word_search.specs.RunHelpers.{Ready, Stored, raised, word_of, passes_at, first_from}
 use Rattle.word_search.specs.declared.Match.{Match}
-use Rattle.word_search.specs.declared.Match.TheVariants.{Word, Nothing}
+use Rattle.std.specs.Prelude.{Option, Some, None}
 use Rattle.word_search.specs.declared.Section.{Section}
 use Rattle.word_search.specs.declared.Test.{Test}
 use Rattle.word_search.specs.declared.Test.TheVariants.{Begins, Alike}
@@ -45,7 +45,7 @@ module _ (p : ℕ → List ℕ → Bool) (b : ℕ) (only : Confined p b) (bytes 
   pub found_stored : {r : ℕ} → r ≡ first_from (passes_placed bytes index p) from (to - from) → r < to → word_found bytes index r ≡ first_that p (capitals (words_of l)) 0
   found_stored {r} e h = sym (searched ∙ ap (answer bytes index p to) (sym e) ∙ rw (answer, lt-ltb r to h))
 
-  pub none_stored : {r : ℕ} → r ≡ first_from (passes_placed bytes index p) from (to - from) → to ≤ r → Nothing ≡ first_that p (capitals (words_of l)) 0
+  pub none_stored : {r : ℕ} → r ≡ first_from (passes_placed bytes index p) from (to - from) → to ≤ r → None ≡ first_that p (capitals (words_of l)) 0
   none_stored {r} e h = sym (searched ∙ ap (answer bytes index p to) (sym e) ∙ rw (answer, le-ltb r to h))
 
 -- ---- what is known of the stored words of a group
@@ -92,28 +92,28 @@ part_stored text l from a b sp = record {
 
 -- ---- the look-up of a group
 
-initial_first : (t : List ℕ) → (length t ≡ 0 → ⊥) → initial t ≡ upper (get_or t 0 0)
+initial_first : (t : List ℕ) {b : ℕ} → b ≡ get_or t 0 b → 0 < length t → initial t ≡ upper b
 unfolding initial
-initial_first [] n = absurd (n refl)
-initial_first (b ∷ t) n = refl
+initial_first [] e h = absurd (omega arith)
+initial_first (x ∷ t) e h = ap upper (sym e)
 
-pub group_empty : (t index : List ℕ) (l : WordList) → length t ≡ 0 → record { from = 0; to = 0 } ≡ group_at index l (initial t)
+pub group_empty : (t index : List ℕ) (l : WordList) → length t ≤ 0 → record { from = 0; to = 0 } ≡ group_at index l (initial t)
 unfolding group_at initial
 group_empty [] index l h = refl
 group_empty (b ∷ t) index l h = absurd (omega arith)
 
-module _ (t index : List ℕ) (l : WordList) {u : ℕ} {r : Bool} where
-  pub group_outside : not r ≡ true → r ≡ between 32 95 u → u ≡ upper (get_or t 0 0) → (length t ≡ 0 → ⊥) → record { from = 0; to = 0 } ≡ group_at index l (initial t)
+module _ (t index : List ℕ) (l : WordList) {u b : ℕ} {r : Bool} where
+  pub group_outside : not r ≡ true → r ≡ between 32 95 u → u ≡ upper b → b ≡ get_or t 0 b → 0 < length t → record { from = 0; to = 0 } ≡ group_at index l (initial t)
   unfolding group_at
-  group_outside n e v s =
-      let o : between 32 95 (initial t) ≡ false = ap (between 32 95) (initial_first t s ∙ sym v) ∙ sym e ∙ not-true r n in
+  group_outside n e v s w =
+      let o : between 32 95 (initial t) ≡ false = ap (between 32 95) (initial_first t s w ∙ sym v) ∙ sym e ∙ not-true r n in
       rw (group_at, o)
 
   pub group_inside : {x : Section} {g w : ℕ} → x ≡ record { from = get_or index (g + w) 0; to = get_or index (g + w + 1) 0 } → w ≡ u - 32 → g ≡ groups_of l → not r ≡ false
-      → r ≡ between 32 95 u → u ≡ upper (get_or t 0 0) → (length t ≡ 0 → ⊥) → x ≡ group_at index l (initial t)
+      → r ≡ between 32 95 u → u ≡ upper b → b ≡ get_or t 0 b → 0 < length t → x ≡ group_at index l (initial t)
   unfolding group_at
-  group_inside q d k n e v s =
-      let i : initial t ≡ u = initial_first t s ∙ sym v in
+  group_inside q d k n e v s some =
+      let i : initial t ≡ u = initial_first t s some ∙ sym v in
       let o : between 32 95 (initial t) ≡ true = ap (between 32 95) i ∙ sym e ∙ not-false r n in
       q ∙ rw (d, k, group_at, o, i)
 
@@ -132,7 +132,7 @@ pub section_read : (index : List ℕ) (at : ℕ) {from to : ℕ} → from ≡ ge
 section_read index at e f = rw (e, f)
 
 pub found_read : (bytes index : List ℕ) (i : ℕ) {place : ℕ} {word : List ℕ} → place ≡ get_or index (362 + i) 0 → word ≡ word_of bytes index i
-    → Word place (length word) (get_or bytes (1727 + i) 0) ≡ word_found bytes index i
+    → ◌≡◌ {A = Option Match} (Some (record { index = place; used = length word; token = get_or bytes (1727 + i) 0 })) (word_found bytes index i)
 found_read bytes index i e f = rw (e, f)
 
 -- ---- `match_in`
@@ -155,7 +155,7 @@ module _ (test : Test) (text bytes index : List ℕ) (l : WordList) {s : Section
         q ∙ found_stored (λ k w. passes test w text) (initial text) (confined_test test text) bytes index sp l (rw e at f) (rw e at h)
 
     pub match_none : s.to ≤ i → i ≡ first_from (passes_at test text bytes index) s.from (s.to - s.from)
-        → s ≡ group_at index l (initial text) → SpellsWords bytes index → Nothing ≡ match_in test (capitals (words_of l)) text
+        → s ≡ group_at index l (initial text) → SpellsWords bytes index → None ≡ match_in test (capitals (words_of l)) text
     unfolding passes_at
     match_none h f e sp = none_stored (λ k w. passes test w text) (initial text) (confined_test test text) bytes index sp l (rw e at f) (rw e at h)
 
@@ -170,8 +170,8 @@ module _ (p : ℕ → List ℕ → Bool) (blind : (k : ℕ) (w : List ℕ) → p
       go (p k (map upper e.word)) (p k e.word) (blind k e.word) (length (map upper e.word)) (length-map e.word upper) (first_capitals es (suc k))
     where
       go : (q r : Bool) → q ≡ r → (n : ℕ) → n ≡ length e.word → first_that p (capitals es) (suc k) ≡ first_that p es (suc k)
-          → ◌≡◌ {A = Match} (elim q [ true ↦ Word k n e.token | false ↦ first_that p (capitals es) (suc k) ])
-          (elim r [ true ↦ Word k (length e.word) e.token | false ↦ first_that p es (suc k) ])
+          → ◌≡◌ {A = Option Match} (elim q [ true ↦ Some (record { index = k; used = n; token = e.token }) | false ↦ first_that p (capitals es) (suc k) ])
+          (elim r [ true ↦ Some (record { index = k; used = length e.word; token = e.token }) | false ↦ first_that p es (suc k) ])
       go true true u n v h = rw v
       go true false u n v h = absurd (false≢true (sym u))
       go false true u n v h = absurd (false≢true u)

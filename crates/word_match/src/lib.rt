@@ -4,7 +4,7 @@
 pub mod sets;
 pub mod tsb;
 
-ghost use Rattle.std.specs.Prelude.{◌≡◌, ◌+◌, ◌≤◌, ◌<◌, length, get_or};
+ghost use Rattle.std.specs.Prelude.{◌≡◌, ◌+◌, ◌<◌, length, get_or, Some};
 ghost use Rattle.word_search.specs.Find.{match_in, word_in, name_in};
 ghost use Rattle.word_tables.specs.Rom.{v2_words, operators};
 ghost use Rattle.word_tables.specs.Tsb.{tsb_words};
@@ -21,28 +21,22 @@ use word_tables::{WordList, Words, spellings};
 fn groups_of(list: WordList) -> usize
     ensures { result ≡ groups_of list }
 {
-    match list {
-        WordList::V2 => spellings::GROUPS,
-        WordList::Operators => spellings::GROUPS + 64,
-        WordList::Tsb => spellings::GROUPS + 128,
-        WordList::Escapes => spellings::GROUPS + 192,
-        WordList::Basic35 => spellings::GROUPS + 256,
-    }
+    spellings::GROUPS + 64 * list as usize
 }
 
 // The words of a list that begin as the text does.
-fn group_of(list: WordList, text: &[u8], index: &[u16]) -> Section
-    requires { 1044 ≤ length index.now }
-    ensures { result ≡ group_at index.now list (initial text.now) }
+fn group_of(list: WordList, text: &[u8], words: Words) -> Section
+    ensures { result ≡ group_at words.entry.index.now list (initial text.now) }
 {
-    if text.len() == 0 {
-        return Section { from: 0, to: 0 };
-    }
-    let b = base_ascii::upper(text[0]);
+    let none = Section { from: 0, to: 0 };
+    let Some(first) = text.first() else {
+        return none;
+    };
+    let b = base_ascii::upper(*first);
     if !base_ascii::between(32, 95, b) {
-        return Section { from: 0, to: 0 };
+        return none;
     }
-    section_at(index, groups_of(list) + base_ascii::wide(b - 32))
+    section_at(words.index, groups_of(list) + usize::from(b - 32))
 }
 
 // The section from one number of the index up to the next.
@@ -51,8 +45,8 @@ fn section_at(index: &[u16], at: usize) -> Section
     ensures { result ≡ record { from = get_or index.now at 0; to = get_or index.now (at + 1) 0 } }
 {
     Section {
-        from: base_ascii::wide16(index[at]),
-        to: base_ascii::wide16(index[at + 1]),
+        from: usize::from(index[at]),
+        to: usize::from(index[at + 1]),
     }
 }
 
@@ -61,35 +55,32 @@ fn place_of(index: &[u16], i: usize) -> usize
     requires { 362 + i < length index.now }
     ensures { result ≡ get_or index.now (362 + i) 0 }
 {
-    let at = spellings::PLACES + i;
-    base_ascii::wide16(index[at])
+    usize::from(index[spellings::PLACES + i])
 }
 
 // Stored word i, as the search of its list answers it.
-fn word_found(words: Words, i: usize) -> Option<Match>
-    requires { Held words.entry.bytes.now words.entry.index.now i }
-    ensures { result ≡ word_found words.entry.bytes.now words.entry.index.now i }
+fn word_found(words: Words, i: usize) -> Match
+    requires { Held words.bytes.now words.index.now i }
+    ensures { Some result ≡ word_found words.entry.bytes.now words.entry.index.now i }
 {
-    let word = word_search::word_at(words.bytes, words.index, i);
-    let at = spellings::TOKENS + i;
-    Some(Match {
+    Match {
         index: place_of(words.index, i),
-        used: word.len(),
-        token: words.bytes[at],
-    })
+        used: word_search::word_at(words.bytes, words.index, i).len(),
+        token: words.bytes[spellings::TOKENS + i],
+    }
 }
 
 // The first word of a list that passes the test; its words are stored in capitals.
 pub fn match_in(list: WordList, test: Test, text: &[u8], words: Words) -> Option<Match>
     ensures { result ≡ match_in test (capitals (words_of list)) text.now }
 {
-    let group = group_of(list, text, words.index);
-    let to = group.to;
+    let group = group_of(list, text, words);
     let i = word_search::first_passing(test, text, words.bytes, words.index, group, 1);
-    if i < to {
-        return word_found(words, i);
+    if i < group.to {
+        Some(word_found(words, i))
+    } else {
+        None
     }
-    None
 }
 
 // The V2 word that the text begins with.
@@ -112,28 +103,14 @@ pub fn match_plain(text: &[u8], words: Words, sets: Sets) -> Option<Match>
     ensures { result ≡ plain_word sets v2_words basic35_words text.now }
 {
     let v2 = match_v2(text, words);
-    if !sets.basic35 {
+    if v2.is_some() || !sets.basic35 {
         return v2;
     }
-    match v2 {
-        Some(Match {
-            index: _,
-            used: _,
-            token: _,
-        }) => v2,
-        None => match match_basic35(text, words) {
-            Some(Match {
-                index: place,
-                used,
-                token,
-            }) => Some(Match {
-                index: spellings::V2_WORDS + place,
-                used,
-                token,
-            }),
-            None => None,
-        },
-    }
+    let own = match_basic35(text, words)?;
+    Some(Match {
+        index: spellings::V2_WORDS + own.index,
+        ..own
+    })
 }
 
 // The operator that the text begins with.
@@ -157,7 +134,7 @@ pub fn match_live(text: &[u8], words: Words, sets: Sets) -> Option<Match>
     if !sets.tsb {
         return None;
     }
-    let group = group_of(WordList::Tsb, text, words.index);
+    let group = group_of(WordList::Tsb, text, words);
     let to = group.to;
     let first = word_search::first_passing(Test::Begins, text, words.bytes, words.index, group, 1);
     let mut i = first;
@@ -176,9 +153,10 @@ pub fn match_live(text: &[u8], words: Words, sets: Sets) -> Option<Match>
         );
     }
     if first < to {
-        return word_found(words, first);
+        Some(word_found(words, first))
+    } else {
+        None
     }
-    None
 }
 
 // The escape name that the text is.

@@ -17,7 +17,5 @@ pub struct Sets {
 pub fn with_forms(sets: Sets, on: bool) -> Sets
     ensures { result ≡ with_forms on sets }
 {
-    let mut given = sets;
-    given.forms = on;
-    given
+    Sets { forms: on, ..sets }
 }

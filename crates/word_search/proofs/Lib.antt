@@ -3,4 +3,3 @@ pub mod Order
 pub mod Runs
 pub mod Sameness
 pub mod Search
-pub mod Storing

@@ -9,8 +9,7 @@ use lib.Pointwise.{pointwise}
 use borrow.Author.Tests.{eq-eqb, eqb-true}
 use Rattle.word_search.specs.Compare.{same, member}
 use Rattle.word_search.specs.Find.{Entry, first_that, same_in}
-use Rattle.word_search.specs.declared.Match.{Match}
-use Rattle.std.specs.Prelude.{Option, Some, None}
+use Rattle.std.specs.Prelude.{Some, is_some}
 use Rattle.word_search.proofs.Search.{and_left, and_right}
 
 pub same_refl : (w : List ℕ) → same w w ≡ true
@@ -41,25 +40,21 @@ same_pointwise (x ∷ w) (y ∷ t) = go (eqb x y) (same_pointwise w t)
     go true e = e
     go false e = refl
 
--- a word is found just where the text is one of the words
-abbrev pub is_found : Option Match → Bool
-is_found (Some m) = true
-is_found None = false
-
 abbrev pub spellings : List Entry → List (List ℕ)
 spellings = map (λ e. e.word)
 
-found_member : (t : List ℕ) (es : List Entry) (k : ℕ) → is_found (first_that (λ i w. same w t) es k) ≡ member t (spellings es)
+found_member : (t : List ℕ) (es : List Entry) (k : ℕ) → is_some (first_that (λ i w. same w t) es k) ≡ member t (spellings es)
 unfolding first_that member
 found_member t [] k = refl
 found_member t (e ∷ es) k = go (same e.word t) (found_member t es (suc k))
   where
-    go : (b : Bool) → is_found (first_that (λ i w. same w t) es (suc k)) ≡ member t (spellings es)
-        → is_found (elim b [ true ↦ Some (record { index = k; used = lib.ListN.length e.word; token = e.token }) | false ↦ first_that (λ i w. same w t) es (suc k) ]) ≡ elim b [ true ↦ true | false ↦ member t (spellings es) ]
+    go : (b : Bool) → is_some (first_that (λ i w. same w t) es (suc k)) ≡ member t (spellings es)
+        → is_some (elim b [ true ↦ Some (record { index = k; used = lib.ListN.length e.word; token = e.token }) | false ↦ first_that (λ i w. same w t) es (suc k) ]) ≡ elim b [ true ↦ true | false ↦ member t (spellings es) ]
     go true h = refl
     go false h = h
 
-pub same_member : (t : List ℕ) (es : List Entry) → is_found (same_in es t) ≡ member t (spellings es)
+-- a word is found just where the text is one of the words
+pub same_member : (t : List ℕ) (es : List Entry) → is_some (same_in es t) ≡ member t (spellings es)
 unfolding same_in
 same_member t es = found_member t es 0
 

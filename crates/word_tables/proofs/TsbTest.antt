@@ -1,16 +1,16 @@
 -- The words of the TSB list are the words that a byte gives, and COLOUR and CENTRE.
 -- Assumes nothing.
 use Prim.Native.Nat.{ℕ}
-use mathlib.Core.Path.{◌≡◌, refl, sym, ap, ◌∙◌}
-use mathlib.Core.Bool.{Bool, true, false, ◌||◌, ◌&&◌}
+use mathlib.Core.Path.{◌≡◌, refl, ap, ◌∙◌}
+use mathlib.Core.Bool.{Bool, true, ◌||◌, ◌&&◌}
 use mathlib.Core.List.{List, [], ◌∷◌}
 use lib.Dec.{T}
 use Rattle.word_search.specs.Compare.{same, member}
 use Rattle.word_search.specs.Find.{Entry, match_in, same_in}
 use Rattle.word_search.specs.declared.Match.{Match}
-use Rattle.word_search.specs.declared.Match.TheVariants.{Word, Nothing}
+use Rattle.std.specs.Prelude.{Option, is_some}
 use Rattle.word_search.specs.declared.Test.TheVariants.{Same}
-use Rattle.word_search.proofs.Sameness.{is_found, spellings, same_member, within, member_same}
+use Rattle.word_search.proofs.Sameness.{spellings, same_member, within, member_same}
 use Rattle.word_tables.specs.WordsHelpers.{capitals}
 use Rattle.word_search.specs.Spelling.{bytes_of}
 use Rattle.word_tables.specs.Tsb.{tsb_words, tsb_text, tsb_texts, is_tsb_word}
@@ -40,13 +40,7 @@ own_capitals : capitals tsb_words ≡ tsb_words
 unfolding capitals tsb_words
 own_capitals = refl
 
-tsb_test : (w : List ℕ) {m : Option Match} → m ≡ match_in Same (capitals tsb_words) w → is_found m ≡ is_tsb_word w
+-- a word is found among them just where the test says yes
+pub tsb_test : (w : List ℕ) {m : Option Match} → m ≡ match_in Same (capitals tsb_words) w → is_some m ≡ is_tsb_word w
 unfolding is_tsb_word same_in
-tsb_test w e = ap is_found (e ∙ ap (λ (es : List Entry). match_in Same es w) own_capitals) ∙ same_member w tsb_words ∙ member_same w (spellings tsb_words) given list_in_given given_in_list
-
-module _ {m : Option Match} (w : List ℕ) where
-  pub tsb_yes : {i u k : ℕ} → m ≡ Word i u k → m ≡ match_in Same (capitals tsb_words) w → true ≡ is_tsb_word w
-  tsb_yes f e = ap is_found (sym f) ∙ tsb_test w e
-
-  pub tsb_no : m ≡ Nothing → m ≡ match_in Same (capitals tsb_words) w → false ≡ is_tsb_word w
-  tsb_no f e = ap is_found (sym f) ∙ tsb_test w e
+tsb_test w e = ap is_some (e ∙ ap (λ (es : List Entry). match_in Same es w) own_capitals) ∙ same_member w tsb_words ∙ member_same w (spellings tsb_words) given list_in_given given_in_list

@@ -6,7 +6,7 @@ use Rattle.base_ascii.specs.Bytes.{between, upper}
 use Rattle.word_search.specs.Find.{Entry}
 use Rattle.word_search.specs.RunHelpers.{Lies, word_of}
 use Rattle.word_search.specs.declared.Match.{Match}
-use Rattle.std.specs.Prelude.{Option, Some, None}
+use Rattle.std.specs.Prelude.{Option, Some}
 use Rattle.word_search.specs.declared.Section.{Section}
 use Rattle.word_tables.specs.Rom.{v2_words, operators}
 use Rattle.word_tables.specs.Tsb.{tsb_words}

@@ -1129,7 +1129,10 @@ pub fn word_index() -> [u16; 1044]
 }
 
 // The two tables, lent.
-pub fn stored_words() -> Words<'static> {
+pub fn stored_words() -> Words<'static>
+    ensures bytes { result.bytes.now ≡ word_bytes }
+    ensures index { result.index.now ≡ word_index }
+{
     Words {
         bytes: &WORD_BYTES,
         index: &WORD_INDEX,

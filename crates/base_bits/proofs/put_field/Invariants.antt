@@ -5,6 +5,3 @@ use Rattle.base_bits.proofs.put_field.Given as goal
 
 abbrev pub invariant-loop-left : goal.invariant-loop-left
 invariant-loop-left l = Drawing l.initial.out l.initial.pen l.width l.value l.out l.pen l.left
-
-abbrev pub decreases-loop-left : goal.decreases-loop-left
-decreases-loop-left l = l.left

@@ -6,8 +6,8 @@ use Rattle.body_short_forms.proofs.short_form.Goals as goal
 pub slice_bounds-form_letters-end : goal.slice_bounds-form_letters-end
 slice_bounds-form_letters-end c = search cut_count
 
-pub returns-in-Some : goal.returns-in-Some
-returns-in-Some c = search form_found
+pub returns-in_err-found : goal.returns-in_err-found
+returns-in_err-found c = search (form_none, c.in_err-found.ensures)
 
-pub returns-in-None : goal.returns-in-None
-returns-in-None c = search form_none
+pub returns : goal.returns
+returns c = search (form_found, c.in_ok-found.ensures)

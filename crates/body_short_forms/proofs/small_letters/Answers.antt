@@ -1,16 +1,16 @@
 -- `body_short_forms::small_letters` meets its contract.
 -- Assumes nothing.
-use Rattle.base_ascii.proofs.Searching.{onward_start, front_turn, front_found, front_end}
+use Rattle.std.proofs.Common.{rules, tests, ◌∙◌}
+use Rattle.std.proofs.lemmas.Iterator.{YieldsList-from_slice}
+use Rattle.std.proofs.lemmas.Iterator.Consumers.{count_from_yields_List}
+use Rattle.std.proofs.lemmas.Iterator.Search.{YieldsList-from_take_while}
+use Rattle.std.proofs.lemmas.List.Folds.{length-prefix_len}
+use Rattle.body_short_forms.specs.Forms.{is_small}
+use Rattle.base_ascii.proofs.Searching.{front_counted}
 use Rattle.body_short_forms.proofs.small_letters.Goals as goal
 
-pub loop-i-init : goal.loop-i-init
-loop-i-init c = search onward_start
-
-pub returns-then-not-between : goal.returns-then-not-between
-returns-then-not-between c = search front_found
-
-pub loop-i-preserved : goal.loop-i-preserved
-loop-i-preserved c = search front_turn
-
 pub returns : goal.returns
-returns c = search front_end
+returns c =
+    count_from_yields_List c.take_while.result _ c.count.ensures.ran
+    (YieldsList-from_take_while _ is_small (YieldsList-from_slice c.args.text.now (cc)) c.take_while.ensures.closure c.take_while.ensures.done (λ x b q k. search (rules, tests)))
+    ∙ length-prefix_len is_small c.args.text.now ∙ front_counted is_small c.args.text.now

@@ -1,9 +1,13 @@
--- `crunch_image::crunch` meets its contract: the constants that it lends are the lists.
+-- `crunch_image::crunch` meets its contract.
 -- Assumes nothing.
-use mathlib.Core.Path.{refl}
-use Rattle.word_tables.proofs.Laid.{word_bytes, word_index, words_spelt}
+use Rattle.std.proofs.lemmas.Result.{err_from_is_err_and}
+use Rattle.crunch_image.proofs.Whole.{whole_fine, whole_outside}
 use Rattle.crunch_image.proofs.crunch.Goals as goal
 
-pub crunch_with-requires : goal.crunch_with-requires
-unfolding word_bytes word_index
-crunch_with-requires c = words_spelt refl refl
+pub returns-in_err-check_text : goal.returns-in_err-check_text
+returns-in_err-check_text c =
+    let p = err_from_is_err_and c.from_residual.result c.from_residual.ensures.1 in
+    rw (p.1, p.2) (whole_outside _ _ _ c.in_err-check_text.was c.check_text.ensures)
+
+pub returns : goal.returns
+returns c = whole_fine _ _ _ c.into_buffer.result c.into_buffer.ensures c.text_sets-sets.ensures c.in_ok-check_text.was c.check_text.ensures

@@ -1,9 +1,13 @@
--- `crunch_image::measured_line` meets its contract: the constants that it lends are the lists.
+-- `crunch_image::measured_line` meets its contract.
 -- Assumes nothing.
-use mathlib.Core.Path.{refl}
-use Rattle.word_tables.proofs.Laid.{word_bytes, word_index, words_spelt}
+use Rattle.std.proofs.lemmas.Result.{err_from_is_err_and}
+use Rattle.crunch_image.proofs.Whole.{line_told}
 use Rattle.crunch_image.proofs.measured_line.Goals as goal
 
-pub line_with-requires : goal.line_with-requires
-unfolding word_bytes word_index
-line_with-requires c = words_spelt refl refl
+pub returns-in_err-pass : goal.returns-in_err-pass
+returns-in_err-pass c =
+    let p = err_from_is_err_and c.from_residual.result c.from_residual.ensures.1 in
+    rw (p.1, p.2) (line_told _ _ _ c.in_err-pass.was c.measured.ensures)
+
+pub returns : goal.returns
+returns c = line_told _ _ _ c.in_ok-pass.was c.measured.ensures

@@ -7,7 +7,7 @@ use Rattle.crunch_measure.proofs.Measuring.{MeasuredTo}
 use Rattle.crunch_measure.proofs.measure.Given as goal
 
 abbrev pub invariant-loop-at : goal.invariant-loop-at
-invariant-loop-at l = MeasuredTo l.profile (lexicon l.sets) l.load l.place l.text l.at l.k l.least l.address l.count l.found
+invariant-loop-at l = MeasuredTo l.options.profile (lexicon l.sets) l.options.load l.place l.text l.at l.k l.least l.address l.count l.found
 
 abbrev pub decreases-loop-at : goal.decreases-loop-at
 decreases-loop-at l = length l.text - l.at

@@ -16,8 +16,8 @@ slice_bounds-bound_body-end c = search body_within
 pub returns-in-Blank : goal.returns-in-Blank
 returns-in-Blank c = search bounded_blank
 
-pub returns-in-None : goal.returns-in-None
-returns-in-None c = search bounded_not
+pub returns-in-Missing : goal.returns-in-Missing
+returns-in-Missing c = search bounded_not
 
 pub returns-in-OutOfRange : goal.returns-in-OutOfRange
 returns-in-OutOfRange c = search bounded_not

@@ -17,8 +17,8 @@ bounds-out-2 c = simp length-set (omega arith)
 pub bounds-out-3 : goal.bounds-out-3
 bounds-out-3 c = simp length-set (omega arith)
 
-pub bounds-out-end : goal.bounds-out-end
-bounds-out-end c = simp length-set (omega arith)
+pub bounds-out-length : goal.bounds-out-length
+bounds-out-length c = simp length-set (omega arith)
 
 pub shape_of-out : goal.shape_of-out
 shape_of-out c = simp length-set

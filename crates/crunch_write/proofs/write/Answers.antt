@@ -26,20 +26,20 @@ slice_bounds-write_line-count c = search written_within
 pub slice_bounds-write_line-start : goal.slice_bounds-write_line-start
 slice_bounds-write_line-start c = search written_within
 
-pub slice_bounds-write_line-count-in-loop-at : goal.slice_bounds-write_line-count-in-loop-at
-slice_bounds-write_line-count-in-loop-at c = search line_up
+pub slice_bounds-line-count : goal.slice_bounds-line-count
+slice_bounds-line-count c = search line_up
 
-pub slice_bounds-write_line-start-in-loop-at : goal.slice_bounds-write_line-start-in-loop-at
-slice_bounds-write_line-start-in-loop-at c = search line_up
+pub slice_bounds-line-start : goal.slice_bounds-line-start
+slice_bounds-line-start c = search line_up
 
-pub slice_bounds-write_line-end-in-loop-at : goal.slice_bounds-write_line-end-in-loop-at
-slice_bounds-write_line-end-in-loop-at c = search line_high
+pub slice_bounds-line-end : goal.slice_bounds-line-end
+slice_bounds-line-end c = search line_high
 
-pub write_line-n-requires : goal.write_line-n-requires
-write_line-n-requires c = (c.requires.0, written_high c.loop-at.invariant, written_room c.loop-at.invariant c.next_line-line.ensures c.loop-at-test.true)
+pub write_line-to-requires : goal.write_line-to-requires
+write_line-to-requires c = (written_high c.loop-at.invariant, written_room c.loop-at.invariant c.next_line-next.ensures c.loop-at-test.true)
 
 pub overflow_add-to : goal.overflow_add-to
-overflow_add-to c = let out-fits : Fits w64 (length c.args.out.now) = record { fits = omega arith } in written_fits c.loop-at.invariant c.next_line-line.ensures c.loop-at-test.true c.write_line-n.ensures
+overflow_add-to c = let out-fits : Fits w64 (length c.args.out.now) = record { fits = omega arith } in written_fits c.loop-at.invariant c.next_line-next.ensures c.loop-at-test.true c.write_line-to.ensures
     c.put_two-to.ensures out-fits
 
 pub loop-at-smaller : goal.loop-at-smaller

@@ -1,14 +1,8 @@
 -- `digest_sha256::copied` meets its contract.
 -- Assumes nothing.
-use Rattle.std.proofs.Common.{rules}
-use Rattle.digest_sha256.proofs.Copies.{copied_none, copied_more, copied_all}
+use Rattle.std.proofs.Common.{refl, arith}
+use Rattle.std.proofs.lemmas.Slice.{put_mid-paste}
 use Rattle.digest_sha256.proofs.copied.Goals as goal
 
-pub loop-i-init : goal.loop-i-init
-loop-i-init c = copied_none _ _ _ c.requires (search rules)
-
-pub loop-i-preserved : goal.loop-i-preserved
-loop-i-preserved c = search copied_more
-
 pub returns : goal.returns
-returns c = search copied_all
+returns c = put_mid-paste _ _ _ _ _ _ c.copy_from_slice.ensures.after (omega arith) refl

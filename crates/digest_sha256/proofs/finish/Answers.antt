@@ -4,9 +4,6 @@ use Rattle.std.proofs.Common.{arith, length-take}
 use Rattle.digest_sha256.proofs.Pieces.{finished}
 use Rattle.digest_sha256.proofs.finish.Goals as goal
 
-pub slice_bounds-bytes-end : goal.slice_bounds-bytes-end
-slice_bounds-bytes-end c = omega arith
-
 pub slice_bounds-add-end : goal.slice_bounds-add-end
 slice_bounds-add-end c = simp length-take (omega arith)
 

@@ -5,4 +5,4 @@ use Rattle.digest_sha256.proofs.Pieces.{kept_holds}
 use Rattle.digest_sha256.proofs.kept.Goals as goal
 
 pub returns : goal.returns
-returns c = λ m g. kept_holds g (search rules) _ refl c.copied.ensures c.wrapping_add_u64-length.ensures.value c.requires
+returns c = λ m g. kept_holds g (search rules) _ refl c.copied.ensures refl c.requires

@@ -6,5 +6,5 @@ use Rattle.editor_strange_bytes.proofs.is_curly_quote.Goals as goal
 pub returns-then-begins : goal.returns-then-begins
 returns-then-begins c = search quote_third
 
-pub returns : goal.returns
-returns c = search quote_single
+pub returns-else-begins : goal.returns-else-begins
+returns-else-begins c = search quote_single

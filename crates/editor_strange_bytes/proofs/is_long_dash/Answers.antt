@@ -6,5 +6,5 @@ use Rattle.editor_strange_bytes.proofs.is_long_dash.Goals as goal
 pub returns-then-begins : goal.returns-then-begins
 returns-then-begins c = search dash_third
 
-pub returns : goal.returns
-returns c = search dash_none
+pub returns-else-begins : goal.returns-else-begins
+returns-else-begins c = search dash_none

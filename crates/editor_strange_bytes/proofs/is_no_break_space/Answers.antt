@@ -6,5 +6,5 @@ use Rattle.editor_strange_bytes.proofs.is_no_break_space.Goals as goal
 pub returns-then-begins : goal.returns-then-begins
 returns-then-begins c = search space_wide
 
-pub returns : goal.returns
-returns c = search space_single
+pub returns-else-begins : goal.returns-else-begins
+returns-else-begins c = search space_single

@@ -6,5 +6,5 @@ use Rattle.editor_strange_bytes.proofs.is_utf16.Goals as goal
 pub returns-then-begins : goal.returns-then-begins
 returns-then-begins c = search utf16_low
 
-pub returns : goal.returns
-returns c = search utf16_high
+pub returns-else-begins : goal.returns-else-begins
+returns-else-begins c = search utf16_high

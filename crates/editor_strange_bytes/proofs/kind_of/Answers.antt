@@ -20,7 +20,7 @@ returns-then-width-gt1 c =
     kind_character c.args.text.now c.if-width-gt1.true c.width.ensures c.if-is_long_dash.false c.is_long_dash.ensures c.if-is_no_break_space.false c.is_no_break_space.ensures
     c.if-is_curly_quote.false c.is_curly_quote.ensures c.if-begins.false c.begins.ensures
 
-pub returns : goal.returns
-returns c =
+pub returns-else-width-gt1 : goal.returns-else-width-gt1
+returns-else-width-gt1 c =
     kind_byte c.args.text.now c.if-width-gt1.false c.width.ensures c.if-is_long_dash.false c.is_long_dash.ensures c.if-is_no_break_space.false c.is_no_break_space.ensures
     c.if-is_curly_quote.false c.is_curly_quote.ensures c.if-begins.false c.begins.ensures

@@ -9,5 +9,5 @@ overflow_add-result c = search asked_fits
 pub returns-then-asked-inner_behind : goal.returns-then-asked-inner_behind
 returns-then-asked-inner_behind c = search width_more
 
-pub returns : goal.returns
-returns c = search width_one
+pub returns-else-asked-inner_behind : goal.returns-else-asked-inner_behind
+returns-else-asked-inner_behind c = search width_one

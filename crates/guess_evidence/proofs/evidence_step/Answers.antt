@@ -6,5 +6,5 @@ use Rattle.guess_evidence.proofs.evidence_step.Goals as goal
 pub returns-then-is_plain : goal.returns-then-is_plain
 returns-then-is_plain c = search step_plain
 
-pub returns : goal.returns
-returns c = search step_aside
+pub returns-else-is_plain : goal.returns-else-is_plain
+returns-else-is_plain c = search step_aside

@@ -12,5 +12,5 @@ returns-then-begins_data c = search letter_data
 pub returns-then-word_proves : goal.returns-then-word_proves
 returns-then-word_proves c = search letter_proved
 
-pub returns : goal.returns
-returns c = search letter_on
+pub returns-else-word_proves : goal.returns-else-word_proves
+returns-else-word_proves c = search letter_on

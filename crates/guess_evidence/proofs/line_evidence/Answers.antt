@@ -1,10 +1,7 @@
 -- `guess_evidence::line_evidence` meets its contract.
 -- Assumes nothing.
-use Rattle.guess_evidence.proofs.Steps.{evidence_somewhere, evidence_nowhere}
+use Rattle.guess_evidence.proofs.Steps.{evidence_told}
 use Rattle.guess_evidence.proofs.line_evidence.Goals as goal
 
-pub returns-in-Some : goal.returns-in-Some
-returns-in-Some c = search evidence_somewhere
-
-pub returns-in-None : goal.returns-in-None
-returns-in-None c = search evidence_nowhere
+pub returns : goal.returns
+returns c = search evidence_told

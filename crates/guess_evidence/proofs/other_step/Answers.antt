@@ -12,5 +12,5 @@ returns-then-b-eq58 c = search other_colon
 pub returns-then-is_kind : goal.returns-then-is_kind
 returns-then-is_kind c = search (other_white, c.if-b-eq34.false, c.if-b-eq58.false)
 
-pub returns : goal.returns
-returns c = search (other_on, c.if-b-eq34.false, c.if-b-eq58.false)
+pub returns-else-is_kind : goal.returns-else-is_kind
+returns-else-is_kind c = search (other_on, c.if-b-eq34.false, c.if-b-eq58.false)

@@ -1,19 +1,19 @@
 -- `guess_variables::after_dim` meets its contract.
 -- Assumes nothing.
-use Rattle.guess_variables.proofs.Passes.{dim_early, dim_short, dim_told, prefix_long, solid_within}
+use mathlib.Core.Path.{◌∙◌}
+use Rattle.guess_variables.proofs.Passes.{dim_first, dim_less, dim_told, solid_within}
 use Rattle.guess_variables.proofs.after_dim.Goals as goal
+use Rattle.guess_variables.proofs.after_dim.Goals.{then-i-ge4, else-i-ge4}
 
-pub returns-then-i-lt4 : goal.returns-then-i-lt4
-returns-then-i-lt4 c = search dim_early
+pub slice_bounds-begins-end-then-end-ge3 : goal.slice_bounds-begins-end-then-end-ge3
+slice_bounds-begins-end-then-end-ge3 c = search solid_within
 
-pub slice_bounds-solid-end : goal.slice_bounds-solid-end
-slice_bounds-solid-end c = search prefix_long
+pub returns-then-end-ge3 : goal.returns-then-end-ge3
+returns-then-end-ge3 c = search dim_told
 
-pub returns-then-e-lt3 : goal.returns-then-e-lt3
-returns-then-e-lt3 c = search dim_short
-
-pub slice_bounds-begins-end-2 : goal.slice_bounds-begins-end-2
-slice_bounds-begins-end-2 c = search solid_within
-
-pub returns : goal.returns
-returns c = search dim_told
+pub returns-else-end-ge3 : goal.returns-else-end-ge3
+returns-else-end-ge3 c =
+    elim c.if-i-ge4.branch [
+      | then-i-ge4 w ↦ w.t-8-is ∙ dim_less _ _ c.solid-end.ensures w.if-i-ge4.true c.requires c.if-end-ge3.either
+      | else-i-ge4 w ↦ w.t-8-is ∙ dim_first _ _ w.if-i-ge4.false c.requires
+    ]

@@ -10,5 +10,5 @@ assigns-requires c = search marks_rest
 pub returns-then-assigns : goal.returns-then-assigns
 returns-then-assigns c = search name_assigned
 
-pub returns : goal.returns
-returns c = search name_dim
+pub returns-else-assigns : goal.returns-else-assigns
+returns-else-assigns c = search name_dim

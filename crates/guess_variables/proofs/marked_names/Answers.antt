@@ -28,8 +28,8 @@ loop-i-smaller-in-On c = search (stretch_less, behind_some, behind_within)
 pub loop-i-preserved-in-On : goal.loop-i-preserved-in-On
 loop-i-preserved-in-On c = search passing_stretch
 
-pub bounds-found-word : goal.bounds-found-word
-bounds-found-word c = search name_place
+pub bounds-found-index : goal.bounds-found-index
+bounds-found-index c = search name_place
 
 pub overflow_add-i-in-Name : goal.overflow_add-i-in-Name
 overflow_add-i-in-Name c = search name_fits

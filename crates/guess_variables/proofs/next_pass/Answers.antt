@@ -6,5 +6,5 @@ use Rattle.guess_variables.proofs.next_pass.Goals as goal
 pub returns-then-is_plain : goal.returns-then-is_plain
 returns-then-is_plain c = search pass_plain
 
-pub returns : goal.returns
-returns c = search pass_aside
+pub returns-else-is_plain : goal.returns-else-is_plain
+returns-else-is_plain c = search pass_aside

@@ -10,5 +10,5 @@ letter_pass-requires c = search letter_told
 pub returns-then-b-eq34 : goal.returns-then-b-eq34
 returns-then-b-eq34 c = search pass_quote
 
-pub returns : goal.returns
-returns c = search (pass_other, c.if-b-eq34.false)
+pub returns-else-b-eq34 : goal.returns-else-b-eq34
+returns-else-b-eq34 c = search (pass_other, c.if-b-eq34.false)

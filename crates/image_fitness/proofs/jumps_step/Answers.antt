@@ -13,8 +13,8 @@ slice_bounds-unmet_jump-start c = search line_runs
 pub slice_bounds-unmet_jump-end : goal.slice_bounds-unmet_jump-end
 slice_bounds-unmet_jump-end c = search line_within
 
-pub returns-in-Jump : goal.returns-in-Jump
-returns-in-Jump c = search jumps_told
+pub returns-in-Some : goal.returns-in-Some
+returns-in-Some c = search jumps_told
 
 pub returns-in-None : goal.returns-in-None
 returns-in-None c = search jumps_on_lem

@@ -3,8 +3,8 @@
 use Rattle.image_fitness.proofs.Moving.{led_fault, led_on}
 use Rattle.image_fitness.proofs.lead.Goals as goal
 
-pub returns-in-Fault : goal.returns-in-Fault
-returns-in-Fault c = search led_fault
+pub returns-in-Some : goal.returns-in-Some
+returns-in-Some c = search led_fault
 
-pub returns-in-Nothing : goal.returns-in-Nothing
-returns-in-Nothing c = search led_on
+pub returns-in-None : goal.returns-in-None
+returns-in-None c = search led_on

@@ -2,24 +2,23 @@
 -- Assumes nothing.
 use Rattle.image_index.proofs.Counting.{counting_start, counting_high, counting_turn, counting_past, counting_less, counting_end}
 use Rattle.image_index.proofs.count_body.Goals as goal
+use Rattle.image_index.proofs.count_body.Goals.{then-not-has_mark, else-not-has_mark}
 
-pub loop-target-init : goal.loop-target-init
-loop-target-init c = search counting_start
+pub loop-jump-init : goal.loop-jump-init
+loop-jump-init c = search counting_start
 
-pub returns-then-target-gt65535 : goal.returns-then-target-gt65535
-returns-then-target-gt65535 c = search counting_high
+pub returns-then-jump-gt65535 : goal.returns-then-jump-gt65535
+returns-then-jump-gt65535 c = search counting_high
 
-pub loop-target-smaller-then-not-has_mark : goal.loop-target-smaller-then-not-has_mark
-loop-target-smaller-then-not-has_mark c = search counting_less
+pub loop-jump-smaller : goal.loop-jump-smaller
+loop-jump-smaller c = search counting_less
 
-pub loop-target-preserved-then-not-has_mark : goal.loop-target-preserved-then-not-has_mark
-loop-target-preserved-then-not-has_mark c = search counting_turn
+pub loop-jump-preserved : goal.loop-jump-preserved
+loop-jump-preserved c =
+    elim c.if-not-has_mark.branch [
+      | then-not-has_mark w ↦ rw w.n-is (search counting_turn)
+      | else-not-has_mark w ↦ rw w.n-is (search counting_past)
+    ]
 
-pub loop-target-smaller : goal.loop-target-smaller
-loop-target-smaller c = search counting_less
-
-pub loop-target-preserved : goal.loop-target-preserved
-loop-target-preserved c = search counting_past
-
-pub returns-in-None : goal.returns-in-None
-returns-in-None c = search counting_end
+pub returns : goal.returns
+returns c = search counting_end

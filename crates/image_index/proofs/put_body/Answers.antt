@@ -4,20 +4,20 @@ use Rattle.base_bits.proofs.Pens.{drawn_same}
 use Rattle.image_index.proofs.Putting.{body_start, body_ready, body_turn, body_less, body_end_lem}
 use Rattle.image_index.proofs.put_body.Goals as goal
 
-pub loop-target-init : goal.loop-target-init
-loop-target-init c = search body_start
+pub loop-jump-init : goal.loop-jump-init
+loop-jump-init c = search body_start
 
 pub put_jump-pen-requires : goal.put_jump-pen-requires
 put_jump-pen-requires c = search body_ready
 
-pub loop-target-smaller : goal.loop-target-smaller
-loop-target-smaller c = search body_less
+pub loop-jump-smaller : goal.loop-jump-smaller
+loop-jump-smaller c = search body_less
 
-pub loop-target-preserved : goal.loop-target-preserved
-loop-target-preserved c = search body_turn
+pub loop-jump-preserved : goal.loop-jump-preserved
+loop-jump-preserved c = search body_turn
 
-pub returns-in-None : goal.returns-in-None
-returns-in-None c = search body_end_lem
+pub returns : goal.returns
+returns c = search body_end_lem
 
-pub shape_of-out-in-None : goal.shape_of-out-in-None
-shape_of-out-in-None c = drawn_same _ _ _ (returns-in-None c)
+pub shape_of-out : goal.shape_of-out
+shape_of-out c = drawn_same _ _ _ (returns c)

@@ -11,8 +11,8 @@ returns-then-has_mark c = search left_drawn
 pub put_pair-requires : goal.put_pair-requires
 put_pair-requires c = search (kept_ready, rules)
 
-pub returns : goal.returns
-returns c = search kept_drawn
+pub returns-else-has_mark : goal.returns-else-has_mark
+returns-else-has_mark c = search kept_drawn
 
 pub shape_of-out : goal.shape_of-out
-shape_of-out c = drawn_same _ _ _ (returns c)
+shape_of-out c = drawn_same _ _ _ (returns-else-has_mark c)

@@ -3,12 +3,14 @@
 use native.Mathlib.Omega.{arith}
 use Rattle.image_index_entries.proofs.Reading.{entry_none, line_beyond, line_there}
 use Rattle.image_index_entries.proofs.line_at.Goals as goal
+use Rattle.image_index_entries.proofs.line_at.Goals.{then-place-eq0-via-then-place-eq0, then-place-eq0-via-else-place-eq0+then-place-lines_held}
 
 pub returns-then-place-eq0 : goal.returns-then-place-eq0
-returns-then-place-eq0 c = search entry_none
-
-pub returns-then-place-lines_held : goal.returns-then-place-lines_held
-returns-then-place-lines_held c = search line_beyond
+returns-then-place-eq0 c =
+    elim c.then-place-eq0.branch [
+      | then-place-eq0-via-then-place-eq0 w ↦ search entry_none
+      | then-place-eq0-via-else-place-eq0+then-place-lines_held w ↦ search line_beyond
+    ]
 
 pub overflow_mul-place : goal.overflow_mul-place
 overflow_mul-place c = omega arith

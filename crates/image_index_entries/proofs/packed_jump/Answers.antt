@@ -3,12 +3,14 @@
 use native.Mathlib.Omega.{arith}
 use Rattle.image_index_entries.proofs.Reading.{entry_none, packed_beyond, packed_there}
 use Rattle.image_index_entries.proofs.packed_jump.Goals as goal
+use Rattle.image_index_entries.proofs.packed_jump.Goals.{then-place-eq0-via-then-place-eq0, then-place-eq0-via-else-place-eq0+then-place-held}
 
 pub returns-then-place-eq0 : goal.returns-then-place-eq0
-returns-then-place-eq0 c = search entry_none
-
-pub returns-then-place-held : goal.returns-then-place-held
-returns-then-place-held c = search packed_beyond
+returns-then-place-eq0 c =
+    elim c.then-place-eq0.branch [
+      | then-place-eq0-via-then-place-eq0 w ↦ search entry_none
+      | then-place-eq0-via-else-place-eq0+then-place-held w ↦ search packed_beyond
+    ]
 
 pub overflow_mul-from : goal.overflow_mul-from
 overflow_mul-from c = omega arith

@@ -6,8 +6,8 @@ use Rattle.image_jumps.proofs.next_jump.Goals as goal
 pub loop-cursor-init : goal.loop-cursor-init
 loop-cursor-init c = search onwards_start
 
-pub returns-in-Worth : goal.returns-in-Worth
-returns-in-Worth c = search next_told
+pub returns-in-Some : goal.returns-in-Some
+returns-in-Some c = search next_told
 
 pub loop-cursor-preserved : goal.loop-cursor-preserved
 loop-cursor-preserved c = search onwards_turn

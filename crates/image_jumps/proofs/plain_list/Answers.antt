@@ -1,19 +1,15 @@
 -- `image_jumps::plain_list` meets its contract.
 -- Assumes nothing.
-use Rattle.image_jumps.proofs.Opening.{opens_goto, opens_gosub, opens_then, opens_go, opens_nothing}
+use Rattle.image_jumps.proofs.Opening.{opens_at_once, opens_go, opens_nothing}
+use mathlib.Core.Path.{refl}
+use native.Mathlib.Omega.{arith}
 use Rattle.image_jumps.proofs.plain_list.Goals as goal
 
-pub returns-then-b : goal.returns-then-b
-returns-then-b c = search opens_goto
+pub returns-in-137 : goal.returns-in-137
+returns-in-137 c = opens_at_once _ _ c.requires refl c.in-137.is
 
-pub returns-then-b-2 : goal.returns-then-b-2
-returns-then-b-2 c = search opens_gosub
+pub returns-in-203 : goal.returns-in-203
+returns-in-203 c = search opens_go
 
-pub returns-then-b-3 : goal.returns-then-b-3
-returns-then-b-3 c = search opens_then
-
-pub returns-then-b-4 : goal.returns-then-b-4
-returns-then-b-4 c = search opens_go
-
-pub returns : goal.returns
-returns c = search (opens_nothing, c.if-b-4.false)
+pub returns-in_default : goal.returns-in_default
+returns-in_default c = opens_nothing _ _ c.requires (grind arith) (grind arith) (grind arith) (grind arith)

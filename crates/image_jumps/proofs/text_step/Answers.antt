@@ -8,8 +8,8 @@ use Rattle.image_jumps.proofs.text_step.Goals as goal
 pub unit_step-requires : goal.unit_step-requires
 unit_step-requires c = search (opens_told, rules)
 
-pub returns-in-List : goal.returns-in-List
-returns-in-List c = search (text_list, begins_told)
+pub returns-in-Some : goal.returns-in-Some
+returns-in-Some c = search (text_list, begins_told)
 
-pub returns-in-Nothing : goal.returns-in-Nothing
-returns-in-Nothing c = search text_unit
+pub returns-in-None : goal.returns-in-None
+returns-in-None c = search text_unit

@@ -1,14 +1,7 @@
 -- `image_jumps::with_digit` meets its contract.
 -- Assumes nothing.
-use Rattle.image_jumps.proofs.Stepping.{digit_first, digit_cut, digit_more}
-use borrow.Author.Rules.{rules}
+use Rattle.image_jumps.proofs.Stepping.{digit_more}
 use Rattle.image_jumps.proofs.with_digit.Goals as goal
 
-pub returns-then-value-gt6553 : goal.returns-then-value-gt6553
-returns-then-value-gt6553 c = search digit_cut
-
-pub returns-in-Empty : goal.returns-in-Empty
-returns-in-Empty c = search (digit_first, rules)
-
-pub returns-else-value-gt6553 : goal.returns-else-value-gt6553
-returns-else-value-gt6553 c = search digit_more
+pub returns : goal.returns
+returns c = digit_more c.args.part c.args.digit c.ranges.digit.fits c.unwrap_or.ensures c.saturating_mul-tens.ensures (rw c.from.ensures at c.saturating_add.ensures) c.cut.ensures

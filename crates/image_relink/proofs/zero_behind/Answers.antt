@@ -3,8 +3,8 @@
 use Rattle.image_relink.proofs.Following.{known_within, ahead_start, ahead_outside, ahead_found, ahead_turn, ahead_end}
 use Rattle.image_relink.proofs.zero_behind.Goals as goal
 
-pub loop-left-init : goal.loop-left-init
-loop-left-init c = search ahead_start
+pub loop-i-init : goal.loop-i-init
+loop-i-init c = search ahead_start
 
 pub returns-then-not-is_in_memory : goal.returns-then-not-is_in_memory
 returns-then-not-is_in_memory c = search ahead_outside
@@ -15,8 +15,8 @@ bounds-image-at c = search known_within
 pub returns-then-image-at-eq0 : goal.returns-then-image-at-eq0
 returns-then-image-at-eq0 c = search ahead_found
 
-pub loop-left-preserved : goal.loop-left-preserved
-loop-left-preserved c = search (ahead_turn, c.loop-left.invariant, c.if-image-at-eq0.false)
+pub loop-i-preserved : goal.loop-i-preserved
+loop-i-preserved c = search (ahead_turn, c.loop-i.invariant, c.if-image-at-eq0.false)
 
 pub returns : goal.returns
 returns c = search ahead_end

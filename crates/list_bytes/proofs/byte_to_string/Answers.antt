@@ -1,25 +1,34 @@
--- `list_bytes::byte_to_string` meets its contract: the tests that were passed say which case of the definition holds.
+-- `list_bytes::byte_to_string` meets its contract: the arm that was taken says which case of the definition holds.
 -- Assumes nothing.
-use Rattle.list_bytes.proofs.ByteTexts.{byte_null, byte_return, byte_char, byte_line, byte_shifted, shifted_above, byte_hex}
+use Rattle.std.proofs.Common.{◌≡◌, ◌/◌, ◌%◌, arith}
+use Rattle.std.proofs.lemmas.Bool.Decides.{nat_tests}
+use Rattle.base_ascii.specs.Bytes.{between}
+use Rattle.list_bytes.specs.ByteTexts.{byte_text, hex_byte}
 use Rattle.list_bytes.proofs.byte_to_string.Goals as goal
 
-pub returns-then-b-eq0 : goal.returns-then-b-eq0
-returns-then-b-eq0 c = search byte_null
+pub returns-in-0 : goal.returns-in-0
+unfolding byte_text between
+returns-in-0 c = rw c.in-0.is
 
-pub returns-then-b-eq13 : goal.returns-then-b-eq13
-returns-then-b-eq13 c = search byte_return
+pub returns-in-13 : goal.returns-in-13
+unfolding byte_text between
+returns-in-13 c = grind (arith, nat_tests)
 
-pub returns-then-between : goal.returns-then-between
-returns-then-between c = search byte_char
+pub returns-in-96 : goal.returns-in-96
+unfolding byte_text between
+returns-in-96 c = rw c.in-96.is
 
-pub returns-then-b-eq96 : goal.returns-then-b-eq96
-returns-then-b-eq96 c = search byte_line
+pub returns-in-32-to-95 : goal.returns-in-32-to-95
+unfolding byte_text between
+returns-in-32-to-95 c = grind (arith, nat_tests)
 
-pub overflow_sub-b : goal.overflow_sub-b
-overflow_sub-b c = search shifted_above
+pub returns-in-193-to-218 : goal.returns-in-193-to-218
+unfolding byte_text between
+returns-in-193-to-218 c = grind (arith, nat_tests)
 
-pub returns-then-between-2 : goal.returns-then-between-2
-returns-then-between-2 c = search byte_shifted
-
-pub returns : goal.returns
-returns c = search (byte_hex, c.if-b-eq0.false, c.if-b-eq13.false, c.if-b-eq96.false)
+pub returns-in_default : goal.returns-in_default
+unfolding byte_text between hex_byte
+returns-in_default c =
+    let d : c.args.b / 16 % 16 ≡ c.args.b / 16 = omega (arith, c.ranges.b.fits) in
+    let f : c.args.b % 16 % 16 ≡ c.args.b % 16 = omega arith in
+    rw (c.hex_digit-high.ensures, c.hex_digit-low.ensures, d, f) (grind (arith, nat_tests))

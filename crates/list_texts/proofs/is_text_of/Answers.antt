@@ -1,16 +1,15 @@
--- `list_texts::is_text_of` meets its contract: the stored words are the words, by the test over all of them.
+-- `list_texts::is_text_of` meets its contract: of CC to FE the text is the digits, of any other byte its word.
 -- Assumes nothing.
-use mathlib.Core.Path.{refl}
-use Rattle.list_texts.proofs.TextTable.{text_bytes, text_starts, texts_spelt}
-use Rattle.list_texts.proofs.Made.{same_digits, same_word}
+use Rattle.std.proofs.Common.{arith}
+use Rattle.std.proofs.lemmas.Bool.Decides.{nat_tests}
+use Rattle.base_ascii.specs.Bytes.{between}
+use Rattle.list_texts.specs.TextsHelpers.{listed_word}
+use Rattle.list_texts.proofs.Made.{digits_text}
 use Rattle.list_texts.proofs.is_text_of.Goals as goal
 
-pub returns-then-between : goal.returns-then-between
-returns-then-between c = search same_digits
+pub returns-in-204-to-254 : goal.returns-in-204-to-254
+returns-in-204-to-254 c = grind (arith, digits_text)
 
-pub word_at-requires : goal.word_at-requires
-unfolding text_bytes text_starts
-word_at-requires c = texts_spelt refl refl
-
-pub returns : goal.returns
-returns c = search same_word
+pub returns-in_default : goal.returns-in_default
+unfolding listed_word between
+returns-in_default c = grind (arith, nat_tests)

@@ -1,13 +1,18 @@
 -- `list_texts::word35_at` meets its contract: the words of BASIC 3.5 stand behind the texts of the 256 bytes.
 -- Assumes nothing.
-use Rattle.list_texts.proofs.TextTable.{word35_other, word35_lies, word35_own}
+use Rattle.std.proofs.Common.{arith}
+use Rattle.std.proofs.lemmas.Bool.Decides.{nat_tests}
+use Rattle.base_ascii.specs.Bytes.{between}
+use Rattle.list_texts.specs.TextsHelpers.{listed_word35}
+use Rattle.list_texts.proofs.TextTable.{word35_own}
 use Rattle.list_texts.proofs.word35_at.Goals as goal
 
-pub returns-then-not-between : goal.returns-then-not-between
-returns-then-not-between c = search word35_other
+pub word_at-requires : goal.word_at-requires
+word_at-requires c = c.args.texts.spelt.lies _ (omega arith)
 
-pub word_at-requires-2 : goal.word_at-requires-2
-word_at-requires-2 c = search word35_lies
+pub returns-in-204-to-253 : goal.returns-in-204-to-253
+returns-in-204-to-253 c = word35_own c.args.k c.args.texts.spelt (omega arith) (omega arith) c.from.ensures c.word_at.ensures
 
-pub returns : goal.returns
-returns c = search word35_own
+pub returns-in_default : goal.returns-in_default
+unfolding listed_word35 between
+returns-in_default c = grind (arith, nat_tests)

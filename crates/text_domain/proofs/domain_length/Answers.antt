@@ -9,8 +9,8 @@ loop-i-init c = search domain_low
 pub loop-i-preserved-then-text-i-lt128 : goal.loop-i-preserved-then-text-i-lt128
 loop-i-preserved-then-text-i-lt128 c = search domain_byte
 
-pub returns-then-not-is_pi : goal.returns-then-not-is_pi
-returns-then-not-is_pi c = search domain_stop
+pub returns-else-is_pi : goal.returns-else-is_pi
+returns-else-is_pi c = search domain_stop
 
 pub loop-i-preserved : goal.loop-i-preserved
 loop-i-preserved c = search domain_pi

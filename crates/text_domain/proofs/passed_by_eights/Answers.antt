@@ -11,4 +11,4 @@ pub overflow_sub-text : goal.overflow_sub-text
 overflow_sub-text c = search low_within
 
 pub loop-i-preserved : goal.loop-i-preserved
-loop-i-preserved c = search low_sixteen
+loop-i-preserved c = low_sixteen c.if-max-ge128.false c.max.ensures c.top_of_eight.ensures c.top_of_eight-in-loop-i.ensures c.loop-i-test.true c.loop-i.invariant

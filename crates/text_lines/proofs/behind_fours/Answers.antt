@@ -7,9 +7,6 @@ use Rattle.text_lines.proofs.behind_fours.Goals as goal
 pub returns-then-text-from : goal.returns-then-text-from
 returns-then-text-from c = search above_none
 
-pub returns-then-text-from-le13 : goal.returns-then-text-from-le13
-returns-then-text-from-le13 c = search above_none
-
 pub loop-i-init : goal.loop-i-init
 loop-i-init c = search (rules, above_first)
 

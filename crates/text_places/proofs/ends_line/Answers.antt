@@ -1,16 +1,16 @@
 -- `text_places::ends_line` meets its contract.
 -- Assumes nothing.
-use Rattle.text_places.proofs.Placing.{ends_lf, ends_other, ends_last, ends_next}
+use mathlib.Core.Path.{ap, ◌∙◌}
+use mathlib.Core.Bool.{not}
+use borrow.Author.Tests.{eq-eqb, ne_eqb}
+use Rattle.text_places.proofs.Placing.{ends_lf, ends_other, ends_next, begins_lf}
 use Rattle.text_places.proofs.ends_line.Goals as goal
 
 pub returns-then-b-eq10 : goal.returns-then-b-eq10
-returns-then-b-eq10 c = search ends_lf
+returns-then-b-eq10 c = eq-eqb _ _ c.if-b-eq10.true ∙ ends_lf _ c.if-b-eq10.true
 
-pub returns-then-b-ne13 : goal.returns-then-b-ne13
-returns-then-b-ne13 c = search (ends_other, c.if-b-ne13.true, c.if-b-eq10.false)
+pub returns-then-b-eq13 : goal.returns-then-b-eq13
+returns-then-b-eq13 c = ap not (c.starts_with.ensures.value ∙ begins_lf c.args.rest.now) ∙ ends_next _ c.if-b-eq10.false c.if-b-eq13.true
 
-pub returns-then-rest-eq0 : goal.returns-then-rest-eq0
-returns-then-rest-eq0 c = search (ends_last, c.if-b-eq10.false)
-
-pub returns : goal.returns
-returns c = search (ends_next, c.if-b-eq10.false)
+pub returns-else-b-eq13 : goal.returns-else-b-eq13
+returns-else-b-eq13 c = ne_eqb _ _ c.if-b-eq13.false ∙ ends_other _ c.if-b-eq10.false c.if-b-eq13.false

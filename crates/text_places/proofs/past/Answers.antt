@@ -9,5 +9,5 @@ returns-then-ends_line c = search past_end_lem
 pub returns-then-b-eq128 : goal.returns-then-b-eq128
 returns-then-b-eq128 c = search past_pi
 
-pub returns : goal.returns
-returns c = search (past_one, c.if-b-eq128.false)
+pub returns-else-b-eq128 : goal.returns-else-b-eq128
+returns-else-b-eq128 c = search (past_one, c.if-b-eq128.false)

@@ -21,4 +21,4 @@ unfolding by_number
 returns-in-3 c = cc
 
 pub returns-in_default : goal.returns-in_default
-returns-in_default c = by_other _ c.in_default.in_default-own.rest.0.0.0.1 c.in_default.in_default-own.rest.0.0.1 c.in_default.in_default-own.rest.0.1 c.in_default.in_default-own.rest.1
+returns-in_default c = search by_other

@@ -9,8 +9,8 @@ first_passing-i-requires c = search match_stored
 pub word_found-requires : goal.word_found-requires
 word_found-requires c = search match_held
 
-pub returns-then-i-to : goal.returns-then-i-to
-returns-then-i-to c = search match_found
+pub returns-then-i-group : goal.returns-then-i-group
+returns-then-i-group c = search match_found
 
-pub returns : goal.returns
-returns c = search match_none
+pub returns-else-i-group : goal.returns-else-i-group
+returns-else-i-group c = search match_none

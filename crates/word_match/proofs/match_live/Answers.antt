@@ -1,14 +1,11 @@
 -- `word_match::match_live` meets its contract: the loop goes from one word that the text begins with to the next.
 -- Assumes nothing.
 use Rattle.word_match.proofs.Storage.{match_stored}
-use Rattle.word_match.proofs.Living.{live_dead, living_start, living_turn, living_demoted, living_less, living_stored, living_placed, living_place, living_next, first_held, living_word, living_none, index_long_lem}
+use Rattle.word_match.proofs.Living.{live_dead, living_start, living_turn, living_demoted, living_less, living_stored, living_placed, living_place, living_next, first_held, living_word, living_none}
 use Rattle.word_match.proofs.match_live.Goals as goal
 
 pub returns-then-not-sets : goal.returns-then-not-sets
 returns-then-not-sets c = search live_dead
-
-pub group_of-group-requires : goal.group_of-group-requires
-group_of-group-requires c = search index_long_lem
 
 pub first_passing-first-requires : goal.first_passing-first-requires
 first_passing-first-requires c = search match_stored
@@ -43,5 +40,5 @@ word_found-requires c = search first_held
 pub returns-then-first-to : goal.returns-then-first-to
 returns-then-first-to c = search living_word
 
-pub returns : goal.returns
-returns c = search living_none
+pub returns-else-first-to : goal.returns-else-first-to
+returns-else-first-to c = search living_none

@@ -5,7 +5,7 @@ use Rattle.word_match.proofs.Living.{Living}
 use Rattle.word_match.proofs.match_live.Given as goal
 
 abbrev pub invariant-loop-i : goal.invariant-loop-i
-invariant-loop-i l = Living l.sets l.text l.bytes l.index l.i
+invariant-loop-i l = Living l.sets l.text l.words.bytes.now l.words.index.now l.i
 
 abbrev pub decreases-loop-i : goal.decreases-loop-i
 decreases-loop-i l = l.to - l.i

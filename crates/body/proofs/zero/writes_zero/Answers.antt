@@ -3,8 +3,8 @@
 use Rattle.body.proofs.Zeros.{writes_none, writes_some}
 use Rattle.body.proofs.zero.writes_zero.Goals as goal
 
-pub returns-then-m-eq0 : goal.returns-then-m-eq0
-returns-then-m-eq0 c = search writes_none
+pub returns-then-m-gt0 : goal.returns-then-m-gt0
+returns-then-m-gt0 c = search writes_some
 
-pub returns : goal.returns
-returns c = search (writes_some, c.if-m-eq0.false)
+pub returns-else-m-gt0 : goal.returns-else-m-gt0
+returns-else-m-gt0 c = search writes_none

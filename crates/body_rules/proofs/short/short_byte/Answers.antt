@@ -1,7 +1,7 @@
 -- `body_rules::short::short_byte` meets its contract.
 -- Assumes nothing.
 use Rattle.body_rules.specs.ShortHelpers.{short_byte}
-use Rattle.body_rules.proofs.ShortSteps.{byte_in, known_in}
+use Rattle.body_rules.proofs.ShortSteps.{byte_in, byte_raised, known_in}
 use Rattle.body_rules.proofs.short.short_byte.Goals as goal
 
 pub plain_byte-requires : goal.plain_byte-requires
@@ -20,9 +20,4 @@ unfolding short_byte
 returns-in-Remark c = search byte_in
 
 pub returns-in-Data : goal.returns-in-Data
-unfolding short_byte
-returns-in-Data c = search byte_in
-
-pub returns-in-DataQuote : goal.returns-in-DataQuote
-unfolding short_byte
-returns-in-DataQuote c = search byte_in
+returns-in-Data c = search byte_raised

@@ -9,5 +9,5 @@ returns-in-Some c = search letter_tsb
 pub returns-in-Some-match_plain : goal.returns-in-Some-match_plain
 returns-in-Some-match_plain c = search letter_plain
 
-pub returns-in-None-match_plain : goal.returns-in-None-match_plain
-returns-in-None-match_plain c = search letter_left
+pub returns : goal.returns
+returns c = search letter_left

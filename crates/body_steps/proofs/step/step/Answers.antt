@@ -7,17 +7,17 @@ use Rattle.body_steps.proofs.step.step.Goals as goal
 pub brace_step-requires : goal.brace_step-requires
 brace_step-requires c = search reaches_brace
 
-pub returns-then-b-eq123 : goal.returns-then-b-eq123
-returns-then-b-eq123 c = search long_brace
+pub returns-in-123 : goal.returns-in-123
+returns-in-123 c = search long_brace
 
 pub from_pi-requires : goal.from_pi-requires
 from_pi-requires c = search (rest_some, rest_pi)
 
-pub returns-then-b : goal.returns-then-b
-returns-then-b c = search long_pi
+pub returns-in-207 : goal.returns-in-207
+returns-in-207 c = search long_pi
 
 pub letter_step-requires : goal.letter_step-requires
-letter_step-requires c = search (rest_some, rest_letter, c.if-b-eq123.false, c.if-b.false)
+letter_step-requires c = search (rest_some, rest_letter)
 
-pub returns : goal.returns
-returns c = search (long_letter, c.if-b-eq123.false)
+pub returns-in_default : goal.returns-in_default
+returns-in_default c = search long_letter

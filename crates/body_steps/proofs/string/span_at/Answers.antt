@@ -6,12 +6,14 @@ use mir.Val.{Fits}
 use native.Mathlib.Omega.{arith}
 use Rattle.body_steps.proofs.Braces.{found_within, found_fits, reaches_other, reaches_known, reaches_found}
 use Rattle.body_steps.proofs.string.span_at.Goals as goal
+use Rattle.body_steps.proofs.string.span_at.Goals.{then-text-at-ne123-via-then-text-at-ne123, then-text-at-ne123-via-else-text-at-ne123+then-at-known}
 
 pub returns-then-text-at-ne123 : goal.returns-then-text-at-ne123
-returns-then-text-at-ne123 c = search (reaches_other, c.if-text-at-ne123.true)
-
-pub returns-then-at-known : goal.returns-then-at-known
-returns-then-at-known c = search reaches_known
+returns-then-text-at-ne123 c =
+    elim c.then-text-at-ne123.branch [
+      | then-text-at-ne123-via-then-text-at-ne123 w ↦ search (reaches_other, w.if-text-at-ne123.true)
+      | then-text-at-ne123-via-else-text-at-ne123+then-at-known w ↦ search reaches_known
+    ]
 
 pub overflow_add-close : goal.overflow_add-close
 overflow_add-close c = let text-fits : Fits w64 (length c.args.text.now) = record { fits = omega arith } in search (found_fits, text-fits)

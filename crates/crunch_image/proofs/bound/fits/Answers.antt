@@ -8,14 +8,14 @@ use Rattle.crunch_image.proofs.bound.fits.Goals as goal
 pub loop-at-init : goal.loop-at-init
 loop-at-init c = search bound_start
 
-pub slice_bounds-bound_line-count : goal.slice_bounds-bound_line-count
-slice_bounds-bound_line-count c = search line_up
+pub slice_bounds-line-count : goal.slice_bounds-line-count
+slice_bounds-line-count c = search line_up
 
-pub slice_bounds-bound_line-start : goal.slice_bounds-bound_line-start
-slice_bounds-bound_line-start c = search line_up
+pub slice_bounds-line-start : goal.slice_bounds-line-start
+slice_bounds-line-start c = search line_up
 
-pub slice_bounds-bound_line-end : goal.slice_bounds-bound_line-end
-slice_bounds-bound_line-end c = search line_high
+pub slice_bounds-line-end : goal.slice_bounds-line-end
+slice_bounds-line-end c = search line_high
 
 pub loop-at-smaller : goal.loop-at-smaller
 loop-at-smaller c = search line_less
@@ -23,11 +23,11 @@ loop-at-smaller c = search line_less
 pub loop-at-preserved : goal.loop-at-preserved
 loop-at-preserved c = search bound_turn
 
-pub overflow_sub-address : goal.overflow_sub-address
-overflow_sub-address c = search bound_low
+pub overflow_sub-result : goal.overflow_sub-result
+overflow_sub-result c = search bound_low
 
-pub overflow_add-address : goal.overflow_add-address
-overflow_add-address c = omega (arith, bound_low)
+pub overflow_add-result : goal.overflow_add-result
+overflow_add-result c = omega (arith, bound_low)
 
 pub returns : goal.returns
 returns c = search bound_end

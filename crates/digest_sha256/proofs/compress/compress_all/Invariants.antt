@@ -1,11 +1,7 @@
 -- `digest_sha256::compress::compress_all` meets its contract.
 -- Assumes nothing.
-use Rattle.std.proofs.Common.{◌-◌}
 use Rattle.digest_sha256.proofs.Blocks.{Hashing}
 use Rattle.digest_sha256.proofs.compress.compress_all.Given as goal
 
 abbrev pub invariant-loop-i : goal.invariant-loop-i
 invariant-loop-i l = Hashing l.initial.v l.bytes l.v l.i
-
-abbrev pub decreases-loop-i : goal.decreases-loop-i
-decreases-loop-i l = l.count - l.i

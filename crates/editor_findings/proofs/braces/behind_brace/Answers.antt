@@ -9,5 +9,5 @@ returns-then-closing-quote c = search inside_closed
 pub returns-then-quote-lt64 : goal.returns-then-quote-lt64
 returns-then-quote-lt64 c = search inside_open
 
-pub returns : goal.returns
-returns c = search inside_long
+pub returns-else-quote-lt64 : goal.returns-else-quote-lt64
+returns-else-quote-lt64 c = search inside_long

@@ -1,9 +1,10 @@
--- `editor_findings::deciding::tsb_length` meets its contract: the stored words are the lists'.
+-- `editor_findings::deciding::tsb_length` meets its contract.
 -- Assumes nothing.
-use mathlib.Core.Path.{refl}
-use Rattle.word_tables.proofs.Laid.{word_bytes, word_index, words_spelt}
+use Rattle.editor_findings.proofs.Undecided.{length_found, length_none}
 use Rattle.editor_findings.proofs.deciding.tsb_length.Goals as goal
 
-pub length_with-requires : goal.length_with-requires
-unfolding word_bytes word_index
-length_with-requires c = words_spelt refl refl
+pub returns-in-Some : goal.returns-in-Some
+returns-in-Some c = search length_found
+
+pub returns-in-None : goal.returns-in-None
+returns-in-None c = search length_none

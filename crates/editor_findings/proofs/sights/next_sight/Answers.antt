@@ -24,8 +24,8 @@ told-there {l} {t} {s} {from} f p q =
     ∙ ap (λ (n : ℕ). first_sight l t (record { mode = s.mode; at = n })) p
     ∙ ap (λ (m : Mode). first_sight l t (record { mode = m; at = from.at })) q
 
-pub sight_from-told-requires : goal.sight_from-told-requires
-sight_from-told-requires c = search known-there
+pub sight_from-requires : goal.sight_from-requires
+sight_from-requires c = search known-there
 
 pub returns : goal.returns
 returns c = search told-there

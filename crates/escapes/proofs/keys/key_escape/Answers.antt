@@ -1,22 +1,22 @@
 -- `escapes::keys::key_escape` meets its contract.
 -- Assumes nothing.
-use Rattle.escapes.proofs.Marks.{key_begins_not, reach_taken, mark_taken, key_unreached, key_long, key_split}
+use Rattle.escapes.proofs.Marks.{key_begins_not, key_unreached, key_short, key_long, key_known, key_unknown}
 use Rattle.escapes.proofs.keys.key_escape.Goals as goal
 
 pub returns-then-not-begins_key : goal.returns-then-not-begins_key
 returns-then-not-begins_key c = search key_begins_not
 
-pub slice_bounds-before-end : goal.slice_bounds-before-end
-slice_bounds-before-end c = search reach_taken
-
 pub returns-then-reach-mark : goal.returns-then-reach-mark
 returns-then-reach-mark c = search key_unreached
 
-pub returns-then-argument-ne1 : goal.returns-then-argument-ne1
-returns-then-argument-ne1 c = search (key_long, c.if-argument-ne1.true)
+pub returns-in_err-key_named-in-len1 : goal.returns-in_err-key_named-in-len1
+returns-in_err-key_named-in-len1 c = search (key_unknown, c.in_err-key_named-in-len1.ensures)
 
-pub slice_bounds-prefixed-end : goal.slice_bounds-prefixed-end
-slice_bounds-prefixed-end c = search mark_taken
+pub returns-in_ok-key_named-in-len1 : goal.returns-in_ok-key_named-in-len1
+returns-in_ok-key_named-in-len1 c = search (key_known, c.in_ok-key_named-in-len1.ensures)
 
-pub returns : goal.returns
-returns c = search key_split
+pub returns-in_default : goal.returns-in_default
+returns-in_default c = search key_short
+
+pub returns-in_default-2 : goal.returns-in_default-2
+returns-in_default-2 c = search key_long

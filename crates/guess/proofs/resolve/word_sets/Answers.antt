@@ -1,10 +1,7 @@
--- `guess::resolve::word_sets` meets its contract: a law for each way out.
+-- `guess::resolve::word_sets` meets its contract.
 -- Assumes nothing.
 use Rattle.guess.proofs.Texts.{sets_guessed, sets_quiet, sets_tsb, sets_v2, sets_basic35}
 use Rattle.guess.proofs.resolve.word_sets.Goals as goal
-
-pub returns-then-text_evidence : goal.returns-then-text_evidence
-returns-then-text_evidence c = search sets_guessed
 
 pub returns-in-BasicV2 : goal.returns-in-BasicV2
 returns-in-BasicV2 c = search sets_v2
@@ -15,5 +12,8 @@ returns-in-Tsb c = search sets_tsb
 pub returns-in-Basic35 : goal.returns-in-Basic35
 returns-in-Basic35 c = search sets_basic35
 
-pub returns-else-text_evidence : goal.returns-else-text_evidence
-returns-else-text_evidence c = search sets_quiet
+pub returns-else-not-text_evidence : goal.returns-else-not-text_evidence
+returns-else-not-text_evidence c = search sets_guessed
+
+pub returns-then-not-text_evidence : goal.returns-then-not-text_evidence
+returns-then-not-text_evidence c = search sets_quiet

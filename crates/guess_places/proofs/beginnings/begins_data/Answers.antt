@@ -3,5 +3,5 @@
 use Rattle.guess_places.proofs.Words.{no_data}
 use Rattle.guess_places.proofs.beginnings.begins_data.Goals as goal
 
-pub returns-then-upper-ne68 : goal.returns-then-upper-ne68
-returns-then-upper-ne68 c = search (no_data, c.if-upper-ne68.true)
+pub returns-else-upper-eq68 : goal.returns-else-upper-eq68
+returns-else-upper-eq68 c = no_data _ c.if-upper-eq68.false c.upper.ensures c.requires

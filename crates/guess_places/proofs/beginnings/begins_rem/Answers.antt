@@ -3,5 +3,5 @@
 use Rattle.guess_places.proofs.Words.{no_rem}
 use Rattle.guess_places.proofs.beginnings.begins_rem.Goals as goal
 
-pub returns-then-upper-ne82 : goal.returns-then-upper-ne82
-returns-then-upper-ne82 c = search (no_rem, c.if-upper-ne82.true)
+pub returns-else-upper-eq82 : goal.returns-else-upper-eq82
+returns-else-upper-eq82 c = no_rem _ c.if-upper-eq82.false c.upper.ensures c.requires

@@ -1,34 +1,28 @@
--- `guess_places::place::aside` meets its contract: in each arm the place is known.
+-- `guess_places::place::aside` meets its contract.
 -- Assumes nothing.
-use Prim.Native.Nat.{ℕ}
-use mathlib.Core.Path.{◌≡◌, refl, sym, ap, ◌∙◌}
-use Rattle.guess_places.specs.Places.{aside}
-use Rattle.guess_places.specs.declared.place.Place.{Place}
-use Rattle.guess_places.proofs.Places.{behind_quoted, still_quoted, behind_quoted_data, still_quoted_data}
+use Rattle.guess_places.proofs.Places.{behind_quoted, data_quote, data_colon, behind_quoted_data, still_quoted, still_data, still_quoted_data, still_plain}
 use Rattle.guess_places.proofs.place.aside.Goals as goal
 
-by_place : {p x r : Place} (b : ℕ) → r ≡ aside x b → p ≡ x → r ≡ aside p b
-by_place b e q = e ∙ ap (λ (y : Place). aside y b) (sym q)
+pub returns-in-Quoted-eq34 : goal.returns-in-Quoted-eq34
+returns-in-Quoted-eq34 c = search behind_quoted
 
-pub returns-in-Start : goal.returns-in-Start
-unfolding aside
-returns-in-Start c = by_place _ refl c.in-Start.is
+pub returns-in-Data-eq34 : goal.returns-in-Data-eq34
+returns-in-Data-eq34 c = search data_quote
 
-pub returns-in-Within : goal.returns-in-Within
-unfolding aside
-returns-in-Within c = by_place _ refl c.in-Within.is
+pub returns-in-Data-eq58 : goal.returns-in-Data-eq58
+returns-in-Data-eq58 c = search data_colon
 
-pub returns-then-b-eq34 : goal.returns-then-b-eq34
-returns-then-b-eq34 c = behind_quoted _ c.in-Quoted.is c.if-b-eq34.true
+pub returns-in-QuotedData-eq34 : goal.returns-in-QuotedData-eq34
+returns-in-QuotedData-eq34 c = search behind_quoted_data
 
-pub returns-else-b-eq34 : goal.returns-else-b-eq34
-returns-else-b-eq34 c = still_quoted _ c.in-Quoted.is c.if-b-eq34.false
+pub returns-in_default : goal.returns-in_default
+returns-in_default c = search (still_quoted, c.in_default.is-1)
 
-pub returns-in-Data : goal.returns-in-Data
-returns-in-Data c = by_place _ c.behind_data.ensures c.in-Data.is
+pub returns-in_default-2 : goal.returns-in_default-2
+returns-in_default-2 c = search (still_data, c.in_default.is-1)
 
-pub returns-then-b-eq34-2 : goal.returns-then-b-eq34-2
-returns-then-b-eq34-2 c = behind_quoted_data _ c.in-QuotedData.is c.if-b-eq34-2.true
+pub returns-in_default-3 : goal.returns-in_default-3
+returns-in_default-3 c = search (still_quoted_data, c.in_default.is-1)
 
-pub returns-else-b-eq34-2 : goal.returns-else-b-eq34-2
-returns-else-b-eq34-2 c = still_quoted_data _ c.in-QuotedData.is c.if-b-eq34-2.false
+pub returns-in_default-4 : goal.returns-in_default-4
+returns-in_default-4 c = still_plain _ _ c.in_default.not-Quoted-0 c.in_default.not-Data-0 c.in_default.not-QuotedData-0

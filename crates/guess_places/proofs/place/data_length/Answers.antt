@@ -1,20 +1,18 @@
 -- `guess_places::place::data_length` meets its contract.
 -- Assumes nothing.
-use Rattle.base_ascii.proofs.Searching.{onward_start, front_end}
-use Rattle.guess_places.proofs.Places.{data_turn, data_end_quote, data_end_colon}
+use Rattle.std.proofs.Common.{rules, tests, ◌∙◌}
+use Rattle.std.proofs.lemmas.Iterator.{YieldsList-from_slice}
+use Rattle.std.proofs.lemmas.Iterator.Consumers.{count_from_yields_List}
+use Rattle.std.proofs.lemmas.Iterator.Search.{YieldsList-from_take_while}
+use Rattle.std.proofs.lemmas.List.Folds.{length-prefix_len}
+use Rattle.guess_places.specs.PlaceHelpers.{stays}
+use Rattle.guess_places.specs.declared.place.Place.TheVariants.{Data}
+use Rattle.base_ascii.proofs.Searching.{front_counted}
 use Rattle.guess_places.proofs.place.data_length.Goals as goal
 
-pub loop-i-init : goal.loop-i-init
-loop-i-init c = search onward_start
-
-pub returns-then-b-eq34 : goal.returns-then-b-eq34
-returns-then-b-eq34 c = search data_end_quote
-
-pub returns-then-b-eq58 : goal.returns-then-b-eq58
-returns-then-b-eq58 c = search data_end_colon
-
-pub loop-i-preserved : goal.loop-i-preserved
-loop-i-preserved c = search (data_turn, c.if-b-eq34.false, c.if-b-eq58.false)
-
 pub returns : goal.returns
-returns c = search front_end
+unfolding stays
+returns c =
+    count_from_yields_List c.take_while.result _ c.count.ensures.ran
+    (YieldsList-from_take_while _ (stays Data) (YieldsList-from_slice c.args.text.now (cc)) c.take_while.ensures.closure c.take_while.ensures.done (λ x b q k. search (rules, tests)))
+    ∙ length-prefix_len (stays Data) c.args.text.now ∙ front_counted (stays Data) c.args.text.now

@@ -1,19 +1,13 @@
--- `guess_places::place::stretch` meets its contract: in each arm the place is known.
+-- `guess_places::place::stretch` meets its contract.
 -- Assumes nothing.
-use Rattle.guess_places.proofs.Places.{start_none, within_none, quoted_stretch, data_stretch, quoted_data_stretch}
+use Rattle.guess_places.proofs.Places.{plain_none, data_stretch, string_stretch}
 use Rattle.guess_places.proofs.place.stretch.Goals as goal
 
 pub returns-in-Start : goal.returns-in-Start
-returns-in-Start c = search start_none
-
-pub returns-in-Within : goal.returns-in-Within
-returns-in-Within c = search within_none
+returns-in-Start c = plain_none _ _ c.in-Start.is
 
 pub returns-in-Quoted : goal.returns-in-Quoted
-returns-in-Quoted c = search quoted_stretch
+returns-in-Quoted c = string_stretch _ _ c.before-in-Quoted.ensures c.in-Quoted.is
 
 pub returns-in-Data : goal.returns-in-Data
 returns-in-Data c = search data_stretch
-
-pub returns-in-QuotedData : goal.returns-in-QuotedData
-returns-in-QuotedData c = search quoted_data_stretch

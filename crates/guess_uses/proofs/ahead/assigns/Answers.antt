@@ -1,7 +1,7 @@
 -- `guess_uses::ahead::assigns` meets its contract.
 -- Assumes nothing.
 use Rattle.guess_uses.proofs.Behind.{assigns_list, assigns_plain, opens}
-use Rattle.guess_uses.proofs.Marks.{assigns_marked, mark_within}
+use Rattle.guess_uses.proofs.Marks.{assigns_marked, mark_within, some_marks}
 use Rattle.base_ascii.proofs.Searching.{front_within}
 use Rattle.guess_uses.proofs.ahead.assigns.Goals as goal
 
@@ -14,17 +14,17 @@ slice_bounds-rest-start c = search front_within
 pub list_assigned-requires : goal.list_assigned-requires
 list_assigned-requires c = search opens
 
-pub returns-then-marks-eq0 : goal.returns-then-marks-eq0
-returns-then-marks-eq0 c = search assigns_list
+pub returns-then-is_empty : goal.returns-then-is_empty
+returns-then-is_empty c = search assigns_list
 
 pub overflow_sub-rest : goal.overflow_sub-rest
 overflow_sub-rest c = search opens
 
 pub bit-requires : goal.bit-requires
-bit-requires c = search (mark_within, c.if-marks-eq0.false)
+bit-requires c = search (mark_within, some_marks _ c.is_empty.ensures c.if-is_empty.false)
 
-pub returns-then-starts_with : goal.returns-then-starts_with
-returns-then-starts_with c = search (assigns_marked, c.if-marks-eq0.false)
+pub returns-else-is_empty : goal.returns-else-is_empty
+returns-else-is_empty c = search (assigns_marked, some_marks _ c.is_empty.ensures c.if-is_empty.false)
 
-pub returns : goal.returns
-returns c = search assigns_plain
+pub returns-then-not-starts_with : goal.returns-then-not-starts_with
+returns-then-not-starts_with c = search assigns_plain

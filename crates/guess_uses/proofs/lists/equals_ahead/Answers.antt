@@ -6,5 +6,5 @@ use Rattle.guess_uses.proofs.lists.equals_ahead.Goals as goal
 pub returns-then-is_kind : goal.returns-then-is_kind
 returns-then-is_kind c = search ahead_kind
 
-pub returns : goal.returns
-returns c = search ahead_other
+pub returns-else-is_kind : goal.returns-else-is_kind
+returns-else-is_kind c = search ahead_other

@@ -13,5 +13,5 @@ assigned-requires c = search marks_rest
 pub returns-then-start : goal.returns-then-start
 returns-then-start c = search proves_start
 
-pub returns : goal.returns
-returns c = search proves_call
+pub returns-else-start : goal.returns-else-start
+returns-else-start c = search proves_call
