@@ -58,10 +58,9 @@ pub fn check_disk(tell: &Teller, disk: &[u8]) -> Status
 {
     let mut sectors = [0usize; 18];
     let mut files = [0usize; 144];
-    let seen = look(disk, &mut sectors, &mut files);
-    if !seen.sound {
+    let Some(seen) = look(disk, &mut sectors, &mut files) else {
         return tell.tell_refusal(Refusal::BadDisk);
-    }
+    };
     let count = seen.files;
     let run = check_entries(tell, disk, &files[..count]);
     tell.tell_disk(count, run)

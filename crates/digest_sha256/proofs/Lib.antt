@@ -1,6 +1,5 @@
 pub mod Blocks
 pub mod Bytes
-pub mod Copies
 pub mod Pieces
 pub mod Roots
 pub mod Schedule

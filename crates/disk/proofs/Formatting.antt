@@ -13,28 +13,6 @@ use Rattle.base_refusals.specs.Numbers.{bad_disk}
 use Rattle.base_refusals.specs.Answer.{done, refused}
 use Rattle.disk_rules.specs.Calls.{fresh_header, fresh, formatted, After, onto_disk}
 
-pub record Clearing (d₀ d : List ℕ) (i : ℕ) : Type 0 where
-  pub within : i ≤ length d₀
-  pub sized : length d ≡ length d₀
-  pub cleared : d ≡ replicate i 0 ++ drop i d₀
-
-pub clear_start : (d : List ℕ) → Clearing d d 0
-clear_start d = record { within = omega arith; sized = refl; cleared = fill_none d 0 }
-
-module _ {d₀ d : List ℕ} {i : ℕ} (k : Clearing d₀ d i) where
-  pub clear_turn : i < length d → Clearing d₀ (set d i 0) (i + 1)
-  clear_turn h =
-      record {
-        within = omega (arith, k.sized);
-        sized = length-set d i 0 ∙ k.sized;
-        cleared = ap (λ (x : List ℕ). set x i 0) k.cleared ∙ fill_more i 0 d₀ (omega (arith, k.sized));
-      }
-
-  pub clear_end : length d ≤ i → d ≡ replicate (length d₀) 0
-  clear_end h =
-      let e : i ≡ length d₀ = omega (arith, k.sized, k.within) in
-      k.cleared ∙ ap (λ (x : List ℕ). replicate i 0 ++ x) (drop_of_length-le d₀ {i = i} (omega arith)) ∙ append-nil (replicate i 0) ∙ ap (λ (n : ℕ). replicate n 0) e
-
 fresh_made : {a b c : List ℕ} {n : ℕ} → n ≡ 174848 → a ≡ replicate n 0 → b ≡ sets a 91392 fresh_header → c ≡ sets b 91648 (0x00 ∷ 0xFF ∷ []) → c ≡ fresh
 unfolding fresh
 fresh_made e f g h =

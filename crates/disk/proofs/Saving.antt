@@ -2,7 +2,7 @@
 -- Assumes nothing.
 use Prim.Native.Nat.{ℕ, ◌≤◌, ◌<◌}
 use mathlib.Core.Path.{◌≡◌, refl, sym, ap, ◌∙◌}
-use mathlib.Core.Bool.{Bool, false, cond}
+use mathlib.Core.Bool.{Bool, true, false, cond}
 use mathlib.Core.List.{List}
 use lib.Dec.{leb}
 use lib.ListN.{length}
@@ -14,11 +14,12 @@ use Rattle.base_refusals.specs.declared.Refusal.{Refusal}
 use Rattle.disk_rules.specs.Lists.{some}
 use Rattle.disk_rules.specs.Entries.{listed, is_named}
 use Rattle.disk_rules.specs.Calls.{on_sound, saved, After, onto_disk}
-use Rattle.disk_entries.proofs.Finding.{first_in_lem, first_out}
+use Rattle.disk_entries.proofs.Finding.{found_some}
 use Rattle.disk_saves.specs.SaveHelpers.{saved_new}
 use Rattle.disk.specs.LocateHelpers.{Known, Seeks}
 use Rattle.disk.specs.declared.Sought.{Sought}
-use Rattle.disk.specs.declared.Sought.TheVariants.{On, Refused as RefusedSought}
+use Rattle.std.specs.Option.{is_some}
+use Rattle.std.specs.Prelude.{Result, Ok, Err}
 use Rattle.disk.proofs.Locating.{sought, sought_on, sought_not}
 
 -- 22 and 24, and what is answered behind them
@@ -39,12 +40,12 @@ module _ (d name image : List ℕ) where
   unfolding saved saved_new
   saved_is = refl
 
-  module _ {m : Sought} {a b : List ℕ} (s : Seeks d name m a b) where
-    pub save_refused : {r : Refusal} → m ≡ RefusedSought r → ◌≡◌ {A = After} (record { answer = refused (numbered r); disk = d }) (onto_disk (saved d name image) d)
+  module _ {m : Result Sought Refusal} {a : List ℕ} (s : Seeks d name m a) where
+    pub save_refused : {r : Refusal} → m ≡ Err r → ◌≡◌ {A = After} (record { answer = refused (numbered r); disk = d }) (onto_disk (saved d name image) d)
     save_refused e = ap (λ (x : Answer (List ℕ)). onto_disk x d) (sought_not s tested e ∙ saved_is)
 
-    module _ {k f i : ℕ} (e : m ≡ On k f i) where
-      abbrev known : Known d name k f i a b
+    module _ {k : Sought} (e : m ≡ Ok k) where
+      abbrev known : Known d name k a
       known = sought s e
 
       -- from what the two tests say
@@ -54,15 +55,15 @@ module _ (d name image : List ℕ) where
           ∙ ap (λ (x : Bool). onto_disk (behind is_taken x (saved_new d name image)) d) (sym h)
           ∙ ap (λ (x : Answer (List ℕ)). onto_disk x d) (sought_on s tested e ∙ saved_is)
 
-      pub save_taken : i < f → ◌≡◌ {A = After} (record { answer = refused name_taken; disk = d }) (onto_disk (saved d name image) d)
-      save_taken j = told (first_in_lem (is_named d name) (listed d) (omega (arith, known.first, known.counts))) refl
+      taken_is : {q : Bool} → q ≡ is_some k.entry → is_taken ≡ q
+      taken_is f = sym (f ∙ ap is_some known.first ∙ found_some (is_named d name) (listed d))
 
-      module _ (j : f ≤ i) where
-        free_name : is_taken ≡ false
-        free_name = first_out (is_named d name) (listed d) (omega (arith, known.first, known.counts))
+      pub save_taken : {q : Bool} → q ≡ is_some k.entry → q ≡ true → ◌≡◌ {A = After} (record { answer = refused name_taken; disk = d }) (onto_disk (saved d name image) d)
+      save_taken f g = told (taken_is f ∙ g) refl
 
-        pub save_full : 143 < f → ◌≡◌ {A = After} (record { answer = refused directory_full; disk = d }) (onto_disk (saved d name image) d)
-        save_full g = told free_name (le-leb 144 (length (listed d)) (omega (arith, known.counts)))
+      module _ {q : Bool} (f : q ≡ is_some k.entry) (g : q ≡ false) where
+        pub save_full : 143 < k.files → ◌≡◌ {A = After} (record { answer = refused directory_full; disk = d }) (onto_disk (saved d name image) d)
+        save_full h = told (taken_is f ∙ g) (le-leb 144 (length (listed d)) (omega (arith, known.counts)))
 
-        pub save_on : {r : After} → f ≤ 143 → r ≡ onto_disk (saved_new d name image) d → r ≡ onto_disk (saved d name image) d
-        save_on g h = h ∙ told free_name (lt-leb 144 (length (listed d)) (omega (arith, known.counts)))
+        pub save_on : {r : After} → k.files ≤ 143 → r ≡ onto_disk (saved_new d name image) d → r ≡ onto_disk (saved d name image) d
+        save_on h i = i ∙ told (taken_is f ∙ g) (lt-leb 144 (length (listed d)) (omega (arith, known.counts)))

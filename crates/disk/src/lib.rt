@@ -1,10 +1,9 @@
 // The calls over a lent disk: formatting, the check, reading, scratching and saving.
 #![tactic(auto)]
 
-ghost use Rattle.std.specs.Prelude.{◌≡◌, true, ◌+◌, ◌≤◌, length, set, replicate};
+ghost use Rattle.std.specs.Prelude.{◌≡◌, true, ◌+◌, ◌≤◌, length, set};
 ghost use Rattle.base_refusals.specs.Answer.{done, answered};
 ghost use Rattle.base_lent.specs.Lent.{into_buffer, left};
-ghost use Rattle.disk_rules.specs.Lists.{is_in};
 ghost use Rattle.disk_rules.specs.CountedHelpers.{chain_of_within};
 ghost use Rattle.disk_rules.specs.Free.{marked_all};
 ghost use Rattle.disk_rules.specs.Calls.{is_file_name, disk_holding, chain_bytes, file_bytes, formatted, scratched, saved, onto_disk, leaving};
@@ -33,29 +32,12 @@ const HEADER: [u8; 171] = *b"\x12\x01\x41\x00\
 // What 18/1 begins with: the end of the directory's chain.
 const LAST: [u8; 2] = [0x00, 0xFF];
 
-// What is known of a sound disk and a name: how many sectors the directory has, how many files are listed, and the place of the first
-// with the name, or their number.
+// What is known of a sound disk and a name: how many sectors the directory has, how many files are listed, and the first with the name.
 #[derive(Clone, Copy)]
-enum Sought {
-    On(usize, usize, usize),
-    Refused(Refusal),
-}
-
-// Where the entry of a name stands.
-#[derive(Clone, Copy)]
-enum Located {
-    At(usize),
-    Refused(Refusal),
-}
-
-fn clear(disk: &mut [u8])
-    ensures { disk.new ≡ replicate (length disk.old) 0 }
-{
-    let mut i: usize = 0;
-    while i < disk.len() {
-        disk[i] = 0;
-        i += 1;
-    }
+struct Sought {
+    sectors: usize,
+    files: usize,
+    entry: Option<usize>,
 }
 
 // Formats a disk of the right length.
@@ -65,7 +47,7 @@ pub fn format(disk: &mut [u8]) -> Result<(), Refusal>
     if disk.len() != 174848 {
         return Err(Refusal::BadDisk);
     }
-    clear(disk);
+    disk.fill(0);
     store(disk, 91392, &HEADER);
     store(disk, 91648, &LAST);
     Ok(())
@@ -80,10 +62,9 @@ pub fn check(disk: &[u8]) -> Result<Holding, Refusal>
     }
     let mut sectors = [0usize; 18];
     let mut files = [0usize; 144];
-    let seen = look(disk, &mut sectors, &mut files);
-    if !seen.sound {
+    let Some(seen) = look(disk, &mut sectors, &mut files) else {
         return Err(Refusal::BadDisk);
-    }
+    };
     let mut list = [0usize; 683];
     let free = free_sectors(disk, &mut list);
     Ok(Holding {
@@ -92,76 +73,51 @@ pub fn check(disk: &[u8]) -> Result<Holding, Refusal>
     })
 }
 
-fn has_a0(name: &[u8]) -> bool
-    ensures { result ≡ is_in name.now 0xA0 }
-{
-    let mut i: usize = 0;
-    while i < name.len() {
-        if name[i] == 0xA0 {
-            return true;
-        }
-        i += 1;
-    }
-    false
-}
-
 pub fn is_name(name: &[u8]) -> bool
     ensures { result ≡ is_file_name name.now }
 {
-    if name.len() < 1 {
-        return false;
-    }
-    if name.len() > 16 {
-        return false;
-    }
-    !has_a0(name)
+    matches!(name.len(), 1..=16) && !name.contains(&0xA0)
 }
 
 // Looks at a disk, and for a name on it: 20 and 21, which every call with a name tests first.
-fn seek(disk: &[u8], name: &[u8], sectors: &mut [usize], files: &mut [usize]) -> Sought
-    requires { (length sectors.old ≡ 18) × (length files.old ≡ 144) }
-    ensures { Seeks disk.now name.now result sectors.new files.new }
+fn seek(disk: &[u8], name: &[u8], sectors: &mut [usize]) -> Result<Sought, Refusal>
+    requires { length sectors.old ≡ 18 }
+    ensures { Seeks disk.now name.now result sectors.new }
 {
     if disk.len() != 174848 {
-        return Sought::Refused(Refusal::BadDisk);
+        return Err(Refusal::BadDisk);
     }
-    let seen = look(disk, sectors, files);
-    if !seen.sound {
-        return Sought::Refused(Refusal::BadDisk);
-    }
+    let mut files = [0usize; 144];
+    let Some(seen) = look(disk, sectors, &mut files) else {
+        return Err(Refusal::BadDisk);
+    };
     if !is_name(name) {
-        return Sought::Refused(Refusal::BadName);
+        return Err(Refusal::BadName);
     }
     let count = seen.files;
-    let at = find(disk, &files[..count], name);
-    Sought::On(seen.sectors, count, at)
+    let entry = find(disk, &files[..count], name);
+    Ok(Sought {
+        sectors: seen.sectors,
+        files: count,
+        entry,
+    })
 }
 
 // The entry of a name on a disk.
-fn locate(disk: &[u8], name: &[u8]) -> Located
+fn locate(disk: &[u8], name: &[u8]) -> Result<usize, Refusal>
     ensures { Locates disk.now name.now result }
 {
     let mut sectors = [0usize; 18];
-    let mut files = [0usize; 144];
-    match seek(disk, name, &mut sectors, &mut files) {
-        Sought::On(_, count, at) => {
-            if at >= count {
-                return Located::Refused(Refusal::NoSuchFile);
-            }
-            Located::At(files[at])
-        }
-        Sought::Refused(refusal) => Located::Refused(refusal),
-    }
+    let sought = seek(disk, name, &mut sectors)?;
+    sought.entry.ok_or(Refusal::NoSuchFile)
 }
 
 // Reads a file into the start of a buffer, and answers its length.
 pub fn read(disk: &[u8], name: &[u8], out: &mut [u8]) -> Result<usize, Refusal>
     ensures { left result out.new ≡ into_buffer (file_bytes disk.now name.now) out.old }
 {
-    match locate(disk, name) {
-        Located::At(p) => read_entry(disk, p, out),
-        Located::Refused(refusal) => Err(refusal),
-    }
+    let p = locate(disk, name)?;
+    read_entry(disk, p, out)
 }
 
 fn read_entry(disk: &[u8], p: usize, out: &mut [u8]) -> Result<usize, Refusal>
@@ -183,13 +139,9 @@ fn read_entry(disk: &[u8], p: usize, out: &mut [u8]) -> Result<usize, Refusal>
 pub fn scratch(disk: &mut [u8], name: &[u8]) -> Result<(), Refusal>
     ensures { leaving result disk.new ≡ onto_disk (scratched disk.old name.now) disk.old }
 {
-    match locate(disk, name) {
-        Located::At(p) => {
-            scratch_entry(disk, p);
-            Ok(())
-        }
-        Located::Refused(refusal) => Err(refusal),
-    }
+    let p = locate(disk, name)?;
+    scratch_entry(disk, p);
+    Ok(())
 }
 
 fn scratch_entry(disk: &mut [u8], p: usize)
@@ -208,17 +160,13 @@ pub fn save(disk: &mut [u8], name: &[u8], image: &[u8]) -> Result<(), Refusal>
     ensures { leaving result disk.new ≡ onto_disk (saved disk.old name.now image.now) disk.old }
 {
     let mut sectors = [0usize; 18];
-    let mut files = [0usize; 144];
-    match seek(disk, name, &mut sectors, &mut files) {
-        Sought::On(k, count, at) => {
-            if at < count {
-                return Err(Refusal::NameTaken);
-            }
-            if count > 143 {
-                return Err(Refusal::DirectoryFull);
-            }
-            save_new(disk, &sectors[..k], name, image)
-        }
-        Sought::Refused(refusal) => Err(refusal),
+    let sought = seek(disk, name, &mut sectors)?;
+    if sought.entry.is_some() {
+        return Err(Refusal::NameTaken);
     }
+    if sought.files > 143 {
+        return Err(Refusal::DirectoryFull);
+    }
+    let k = sought.sectors;
+    save_new(disk, &sectors[..k], name, image)
 }

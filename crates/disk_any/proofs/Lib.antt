@@ -1,5 +1,4 @@
 pub mod Answers
-pub mod Bytes
 pub mod Locating
 pub mod Same
 pub mod Sizes

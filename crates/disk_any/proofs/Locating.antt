@@ -22,16 +22,16 @@ use Rattle.disk_ways.specs.declared.Over.TheVariants.{Tracks}
 use Rattle.disk_ways.specs.declared.Followed.{Followed}
 use Rattle.disk_ways.proofs.Logged.{Of, way_each, entry_each, followed_start}
 use Rattle.disk_any.specs.Any.{disk_kind, directory_on, listed_by, any_listed, spot_from, file_on, ReadInto, read_by}
-use Rattle.disk_any.specs.AnyHelpers.{Holds, Below, Placed}
+use Rattle.disk_bytes.specs.ByteHelpers.{Below}
+use Rattle.disk_any.specs.AnyHelpers.{Holds, Placed}
 use Rattle.disk_any.specs.declared.DiskKind.{DiskKind}
 use Rattle.disk_any.specs.declared.DiskKind.TheVariants.{D64, D71, D81, Other}
-use Rattle.disk_any.specs.declared.EntrySpot.{EntrySpot}
-use Rattle.disk_any.specs.declared.EntrySpot.TheVariants.{On, Off}
-use Rattle.disk_any.specs.declared.FileRead.TheVariants.{Done, Stopped, NoRoom}
+use Rattle.std.specs.Prelude.{Option, Some, None, Result, Ok, Err}
+use Rattle.disk_any.specs.declared.Unread.TheVariants.{Stopped, NoRoom}
 
 -- ---- a place in a list
 
-spot_first : (x : ℕ) (l : List ℕ) (k : ℕ) → k < 1 → spot_from (x ∷ l) k ≡ On x
+spot_first : (x : ℕ) (l : List ℕ) (k : ℕ) → k < 1 → spot_from (x ∷ l) k ≡ Some x
 unfolding spot_from
 spot_first x l zero h = refl
 spot_first x l (suc k) h = absurd (omega arith)
@@ -98,17 +98,17 @@ module _ {d l : List ℕ} {end place left next : ℕ} (s : Seeking d l end place
     unfolding those
     here = simp (ne_eqb (get_or d x 0) 0 e) at unrolled
 
-    pub seek_found : left < 1 → Placed d (entries_that true d l) place (On (256 * get_or l (next / 8) 0 + 2 + 32 * (next % 8)))
+    pub seek_found : left ≡ 0 → Placed d (entries_that true d l) place (Some (256 * get_or l (next / 8) 0 + 2 + 32 * (next % 8)))
     seek_found g =
         record {
-          is = sym (spot_first x rest left g) ∙ here;
+          is = sym (spot_first x rest left (omega arith)) ∙ here;
           within = λ q f. let k : x ≡ q = cc in subst (λ (y : ℕ). y + 30 ≤ length d) k stands;
         }
 
-    pub seek_turn : 1 ≤ left → Seeking d l end place (left - 1) (next + 1)
-    seek_turn g = record { below = s.below; ends = s.ends; within = omega arith; gives = sym (spot_next x rest left g) ∙ here }
+    pub seek_turn : (left ≡ 0 → ⊥) → Seeking d l end place (left - 1) (next + 1)
+    seek_turn g = record { below = s.below; ends = s.ends; within = omega arith; gives = sym (spot_next x rest left (omega arith)) ∙ here }
 
-pub seek_end : {d l : List ℕ} {end place left next : ℕ} → Seeking d l end place left next → end ≤ next → Placed d (entries_that true d l) place Off
+pub seek_end : {d l : List ℕ} {end place left next : ℕ} → Seeking d l end place left next → end ≤ next → Placed d (entries_that true d l) place None
 unfolding numbers_from those spot_from
 seek_end {end = end} {next = next} s h =
     let z : end - next ≡ 0 = omega arith in
@@ -156,7 +156,7 @@ module _ {d : List ℕ} {tracks : ℕ} (h : Holds d tracks) where
           (below_all (way (Tracks tracks) 768 d (λ m. get_or (replicate 768 false) m false) 358)
           (way_each (Tracks tracks) holds_low 768 d (λ m. get_or (replicate 768 false) m false) 358 holds_first) (omega (arith, f.to, f.within)))
 
-      pub directory_placed : (place : ℕ) {s : EntrySpot} → Placed d (entries_that true d (take r.to after)) place s → Placed d (entries_that true d (directory_on tracks d).sectors) place s
+      pub directory_placed : (place : ℕ) {s : Option ℕ} → Placed d (entries_that true d (take r.to after)) place s → Placed d (entries_that true d (directory_on tracks d).sectors) place s
       directory_placed place {s} p = subst (λ (l : List ℕ). Placed d (entries_that true d l) place s) found p
 
     module _ (p : ℕ) (f : Follows (way_of (Tracks tracks) 768 d (λ m. get_or (replicate 768 false) m false) p) (replicate 768 0) marks r after marks') where
@@ -176,8 +176,8 @@ module _ {d : List ℕ} {tracks : ℕ} (h : Holds d tracks) where
         ends : ends_as true (file_on tracks d p).stop ≡ q
         ends = sym (rw followed.stop at e)
 
-        pub file_stopped : not q ≡ true → ◌≡◌ {A = ReadInto} (record { answer = Stopped r.stop; buffer = out }) (read_by d (file_on tracks d p) out)
-        file_stopped g = let k : ends_as true (file_on tracks d p).stop ≡ false = ends ∙ not-true q g in rw k (ap (λ (s : _). record { answer = Stopped s; buffer = out }) followed.stop)
+        pub file_stopped : not q ≡ true → ◌≡◌ {A = ReadInto} (record { answer = Err (Stopped r.stop); buffer = out }) (read_by d (file_on tracks d p) out)
+        file_stopped g = let k : ends_as true (file_on tracks d p).stop ≡ false = ends ∙ not-true q g in rw k (ap (λ (s : _). record { answer = Err (Stopped s); buffer = out }) followed.stop)
 
         module _ (g : not q ≡ false) {n : ℕ} (m : n ≡ length (chain_bytes d (take r.to after))) where
           ended : ends_as true (file_on tracks d p).stop ≡ true
@@ -186,37 +186,34 @@ module _ {d : List ℕ} {tracks : ℕ} (h : Holds d tracks) where
           long : n ≡ length (chain_bytes d (file_on tracks d p).sectors)
           long = m ∙ ap length bytes
 
-          pub file_no_room : length out < n → ◌≡◌ {A = ReadInto} (record { answer = NoRoom n; buffer = out }) (read_by d (file_on tracks d p) out)
+          pub file_no_room : length out < n → ◌≡◌ {A = ReadInto} (record { answer = Err (NoRoom n); buffer = out }) (read_by d (file_on tracks d p) out)
           file_no_room i =
               let k : length out < length (chain_bytes d (file_on tracks d p).sectors) = omega (arith, long) in
-              rw (ended, lt-leb (length (chain_bytes d (file_on tracks d p).sectors)) (length out) k) (ap (λ (x : ℕ). record { answer = NoRoom x; buffer = out }) long)
+              rw (ended, lt-leb (length (chain_bytes d (file_on tracks d p).sectors)) (length out) k) (ap (λ (x : ℕ). record { answer = Err (NoRoom x); buffer = out }) long)
 
           pub file_done : n ≤ length out → {after' : List ℕ} → after' ≡ sets out 0 (chain_bytes d (take r.to after))
-              → ◌≡◌ {A = ReadInto} (record { answer = Done n; buffer = after' }) (read_by d (file_on tracks d p) out)
+              → ◌≡◌ {A = ReadInto} (record { answer = Ok n; buffer = after' }) (read_by d (file_on tracks d p) out)
           file_done i {after'} j =
               let k : length (chain_bytes d (file_on tracks d p).sectors) ≤ length out = omega (arith, long) in
               rw (ended, le-leb (length (chain_bytes d (file_on tracks d p).sectors)) (length out) k)
-              (ap (λ (x : ℕ). record { answer = Done x; buffer = after' }) long ∙ ap (λ (x : List ℕ). record { answer = Done (length (chain_bytes d (file_on tracks d p).sectors)); buffer = x }) (j ∙ ap (sets out 0) bytes))
+              (ap (λ (x : ℕ). record { answer = Ok x; buffer = after' }) long ∙ ap (λ (x : List ℕ). record { answer = Ok (length (chain_bytes d (file_on tracks d p).sectors)); buffer = x }) (j ∙ ap (sets out 0) bytes))
 
 -- ---- by the kind of the image
 
 module _ (d : List ℕ) {k : DiskKind} (e : k ≡ disk_kind (length d)) (place : ℕ) where
-  pub located : {tracks : ℕ} {s : EntrySpot} → k ≡ D64 tracks → Placed d (entries_that true d (directory_on tracks d).sectors) place s → Placed d (any_listed d) place s
+  pub located : {tracks : ℕ} {s : Option ℕ} → k ≡ D64 tracks → Placed d (entries_that true d (directory_on tracks d).sectors) place s → Placed d (any_listed d) place s
   unfolding any_listed
   located {tracks} {s} f p = subst (λ (x : DiskKind). Placed d (listed_by d x) place s) (sym f ∙ e) p
 
-  nowhere : Placed d [] place Off
+  nowhere : Placed d [] place None
   unfolding spot_from
   nowhere = record { is = refl; within = λ q f. absurd (let y : ◌≡◌ {A = ℕ} 0 1 = cc in omega arith) }
 
-  pub located_71 : k ≡ D71 → Placed d (any_listed d) place Off
+  pub located_none : ((tracks : ℕ) → k ≡ D64 tracks → ⊥) → Placed d (any_listed d) place None
   unfolding any_listed
-  located_71 f = subst (λ (x : DiskKind). Placed d (listed_by d x) place Off) (sym f ∙ e) nowhere
-
-  pub located_81 : k ≡ D81 → Placed d (any_listed d) place Off
-  unfolding any_listed
-  located_81 f = subst (λ (x : DiskKind). Placed d (listed_by d x) place Off) (sym f ∙ e) nowhere
-
-  pub located_other : k ≡ Other → Placed d (any_listed d) place Off
-  unfolding any_listed
-  located_other f = subst (λ (x : DiskKind). Placed d (listed_by d x) place Off) (sym f ∙ e) nowhere
+  located_none f = go k e f where
+    go : (x : DiskKind) → x ≡ disk_kind (length d) → ((tracks : ℕ) → x ≡ D64 tracks → ⊥) → Placed d (listed_by d (disk_kind (length d))) place None
+    go (D64 tracks) g h = absurd (h tracks refl)
+    go D71 g h = subst (λ (x : DiskKind). Placed d (listed_by d x) place None) g nowhere
+    go D81 g h = subst (λ (x : DiskKind). Placed d (listed_by d x) place None) g nowhere
+    go Other g h = subst (λ (x : DiskKind). Placed d (listed_by d x) place None) g nowhere

@@ -26,8 +26,7 @@ use Rattle.disk_laws.proofs.Parts.{parts}
 use Rattle.disk_any.specs.Any.{disk_kind, directory_on, listed_by, any_listed, spot_from, any_spot, file_on, lent_bytes, read_by, read_at, any_file}
 use Rattle.disk_any.specs.declared.DiskKind.{DiskKind}
 use Rattle.disk_any.specs.declared.DiskKind.TheVariants.{D64}
-use Rattle.disk_any.specs.declared.EntrySpot.{EntrySpot}
-use Rattle.disk_any.specs.declared.EntrySpot.TheVariants.{On}
+use Rattle.std.specs.Prelude.{Option, Some, None, Result, Ok, Err}
 use Rattle.disk_any.proofs.Sizes.{kind_1}
 
 -- a file's chain that ends as it should ends
@@ -46,7 +45,7 @@ end_at d (q ∷ l) p a i = go (eqb p q) refl i (end_at d l p a.1) where
   go true e j f = rw (eqb-true p q e) a.0
   go false e j f = f j
 
-spot_in : (l : List ℕ) (n : ℕ) {p : ℕ} → spot_from l n ≡ On p → is_in l p ≡ true
+spot_in : (l : List ℕ) (n : ℕ) {p : ℕ} → spot_from l n ≡ Some p → is_in l p ≡ true
 unfolding spot_from some
 spot_in [] n e = absurd (let z : ◌≡◌ {A = ℕ} 0 1 = cc in omega arith)
 spot_in (q ∷ l) zero {p} e = let f : p ≡ q = cc in rw (eq-eqb p q f)
@@ -77,10 +76,10 @@ module _ (d : List ℕ) (e : sound d ≡ true) where
       rw (ends_any (file_on 35 d p).stop w.ends) (ap (λ (l : List ℕ). lent_bytes (chain_bytes d l) out) w.sectors)
 
   -- of the entry at a place
-  pub same_file : (n : ℕ) {p : ℕ} → any_spot d n ≡ On p → (out : List ℕ) → any_file d n out ≡ lent_bytes (chain_bytes d (chain_of d p).sectors) out
+  pub same_file : (n : ℕ) {p : ℕ} → any_spot d n ≡ Some p → (out : List ℕ) → any_file d n out ≡ lent_bytes (chain_bytes d (chain_of d p).sectors) out
   unfolding any_spot any_file
   same_file n {p} s out =
-      ap (λ (k : DiskKind). read_at d k (any_spot d n) out) kind_35 ∙ ap (λ (x : EntrySpot). read_at d (D64 35) x out) s
+      ap (λ (k : DiskKind). read_at d k (any_spot d n) out) kind_35 ∙ ap (λ (x : Option ℕ). read_at d (D64 35) x out) s
       ∙ same_bytes p (ap (λ (l : List ℕ). is_in l p) (sym same_directory) ∙ spot_in (any_listed d) n s) out
 
 in_first : (p : ℕ) (ps : List ℕ) → is_in (p ∷ ps) p ≡ true

@@ -3,8 +3,7 @@
 use Rattle.std.specs.Prelude.{ℕ, ◌+◌, ◌*◌, ◌≤◌, ◌<◌, ◌≡◌, List, length, get_or}
 use Rattle.disk_rules.specs.Places.{sectors_before}
 use Rattle.disk_any.specs.Any.{spot_from}
-use Rattle.disk_any.specs.declared.EntrySpot.{EntrySpot}
-use Rattle.disk_any.specs.declared.EntrySpot.TheVariants.{On}
+use Rattle.std.specs.Prelude.{Option, Some, None, Result, Ok, Err}
 
 -- an image has the sectors of so many tracks
 pub record Holds (disk : List ℕ) (tracks : ℕ) : Type 0 where
@@ -13,13 +12,7 @@ pub record Holds (disk : List ℕ) (tracks : ℕ) : Type 0 where
   pub size : 256 * sectors_before (tracks + 1) ≤ length disk
   pub few : sectors_before (tracks + 1) ≤ 768
 
--- each number of a list is a sector of the image
-pub record Below (disk l : List ℕ) : Type 0 where
-  pub few : length l ≤ 768
-  pub small : (i : ℕ) → i < length l → get_or l i 0 < 768
-  pub within : (i : ℕ) → i < length l → 256 * get_or l i 0 + 256 ≤ length disk
-
 -- the entry at a place of a list, and that it stands in the image
-pub record Placed (disk l : List ℕ) (place : ℕ) (r : EntrySpot) : Type 0 where
+pub record Placed (disk l : List ℕ) (place : ℕ) (r : Option ℕ) : Type 0 where
   pub is : r ≡ spot_from l place
-  pub within : (p : ℕ) → r ≡ On p → p + 30 ≤ length disk
+  pub within : (p : ℕ) → r ≡ Some p → p + 30 ≤ length disk

@@ -15,38 +15,41 @@ use borrow.Author.Tests.{eq-eqb, ne_eqb}
 use Rattle.base_lent.proofs.Storing.{sets_append}
 use Rattle.disk_rules.specs.Calls.{payload, chain_bytes}
 use Rattle.disk_chains.specs.ChainHelpers.{Sectors}
+use Rattle.disk_bytes.specs.ByteHelpers.{Below}
 
-module _ (d : List ℕ) (n : ℕ) (e : length d ≡ 174848) (h : n < 683) where
+module _ (d : List ℕ) (n : ℕ) (e : 256 * n + 256 ≤ length d) where
   room : (k : ℕ) → k ≤ 254 → k ≡ length (take k (drop (256 * n + 2) d))
   room k g = sym (length-take-le k (drop (256 * n + 2) d) (omega (arith, length-drop (256 * n + 2) d)))
 
   pub pay_full : (get_or d (256 * n) 0 ≡ 0 → ⊥) → 254 ≡ length (payload d n)
   pay_full z = rw (ne_eqb (get_or d (256 * n) 0) 0 z) (room 254 (omega arith))
 
-  module _ {b : ℕ} (z : get_or d (256 * n) 0 ≡ 0) (f : b ≡ get_or d (256 * n + 1) 0) (g : b < 256) where
-    ending : b - 1 ≡ length (payload d n)
-    ending = rw (eq-eqb (get_or d (256 * n) 0) 0 z, ← f) (room (b - 1) (omega arith))
+  pub pay_last : {k : ℕ} → get_or d (256 * n) 0 ≡ 0 → k ≡ get_or d (256 * n + 1) 0 - 1 → get_or d (256 * n + 1) 0 < 256 → k ≡ length (payload d n)
+  pay_last {k} z f g = rw (eq-eqb (get_or d (256 * n) 0) 0 z, ← f) (room k (omega arith))
 
-    pub pay_none : b < 1 → 0 ≡ length (payload d n)
-    pay_none i = let k : 0 ≡ b - 1 = omega arith in k ∙ ending
-
-    pub pay_last : 1 ≤ b → b - 1 ≡ length (payload d n)
-    pay_last i = ending
+-- the sectors of a disk of 35 tracks
+pub sectors_below : {d l : List ℕ} → length d ≡ 174848 → Sectors l → length l ≤ 683 → Below d l
+sectors_below e s h =
+    record {
+      few = omega arith;
+      small = λ i g. omega (arith, s.below i g);
+      within = λ i g. omega (arith, s.below i g);
+    }
 
 -- ---- how many
 
 pub record Measuring (d l : List ℕ) (count i : ℕ) : Type 0 where
-  pub sectors : Sectors l
+  pub sectors : Below d l
   pub within : i ≤ length l
   pub few : count ≤ 254 * i
   pub gives : count + length (chain_bytes d (drop i l)) ≡ length (chain_bytes d l)
 
-pub measure_start : (d : List ℕ) {l : List ℕ} → Sectors l → Measuring d l 0 0
+pub measure_start : (d : List ℕ) {l : List ℕ} → Below d l → Measuring d l 0 0
 measure_start d s = record { sectors = s; within = omega arith; few = omega arith; gives = omega arith }
 
 module _ {d l : List ℕ} {count i : ℕ} (m : Measuring d l count i) where
-  pub measure_below : i < length l → get_or l i 0 < 683
-  measure_below h = m.sectors.below i h
+  pub measure_below : i < length l → 256 * get_or l i 0 + 256 ≤ length d
+  measure_below h = m.sectors.within i h
 
   pub measure_turn : {r : ℕ} → i < length l → r ≡ length (payload d (get_or l i 0)) → r ≤ 254 → Measuring d l (count + r) (i + 1)
   unfolding chain_bytes
@@ -73,29 +76,32 @@ take_exact (suc k) [] = refl
 take_exact (suc k) (a ∷ x) = ap (λ (r : List ℕ). a ∷ r) (take_exact k x)
 
 pub record Taking (d l out₀ out : List ℕ) (to i : ℕ) : Type 0 where
-  pub sectors : Sectors l
+  pub sectors : Below d l
   pub sized : length out ≡ length out₀
   pub room : to + length (chain_bytes d (drop i l)) ≤ length out₀
   pub stores : sets out to (chain_bytes d (drop i l)) ≡ sets out₀ 0 (chain_bytes d l)
 
-pub take_start : (d : List ℕ) {l out : List ℕ} → Sectors l → length (chain_bytes d l) ≤ length out → Taking d l out out 0 0
+pub take_start : (d : List ℕ) {l out : List ℕ} → Below d l → length (chain_bytes d l) ≤ length out → Taking d l out out 0 0
 take_start d s h = record { sectors = s; sized = refl; room = omega arith; stores = refl }
 
 module _ {d l out₀ out : List ℕ} {to i : ℕ} (t : Taking d l out₀ out to i) where
-  pub take_below : i < length l → get_or l i 0 < 683
-  take_below h = t.sectors.below i h
+  pub take_below : i < length l → 256 * get_or l i 0 + 256 ≤ length d
+  take_below h = t.sectors.within i h
+
+  small : i < length l → get_or l i 0 < 768
+  small h = t.sectors.small i h
 
   pub take_mul : i < length l → Fits w64 (256 * get_or l i 0)
-  take_mul h = omega (arith, take_below h)
+  take_mul h = omega (arith, small h)
 
   pub take_add : i < length l → Fits w64 (256 * get_or l i 0 + 2)
-  take_add h = omega (arith, take_below h)
+  take_add h = omega (arith, small h)
 
   pub take_sum : {r : ℕ} → i < length l → r ≤ 254 → Fits w64 (256 * get_or l i 0 + 2 + r)
-  take_sum h e = omega (arith, take_below h)
+  take_sum h e = omega (arith, small h)
 
-  pub take_within : {r : ℕ} → i < length l → r ≤ 254 → length d ≡ 174848 → 256 * get_or l i 0 + 2 + r ≤ length d
-  take_within h e f = omega (arith, take_below h)
+  pub take_within : {r : ℕ} → i < length l → r ≤ 254 → 256 * get_or l i 0 + 2 + r ≤ length d
+  take_within h e = omega (arith, take_below h)
 
   module _ (h : i < length l) {r : ℕ} (e : r ≡ length (payload d (get_or l i 0))) where
     abbrev n : ℕ

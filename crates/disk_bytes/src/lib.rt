@@ -5,6 +5,7 @@ ghost use Rattle.std.specs.Prelude.{◌≡◌, ◌+◌, ◌*◌, ◌-◌, ◌≤
 ghost use Rattle.std.proofs.lemmas.List.Edits.{sets};
 ghost use Rattle.disk_rules.specs.Calls.{sector_bytes, laid, payload, chain_bytes};
 ghost use Rattle.disk_chains.specs.ChainHelpers.{Sectors};
+ghost use Rattle.disk_bytes.specs.ByteHelpers.{Below};
 
 use disk_sectors::{sector_of, track_of};
 
@@ -33,13 +34,11 @@ pub fn lay(disk: &mut [u8], list: &[usize], image: &[u8])
     requires { (length disk.old ≡ 174848) × Sectors list.now × (254 * (length list.now - 1) ≤ length image.now) × (length image.now ≤ 254 * length list.now) }
     ensures { disk.new ≡ laid disk.old list.now image.now }
 {
-    let mut i: usize = 0;
-    while i < list.len() {
+    for i in 0..list.len() {
         let n = list[i];
         let from = 254 * i;
-        i += 1;
-        if i < list.len() {
-            let next = list[i];
+        if i + 1 < list.len() {
+            let next = list[i + 1];
             let to = from + 254;
             let track = track_of(next) as u8;
             let sector = sector_of(next) as u8;
@@ -51,55 +50,41 @@ pub fn lay(disk: &mut [u8], list: &[usize], image: &[u8])
     }
 }
 
-fn wide(byte: u8) -> usize
-    ensures { (result ≡ byte) × (result < 256) }
-{
-    byte as usize
-}
-
 // How many bytes of a file a sector holds.
 fn payload_length(disk: &[u8], n: usize) -> usize
-    requires { (length disk.now ≡ 174848) × (n < 683) }
+    requires { 256 * n + 256 ≤ length disk.now }
     ensures { (result ≡ length (payload disk.now n)) × (result ≤ 254) }
 {
     let at = 256 * n;
-    if disk[at] != 0 {
-        return 254;
+    if disk[at] == 0 {
+        usize::from(disk[at + 1]).saturating_sub(1)
+    } else {
+        254
     }
-    let second = wide(disk[at + 1]);
-    if second < 1 {
-        return 0;
-    }
-    second - 1
 }
 
 // How many bytes the sectors of a chain hold.
 pub fn measure(disk: &[u8], list: &[usize]) -> usize
-    requires { (length disk.now ≡ 174848) × Sectors list.now × (length list.now ≤ 683) }
+    requires { Below disk.now list.now }
     ensures { result ≡ length (chain_bytes disk.now list.now) }
 {
     let mut count: usize = 0;
-    let mut i: usize = 0;
-    while i < list.len() {
-        count += payload_length(disk, list[i]);
-        i += 1;
+    for n in list {
+        count += payload_length(disk, *n);
     }
     count
 }
 
 // Stores the bytes of a chain's sectors at a buffer's start.
 pub fn take_out(disk: &[u8], list: &[usize], out: &mut [u8])
-    requires { (length disk.now ≡ 174848) × Sectors list.now × (length (chain_bytes disk.now list.now) ≤ length out.old) }
+    requires { Below disk.now list.now × (length (chain_bytes disk.now list.now) ≤ length out.old) }
     ensures { out.new ≡ sets out.old 0 (chain_bytes disk.now list.now) }
 {
     let mut to: usize = 0;
-    let mut i: usize = 0;
-    while i < list.len() {
-        let n = list[i];
+    for n in list {
         let from = 256 * n + 2;
-        let end = from + payload_length(disk, n);
+        let end = from + payload_length(disk, *n);
         store(out, to, &disk[from..end]);
         to += end - from;
-        i += 1;
     }
 }

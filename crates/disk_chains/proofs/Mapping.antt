@@ -1,19 +1,19 @@
 -- The map's bits beside marks.
 -- Assumes nothing.
-use Prim.Native.Nat.{ℕ, ◌+◌, ◌≤◌, ◌<◌}
-use mathlib.Core.Path.{◌≡◌, sym, ap, ◌∙◌, fun_ext}
-use mathlib.Core.Bool.{Bool, true, false, not, ◌&&◌}
+use Prim.Native.Nat.{ℕ, zero, suc, ◌+◌, ◌/◌, ◌%◌, ◌≤◌, ◌<◌}
+use mathlib.Core.Path.{◌≡◌, refl, ap}
+use mathlib.Core.Bool.{Bool, true, false, ◌&&◌}
 use mathlib.Core.List.{List}
 use lib.Dec.{eqb}
 use lib.ListN.{length, get_or}
 use native.Mathlib.Decide.{dec_lt}
 use native.Mathlib.Omega.{arith}
-use borrow.Author.Tests.{lt-ltb, le-ltb, eq-eqb, ne_eqb, not-true, not-false}
+use borrow.Author.Tests.{lt-ltb, le-ltb, eq-eqb, ne_eqb}
 use Rattle.disk_rules.specs.Places.{sectors_on, sectors_before}
-use Rattle.disk_rules.specs.Lists.{is_in, none_twice}
+use Rattle.std.specs.List.{range_with_len, list_all}
+use Rattle.disk_rules.specs.Lists.{every, numbers_from}
 use Rattle.disk_rules.specs.Map.{bit_at}
 use Rattle.disk_rules.specs.Free.{bit_agrees, map_agrees}
-use Rattle.disk_chains.specs.ChainHelpers.{Marked}
 
 -- a track's sectors end with the disk at the latest
 pub on_room : (t : ℕ) → 1 ≤ t → t ≤ 35 → sectors_before t + sectors_on t ≤ 683
@@ -47,12 +47,12 @@ module _ (d : List ℕ) (marks : List Bool) (t s : ℕ) where
     agrees_free h i j =
         let g : s < sectors_on t = omega arith in rw e (simp (ne_eqb t 18 z, lt-ltb s (sectors_on t) g, rw i at j))
 
-module _ (d met : List ℕ) {marks : List Bool} {r : Bool} where
-  pub not_accounted : Marked met r marks → not r ≡ true → false ≡ (none_twice met && map_agrees d (is_in met))
-  not_accounted m e = let f : none_twice met ≡ false = sym m.once ∙ not-true r e in rw f
+-- std's test of a run of numbers is the rule's
+pub every_listed : (test : ℕ → Bool) (a n : ℕ) → list_all test (range_with_len a n) ≡ every test (numbers_from a n)
+unfolding every numbers_from
+every_listed test a zero = refl
+every_listed test a (suc n) = ap (λ b. test a && b) (every_listed test (a + 1) n)
 
-  pub all_accounted : Marked met r marks → not r ≡ false → {q : Bool} → q ≡ map_agrees d (λ n. get_or marks n false)
-      → q ≡ (none_twice met && map_agrees d (is_in met))
-  all_accounted m e {q} g =
-      let f : none_twice met ≡ true = sym m.once ∙ not-false r e in
-      rw f (g ∙ ap (map_agrees d) (fun_ext (m.marks (not-false r e)).means))
+pub map_listed : (d : List ℕ) (met : ℕ → Bool) → list_all (λ i. bit_agrees d met (1 + i / 24) (i % 24)) (range_with_len 0 840) ≡ map_agrees d met
+unfolding map_agrees
+map_listed d met = every_listed (λ i. bit_agrees d met (1 + i / 24) (i % 24)) 0 840

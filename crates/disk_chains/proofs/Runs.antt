@@ -1,15 +1,14 @@
--- Loops over a run of numbers: a test of each, and those that pass a test stored in a list.
+-- Loops over a run of numbers: those that pass a test stored in a list.
 -- Assumes nothing.
 use Prim.Native.Nat.{ℕ, suc, ◌+◌, ◌-◌, ◌≤◌, ◌<◌}
 use mathlib.Core.Path.{◌≡◌, refl, sym, ap, subst, ◌∙◌}
-use mathlib.Core.Bool.{Bool, true, false, not}
+use mathlib.Core.Bool.{Bool, true, false}
 use mathlib.Core.List.{List, [], ◌∷◌, map}
 use lib.ListN.{length, set, length-set}
 use lib.Seq.{sets}
 use native.Mathlib.Numerals.{add-one}
 use native.Mathlib.Omega.{arith}
-use borrow.Author.Tests.{not-true, not-false}
-use Rattle.disk_rules.specs.Lists.{numbers_from, every, those}
+use Rattle.disk_rules.specs.Lists.{numbers_from, those}
 use Rattle.disk_rules.specs.Map.{is_free}
 use Rattle.disk_rules.specs.Free.{free_sectors}
 use Rattle.disk_chains.specs.ChainHelpers.{Lists}
@@ -20,30 +19,6 @@ one_more i n h = omega arith
 
 none_left : (i n : ℕ) → n ≤ i → n - i ≡ 0
 none_left i n h = omega arith
-
--- ---- a test of each number below n: those from i on decide
-
-pub record Left (test : ℕ → Bool) (n : ℕ) (goal : Bool) (i : ℕ) : Type 0 where
-  pub within : i ≤ n
-  pub decides : every test (numbers_from i (n - i)) ≡ goal
-
-pub left_start : (test : ℕ → Bool) (n : ℕ) → Left test n (every test (numbers_from 0 n)) 0
-left_start test n = let e : n - 0 ≡ n = omega arith in record { within = omega arith; decides = rw e }
-
-module _ {test : ℕ → Bool} {n : ℕ} {goal : Bool} {i : ℕ} (l : Left test n goal i) where
-  pub left_turn : {r : Bool} → i < n → not r ≡ false → r ≡ test i → Left test n goal (i + 1)
-  unfolding every numbers_from
-  left_turn {r} h e g =
-      let p : test i ≡ true = sym g ∙ not-false r e in
-      record { within = omega arith; decides = simp p at (rw (one_more i n h) at l.decides) }
-
-  pub left_failed : {r : Bool} → i < n → not r ≡ true → r ≡ test i → false ≡ goal
-  unfolding every numbers_from
-  left_failed {r} h e g = let p : test i ≡ false = sym g ∙ not-true r e in simp p at (rw (one_more i n h) at l.decides)
-
-  pub left_end : n ≤ i → true ≡ goal
-  unfolding every numbers_from
-  left_end h = rw (none_left i n h) at l.decides
 
 -- ---- the numbers of a list that pass a test, stored from another's start on: those of what is left are still to be stored
 

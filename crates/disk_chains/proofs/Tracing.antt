@@ -2,16 +2,16 @@
 -- Assumes nothing.
 use Prim.Native.Nat.{ℕ, suc, ◌+◌, ◌-◌, ◌*◌, ◌≤◌, ◌<◌}
 use mathlib.Core.Path.{◌≡◌, refl, sym, ◌∙◌}
-use mathlib.Core.Bool.{Bool, true, false, not, ◌&&◌, and-true}
+use mathlib.Core.Bool.{Bool, true, false, not, ◌&&◌}
 use mathlib.Core.List.{List, [], ◌∷◌}
-use lib.Dec.{leb, ltb, eqb}
+use lib.Dec.{leb, ltb}
 use lib.ListN.{length, set, length-set}
 use lib.Seq.{sets}
 use native.Mathlib.Numerals.{add-one}
 use native.Mathlib.Omega.{arith}
 use mir.Val.{Fits}
 use mir.Syntax.{w64}
-use borrow.Author.Tests.{lt-ltb, le-ltb, le-leb, lt-leb, leb-true, ltb-true, not-true, not-false}
+use borrow.Author.Tests.{leb-true, ltb-true, not-true, not-false}
 use Rattle.base_steps.specs.Again.{again}
 use Rattle.disk_rules.specs.Links.{link_at}
 use Rattle.disk_rules.specs.Chains.{Chain, may_hold, may_end, chain_onward}
@@ -30,25 +30,6 @@ and_right true b e = e
 and_right false b e = let z : ◌≡◌ {A = Bool} false true = e in absurd (let y : ◌≡◌ {A = ℕ} 0 1 = cc in omega arith)
 
 -- ---- where a chain may go
-
-module _ {dir : Bool} (n : ℕ) where
-  pub low_hold : dir ≡ true → n < 358 → false ≡ may_hold dir n
-  low_hold e h = rw e (simp (lt-leb 358 n h))
-
-  pub on_hold : dir ≡ true → 358 ≤ n → leb n 375 ≡ may_hold dir n
-  on_hold e h = rw e (simp (le-leb 358 n h))
-
-  pub below_hold : dir ≡ false → n < 357 → true ≡ may_hold dir n
-  below_hold e h = let g : n < 683 = omega arith in rw e (simp (lt-ltb n 683 g, lt-ltb n 357 h))
-
-  pub off_hold : dir ≡ false → 357 ≤ n → n ≤ 375 → false ≡ may_hold dir n
-  off_hold e h i = let g : n < 683 = omega arith in rw e (simp (lt-ltb n 683 g, le-ltb n 357 h, le-ltb 375 n i))
-
-  pub behind_hold : dir ≡ false → 357 ≤ n → 375 < n → ltb n 683 ≡ may_hold dir n
-  behind_hold e h i = rw e (simp (le-ltb n 357 h, lt-ltb 375 n i, and-true))
-
-  pub end_hold : dir ≡ false → not (eqb n 0) ≡ may_end dir n
-  end_hold e = rw e
 
 pub held_below : (dir : Bool) (n : ℕ) → may_hold dir n ≡ true → n < 683
 held_below true n e = let h : n ≤ 375 = leb-true n 375 (and_right (leb 358 n) (leb n 375) e) in omega arith
@@ -94,22 +75,24 @@ module _ {dir : Bool} {d : List ℕ} {c : Chain} {log₀ : List ℕ} {at : ℕ} 
   abbrev traced : Bool → Traced
   traced e = record { to = to; ends = e }
 
-  one_more : to < length log → length log₀ - to ≡ suc (length log₀ - (to + 1))
+  one_more : to < length log₀ → length log₀ - to ≡ suc (length log₀ - (to + 1))
   one_more h = omega (arith, t.sized)
 
   -- the log is full
-  pub trace_full : length log ≤ to → Traces c log₀ at (record { to = to; ends = false }) log
+  pub trace_full : length log₀ ≤ to → Traces c log₀ at (record { to = length log; ends = false }) log
   unfolding again
   trace_full h =
-      let z : length log₀ - to ≡ 0 = omega (arith, t.sized) in owes_none t.within (rw z at t.owes)
+      let z : length log₀ - to ≡ 0 = omega arith in
+      let e : to ≡ length log = omega (arith, t.sized, t.within) in
+      rw (← e) (owes_none t.within (rw z at t.owes))
 
-  pub trace_not : {r : Bool} → to < length log → not r ≡ true → r ≡ may_hold dir n → Traces c log₀ at (record { to = to; ends = false }) log
+  pub trace_not : {r : Bool} → to < length log₀ → not r ≡ true → r ≡ may_hold dir n → Traces c log₀ at (record { to = to; ends = false }) log
   unfolding again
   trace_not {r} h e g =
       let m : may_hold dir n ≡ false = sym g ∙ not-true r e in
       owes_none t.within (simp m at (rw (one_more h) at t.owes))
 
-  module _ {r : Bool} (h : to < length log) (e : not r ≡ false) (g : r ≡ may_hold dir n) where
+  module _ {r : Bool} (h : to < length log₀) (e : not r ≡ false) (g : r ≡ may_hold dir n) where
     held : may_hold dir n ≡ true
     held = sym g ∙ not-false r e
 

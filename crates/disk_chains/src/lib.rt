@@ -11,7 +11,8 @@ ghost use Rattle.disk_chains.specs.ChainHelpers.{Sectors, Traces, Marks, Marked,
 use disk_rules::Link;
 use disk_sectors::{bit_at, is_free, link_at, mark, sectors_before, sectors_on};
 
-// A chain that was followed: the place behind its last sector in the log, and whether it ends as it should.
+// A chain that was followed: the place behind its last sector in the log, and whether it ends as it should. The place is told of each chain, since a
+// caller with a sound disk has no use for an arm where it does not end.
 #[derive(Clone, Copy)]
 pub struct Traced {
     pub to: usize,
@@ -19,32 +20,21 @@ pub struct Traced {
 }
 
 // Whether a chain, the directory's or a file's, may go over a sector.
-fn may_hold(directory: bool, n: usize) -> bool
+pub fn may_hold(directory: bool, n: usize) -> bool
     ensures { result ≡ may_hold directory n }
 {
     if directory {
-        if n < 358 {
-            return false;
-        }
-        return n <= 375;
+        matches!(n, 358..=375)
+    } else {
+        matches!(n, 0..=356 | 376..=682)
     }
-    if n < 357 {
-        return true;
-    }
-    if n <= 375 {
-        return false;
-    }
-    n < 683
 }
 
 // Whether it may end with this second byte.
-fn may_end(directory: bool, byte: u8) -> bool
+pub fn may_end(directory: bool, byte: u8) -> bool
     ensures { result ≡ may_end directory byte }
 {
-    if directory {
-        return true;
-    }
-    byte != 0
+    directory || byte != 0
 }
 
 // Follows the chain from a sector on and logs its sectors from a place on: at most as many as the log has room for.
@@ -53,27 +43,25 @@ pub fn trace(disk: &[u8], directory: bool, first: usize, log: &mut [usize], at: 
     ensures { Traces (chain_within directory (length log.old - at) disk.now first) log.old at result log.new }
 {
     let mut n = first;
-    let mut to = at;
-    while to < log.len() {
+    for i in at..log.len() {
         if !may_hold(directory, n) {
-            return Traced { to, ends: false };
+            return Traced { to: i, ends: false };
         }
-        log[to] = n;
-        to += 1;
+        log[i] = n;
+        let to = i + 1;
         match link_at(disk, 256 * n) {
             Link::Last(byte) => {
                 let ends = may_end(directory, byte);
                 return Traced { to, ends };
             }
-            Link::To(next) => {
-                n = next;
-            }
-            Link::Astray => {
-                return Traced { to, ends: false };
-            }
+            Link::To(next) => n = next,
+            Link::Astray => return Traced { to, ends: false },
         }
     }
-    Traced { to, ends: false }
+    Traced {
+        to: log.len(),
+        ends: false,
+    }
 }
 
 // Marks each sector of a list, from its end on, until one is marked already.
@@ -81,9 +69,7 @@ fn mark_once(list: &[usize], marks: &mut [bool]) -> bool
     requires { Sectors list.now × Marks marks.old [] }
     ensures { Marked list.now result marks.new }
 {
-    let mut i = list.len();
-    while i > 0 {
-        i -= 1;
+    for i in (0..list.len()).rev() {
         let n = list[i];
         if marks[n] {
             return false;
@@ -112,26 +98,19 @@ fn bit_agrees(disk: &[u8], marks: &[bool], track: usize, sector: usize) -> bool
     }
     let bit = bit_at(disk, track, sector);
     if sector >= sectors_on(track) {
-        return bit == 0; // no such sector is there to be free
+        bit == 0 // no such sector is there to be free
+    } else if marks[sectors_before(track) + sector] {
+        bit == 0
+    } else {
+        bit == 1
     }
-    if marks[sectors_before(track) + sector] {
-        return bit == 0;
-    }
-    bit == 1
 }
 
 fn map_agrees(disk: &[u8], marks: &[bool]) -> bool
     requires { (length disk.now ≡ 174848) × (length marks.now ≡ 683) }
     ensures { result ≡ map_agrees disk.now (λ n. get_or marks.now n false) }
 {
-    let mut i: usize = 0;
-    while i < 840 {
-        if !bit_agrees(disk, marks, 1 + i / 24, i % 24) {
-            return false;
-        }
-        i += 1;
-    }
-    true
+    (0..840).all(|i| bit_agrees(disk, marks, 1 + i / 24, i % 24))
 }
 
 // Whether no sector stands in a list twice, and off track 18 the map calls free exactly those that do not stand in it.
@@ -140,10 +119,7 @@ pub fn accounted(disk: &[u8], met: &[usize]) -> bool
     ensures { result ≡ (none_twice met.now && map_agrees disk.now (is_in met.now)) }
 {
     let mut marks = [false; 683];
-    if !mark_once(met, &mut marks) {
-        return false;
-    }
-    map_agrees(disk, &marks)
+    mark_once(met, &mut marks) && map_agrees(disk, &marks)
 }
 
 // Lists the free sectors off track 18, the lowest first.
@@ -152,10 +128,7 @@ pub fn free_sectors(disk: &[u8], list: &mut [usize]) -> usize
     ensures { Lists (free_sectors disk.now) list.old result list.new }
 {
     let mut count: usize = 0;
-    let mut next: usize = 0;
-    while next < 683 {
-        let n = next;
-        next += 1;
+    for n in 0..683 {
         if is_free(disk, n) {
             list[count] = n;
             count += 1;
@@ -169,9 +142,7 @@ pub fn mark_all(disk: &mut [u8], list: &[usize], free: bool)
     requires { (length disk.old ≡ 174848) × Sectors list.now }
     ensures { disk.new ≡ marked_all disk.old list.now free }
 {
-    let mut at: usize = 0;
-    while at < list.len() {
-        mark(disk, list[at], free);
-        at += 1;
+    for n in list {
+        mark(disk, *n, free);
     }
 }

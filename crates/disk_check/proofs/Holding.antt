@@ -1,71 +1,50 @@
 -- The check, test by test.
 -- Assumes nothing.
 use Prim.Native.Nat.{ℕ}
-use mathlib.Core.Path.{◌≡◌, sym, ◌∙◌}
-use mathlib.Core.Bool.{Bool, true, false, not, ◌&&◌}
+use mathlib.Core.Path.{◌≡◌, refl, sym, ◌∙◌}
+use mathlib.Core.Bool.{Bool, true, false, ◌&&◌}
 use mathlib.Core.List.{List}
+use lib.Dec.{eqb}
 use lib.ListN.{length, get_or, take}
-use borrow.Author.Tests.{eq-eqb, ne_eqb, not-true, not-false}
+use borrow.Author.Tests.{eq-eqb}
 use Rattle.disk_rules.specs.Lists.{is_in, none_twice}
 use Rattle.disk_rules.specs.Chains.{Chain}
 use Rattle.disk_rules.specs.Free.{map_agrees}
 use Rattle.disk_rules.specs.Entries.{entries_good}
-use Rattle.disk_rules.specs.CountedHelpers.{directory_within, listed_within, chains_within, sound_within}
 use Rattle.disk_chains.specs.ChainHelpers.{Traces}
 use Rattle.disk_chains.specs.declared.Traced.{Traced}
 use Rattle.disk_check.proofs.Looking.{logged_start}
+use Rattle.disk_rules.specs.CountedHelpers.{directory_within, listed_within, chains_within, sound_within}
 
--- the chains of the listed entries, within the log
-abbrev logged : List ℕ → Chain
-logged d = chains_within 683 d (listed_within 18 d)
+-- a test that was made where those before it held
+pub and_made : {v w x y : Bool} → v ≡ true → w ≡ x → x ≡ y → w ≡ (v && y)
+and_made e f g = rw (e, f, g)
 
-module _ (d : List ℕ) (s : length d ≡ 174848) where
-  pub not_track : (get_or d 91392 0 ≡ 18 → ⊥) → false ≡ sound_within 18 683 d
-  unfolding sound_within
-  not_track a = simp (eq-eqb (length d) 174848 s, ne_eqb (get_or d 91392 0) 18 a)
+pub and_left_out : {v w : Bool} (y : Bool) → v ≡ false → w ≡ v → w ≡ (v && y)
+and_left_out y e f = rw (f, e)
 
-  module _ (a : get_or d 91392 0 ≡ 18) where
-    pub not_sector : (get_or d 91393 0 ≡ 1 → ⊥) → false ≡ sound_within 18 683 d
-    unfolding sound_within
-    not_sector b = simp (eq-eqb (length d) 174848 s, eq-eqb (get_or d 91392 0) 18 a, ne_eqb (get_or d 91393 0) 1 b)
+regrouped : (a b c d : Bool) → (a && (b && (c && d))) ≡ (a && b && c && d)
+regrouped false b c d = refl
+regrouped true false c d = refl
+regrouped true true c d = refl
 
-    module _ (b : get_or d 91393 0 ≡ 1) where
-      -- the tests that are left
-      left : sound_within 18 683 d ≡ ((directory_within 18 d).ends && none_twice (directory_within 18 d).sectors && entries_good d (listed_within 18 d) && (logged d).ends && none_twice (logged d).sectors && map_agrees d (is_in (logged d).sectors))
-      unfolding sound_within
-      left = simp (eq-eqb (length d) 174848 s, eq-eqb (get_or d 91392 0) 18 a, eq-eqb (get_or d 91393 0) 1 b)
+-- what the chains of files tell
+abbrev pub chains_told : List ℕ → List ℕ → Bool
+chains_told d files =
+    (chains_within 683 d files).ends && (none_twice (chains_within 683 d files).sectors && map_agrees d (is_in (chains_within 683 d files).sectors))
 
-      pub not_ending : {e : Bool} → e ≡ (directory_within 18 d).ends → not e ≡ true → false ≡ sound_within 18 683 d
-      not_ending {e} f g = let h : (directory_within 18 d).ends ≡ false = sym f ∙ not-true e g in rw (left, h)
+pub all_held : (d sectors files : List ℕ) → length d ≡ 174848 → sectors ≡ (directory_within 18 d).sectors → files ≡ listed_within 18 d → {v w x y r ends : Bool}
+    → ends ≡ (directory_within 18 d).ends → v ≡ (eqb (get_or d 91392 0) 18 && eqb (get_or d 91393 0) 1) → w ≡ (v && ends) → x ≡ (w && none_twice sectors)
+    → y ≡ (x && entries_good d files) → r ≡ (y && chains_told d files) → r ≡ sound_within 18 683 d
+unfolding sound_within
+all_held d sectors files s i j k a b c e f =
+    let dir : Chain = directory_within 18 d in
+    let met : Chain = chains_within 683 d (listed_within 18 d) in
+    simp (eq-eqb (length d) 174848 s)
+    (rw (f, e, c, b, a, k, i, j)
+    (regrouped (eqb (get_or d 91392 0) 18 && eqb (get_or d 91393 0) 1 && dir.ends && none_twice dir.sectors && entries_good d (listed_within 18 d)) met.ends (none_twice met.sectors) (map_agrees d (is_in met.sectors))))
 
-      module _ {e : Bool} (f : e ≡ (directory_within 18 d).ends) (g : not e ≡ false) where
-        ending : (directory_within 18 d).ends ≡ true
-        ending = sym f ∙ not-false e g
-
-        pub met_twice : {q : Bool} {l : List ℕ} → l ≡ (directory_within 18 d).sectors → q ≡ none_twice l → not q ≡ true → false ≡ sound_within 18 683 d
-        met_twice {q} i h j = let k : none_twice (directory_within 18 d).sectors ≡ false = sym (rw i at h) ∙ not-true q j in rw (left, ending, k)
-
-        module _ {q : Bool} {l : List ℕ} (i : l ≡ (directory_within 18 d).sectors) (h : q ≡ none_twice l) (j : not q ≡ false) where
-          once : none_twice (directory_within 18 d).sectors ≡ true
-          once = sym (rw i at h) ∙ not-false q j
-
-          module _ {r : Bool} {m : List ℕ} (n : m ≡ listed_within 18 d) (o : r ≡ entries_good d m) where
-            pub not_good : not r ≡ true → false ≡ sound_within 18 683 d
-            not_good p = let k : entries_good d (listed_within 18 d) ≡ false = sym (rw n at o) ∙ not-true r p in rw (left, ending, once, k)
-
-            module _ (p : not r ≡ false) where
-              good : entries_good d (listed_within 18 d) ≡ true
-              good = sym (rw n at o) ∙ not-false r p
-
-              module _ {log : List ℕ} {x : Traced} {after : List ℕ} (t : Traces (chains_within 683 d m) log 0 x after) where
-                through : Traces (logged d) log 0 x after
-                through = rw n at t
-
-                pub not_through : not x.ends ≡ true → false ≡ sound_within 18 683 d
-                not_through u = let k : (logged d).ends ≡ false = sym through.ends ∙ not-true x.ends u in rw (left, ending, once, good, k)
-
-                pub all_told : {v : Bool} → not x.ends ≡ false → v ≡ (none_twice (take x.to after) && map_agrees d (is_in (take x.to after)))
-                    → v ≡ sound_within 18 683 d
-                all_told u w =
-                    let k : (logged d).ends ≡ true = sym through.ends ∙ not-false x.ends u in
-                    rw (left, ending, once, good, k) (rw (logged_start through) at w)
+pub chains_met : (d files : List ℕ) {log : List ℕ} {t : Traced} {after : List ℕ} → Traces (chains_within 683 d files) log 0 t after → t.ends ≡ true → {q : Bool}
+    → q ≡ (none_twice (take t.to after) && map_agrees d (is_in (take t.to after))) → q ≡ chains_told d files
+chains_met d files t e f =
+    let g : (chains_within 683 d files).ends ≡ true = sym t.ends ∙ e in rw g (rw (logged_start t) at f)

@@ -23,6 +23,8 @@ use Rattle.disk_chains.specs.ChainHelpers.{Sectors, Traces, Lists}
 use Rattle.disk_chains.specs.declared.Traced.{Traced}
 use Rattle.disk_chains.proofs.Tracing.{held_below}
 use Rattle.disk_entries.specs.EntryHelpers.{Entries}
+use Rattle.std.specs.Prelude.{Some, None}
+use Rattle.disk_rules.specs.Check.{sound}
 use Rattle.disk_check.specs.SoundHelpers.{Looks}
 
 -- ---- numbers
@@ -182,13 +184,20 @@ module _ (d : List ℕ) {log : List ℕ} {t : Traced} {after : List ℕ} (e : le
     pub seen_listed : take f after' ≡ listed_within 18 d
     seen_listed = rw seen_directory at (listed_start y (omega (arith, y.counts, seen_in)))
 
-    pub seen_all : {v : Bool} → v ≡ sound_within 18 683 d → Looks d (record { sectors = t.to; files = f; sound = v }) after after'
-    seen_all v =
+    verdict : {v : Bool} → v ≡ sound_within 18 683 d → v ≡ sound d
+    verdict v = v ∙ sound_counted 18 683 d (omega arith) (omega arith)
+
+    pub seen_all : {v : Bool} → v ≡ true → v ≡ sound_within 18 683 d → Looks d (Some (record { sectors = t.to; files = f })) after after'
+    seen_all e v =
+        let s : sound d ≡ true = sym (verdict v) ∙ e in
         record {
-          verdict = v ∙ sound_counted 18 683 d (omega arith) (omega arith);
+          verdict = s;
           few = seen_few;
-          sectors = λ s. seen_directory ∙ ap (λ (c : Chain). c.sectors) (directory_counted d s);
+          sectors = seen_directory ∙ ap (λ (c : Chain). c.sectors) (directory_counted d s);
           many = omega (arith, seen_in);
-          counts = λ s. rw seen_directory at y.counts ∙ ap (λ (c : Chain). length (entries_that true d c.sectors)) (directory_counted d s);
-          files = λ s. seen_listed ∙ ap (λ (c : Chain). entries_that true d c.sectors) (directory_counted d s);
+          counts = rw seen_directory at y.counts ∙ ap (λ (c : Chain). length (entries_that true d c.sectors)) (directory_counted d s);
+          files = seen_listed ∙ ap (λ (c : Chain). entries_that true d c.sectors) (directory_counted d s);
         }
+
+    pub seen_none : {v : Bool} → v ≡ false → v ≡ sound_within 18 683 d → Looks d None after after'
+    seen_none e v = sym (verdict v) ∙ e

@@ -24,11 +24,11 @@ use Rattle.disk_rules.specs.Free.{free_sectors}
 use Rattle.disk_rules.specs.Check.{sound}
 use Rattle.disk_chains.specs.ChainHelpers.{Traces, Lists}
 use Rattle.disk_chains.specs.declared.Traced.{Traced}
-use Rattle.disk_check.specs.SoundHelpers.{Looks}
+use Rattle.disk_check.specs.SoundHelpers.{Saw}
 use Rattle.disk_check.specs.declared.Seen.{Seen}
 use Rattle.disk_entries.specs.EntryHelpers.{Entries}
 use Rattle.disk_check.proofs.Looking.{known_entries}
-use Rattle.disk.proofs.Locating.{not_long, look_sound}
+use Rattle.disk.proofs.Locating.{not_long}
 use Rattle.disk_names.specs.Names.{name_shown}
 use Rattle.disk_directory.specs.Listing.{file_line, file_lines, free_line, directory_text}
 
@@ -85,13 +85,19 @@ entry_listed d {l} {i} e h = ap (λ (x : List ℕ). is_in x (get_or l i 0)) (sym
 
 -- ---- the whole
 
-module _ {d : List ℕ} {s : Seen} {a b : List ℕ} (k : Looks d s a b) where
-  pub look_files : not s.sound ≡ false → take s.files b ≡ listed d
-  look_files e = k.files (look_sound k e)
+module _ {d : List ℕ} {s : Seen} {a b : List ℕ} (k : Saw d s a b) where
+  pub saw_sound : sound d ≡ true
+  saw_sound = k.verdict
 
-  pub text_put : not s.sound ≡ false → {buffer o1 o2 : List ℕ} {m1 m2 : ℕ} → Clipped buffer 0 (file_lines d (take s.files b)) m1 o1 → Clipped o1 m1 (free_line d) m2 o2
+  pub saw_many : s.files ≤ 144
+  saw_many = k.many
+
+  pub look_files : take s.files b ≡ listed d
+  look_files = k.files
+
+  pub text_put : {buffer o1 o2 : List ℕ} {m1 m2 : ℕ} → Clipped buffer 0 (file_lines d (take s.files b)) m1 o1 → Clipped o1 m1 (free_line d) m2 o2
       → Clipped buffer 0 (directory_text d) m2 o2
-  text_put e p q = clip_both (file_lines d (listed d)) (free_line d) (clip_as (ap (file_lines d) (k.files (look_sound k e))) p) q
+  text_put p q = clip_both (file_lines d (listed d)) (free_line d) (clip_as (ap (file_lines d) k.files) p) q
 
 pub long_put : (d out : List ℕ) → (length d ≡ 174848 → ⊥) → (sound d ≡ false) × (numbered BadDisk ≡ bad_disk) × (out ≡ out)
 long_put d out z = (not_long d z, refl, refl)

@@ -32,11 +32,9 @@ fn put_files(out: &mut [u8], disk: &[u8], files: &[usize]) -> usize
     requires { (length disk.now ≡ 174848) × (sound disk.now ≡ true) × (files.now ≡ listed disk.now) }
     ensures { Clipped out.old 0 (file_lines disk.now files.now) result out.new }
 {
-    let mut i: usize = 0;
     let mut to: usize = 0;
-    while i < files.len() {
-        to = put_file(out, to, disk, files[i]);
-        i += 1;
+    for p in files {
+        to = put_file(out, to, disk, *p);
     }
     to
 }
@@ -60,10 +58,9 @@ pub fn put_directory(disk: &[u8], out: &mut [u8]) -> Result<usize, Refusal>
     }
     let mut sectors = [0usize; 18];
     let mut files = [0usize; 144];
-    let seen = look(disk, &mut sectors, &mut files);
-    if !seen.sound {
+    let Some(seen) = look(disk, &mut sectors, &mut files) else {
         return Err(Refusal::BadDisk);
-    }
+    };
     let count = seen.files;
     let at = put_files(out, disk, &files[..count]);
     Ok(put_free(out, at, disk))

@@ -3,6 +3,7 @@
 use Prim.Native.Nat.{ℕ, suc, ◌+◌, ◌-◌, ◌≤◌, ◌<◌}
 use mathlib.Core.Path.{◌≡◌, refl, sym, ap, ◌∙◌}
 use mathlib.Core.Bool.{true, false, not}
+use mathlib.Core.Logic.{◌⊎◌, inl, inr}
 use mathlib.Core.List.{List, [], ◌++◌}
 use lib.ListN.{length, get_or, drop, drop_of_length-le, length-append}
 use lib.Seq.{sets, length-sets, drop-cons}
@@ -33,11 +34,9 @@ module _ (d log : List ℕ) (p at : ℕ) {l : Link} (e : l ≡ link_at d (p + 1)
   nothing : at ≤ length log → Traces broken_chain log at (record { to = at; ends = false }) log
   nothing h = record { to = omega arith; within = h; ends = refl; logged = refl }
 
-  pub entry_last : {b : ℕ} → l ≡ Last b → at ≤ length log → Traces (chain_of_within (length log - at) d p) log at (record { to = at; ends = false }) log
-  entry_last f h = rw (chained f) at (nothing h)
-
-  pub entry_astray : l ≡ Astray → at ≤ length log → Traces (chain_of_within (length log - at) d p) log at (record { to = at; ends = false }) log
-  entry_astray f h = rw (chained f) at (nothing h)
+  pub entry_none : ((b : ℕ) × (l ≡ Last b)) ⊎ (l ≡ Astray) → at ≤ length log → Traces (chain_of_within (length log - at) d p) log at (record { to = at; ends = false }) log
+  entry_none (inl (b, f)) h = rw (chained f) at (nothing h)
+  entry_none (inr f) h = rw (chained f) at (nothing h)
 
 -- ---- all
 
@@ -75,14 +74,14 @@ module _ {d l log₀ log : List ℕ} {at i : ℕ} (f : Following d l log₀ log 
     unfolding chains_within
     owed = rw f.sized (rw (drop-cons l i 0 h) at f.owes)
 
-    pub follow_broken : not r.ends ≡ true → Traces (chains_within (length log₀) d l) log₀ 0 (record { to = r.to; ends = false }) after
+    pub follow_broken : not r.ends ≡ true → Traces (chains_within (length log₀) d l) log₀ 0 r after
     follow_broken e =
         let b : this.ends ≡ false = sym t.ends ∙ not-true r.ends e in
         let o : Owes (chains_within (length log₀) d l) log₀ 0 this log at = simp b at owed in
         record {
           to = t.to ∙ o.counts;
           within = omega (arith, t.within, f.sized);
-          ends = sym b ∙ o.ends;
+          ends = t.ends ∙ o.ends;
           logged = t.logged ∙ o.logs;
         }
 

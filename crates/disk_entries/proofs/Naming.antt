@@ -2,7 +2,7 @@
 -- Assumes nothing.
 use Prim.Native.Nat.{ℕ, suc, ◌+◌, ◌-◌, ◌≤◌, ◌<◌}
 use mathlib.Core.Path.{◌≡◌, refl, sym, ap, ◌∙◌}
-use mathlib.Core.Bool.{Bool, true, false, ◌&&◌}
+use mathlib.Core.Bool.{Bool, true, false, not, cond, ◌&&◌}
 use mathlib.Core.List.{List, [], ◌∷◌, ◌++◌, append-nil}
 use lib.Dec.{eqb}
 use lib.ListN.{length, get_or, take, drop, length-take, drop_of_length-le}
@@ -10,33 +10,26 @@ use lib.Seq.{drop-cons, take-suc, append_snoc, take-take}
 use native.Mathlib.Numerals.{add-one}
 use native.Mathlib.Omega.{arith}
 use borrow.Author.Tests.{eq-eqb, ne_eqb, eqb-true}
+use Rattle.std.specs.List.{prefix_len}
 use Rattle.disk_rules.specs.Entries.{before_a0, name_at, same_name, is_named}
 use Rattle.disk_entries.specs.EntryHelpers.{Before}
 
--- of the bytes before the first A0, so many were passed
-pub record Passed (bytes : List ℕ) (i : ℕ) : Type 0 where
-  pub within : i ≤ length bytes
-  pub are : take i bytes ++ before_a0 (drop i bytes) ≡ before_a0 bytes
+abbrev pub not_a0 : ℕ → Bool
+not_a0 b = not (eqb b 0xA0)
 
-pub pass_start : (bytes : List ℕ) → Passed bytes 0
-pass_start bytes = record { within = omega arith; are = refl }
+before_prefix : (bytes : List ℕ) → Before bytes (prefix_len not_a0 bytes)
+unfolding before_a0
+before_prefix [] = record { within = omega arith; are = refl }
+before_prefix (b ∷ bytes) = record { within = (go (eqb b 0xA0) (before_prefix bytes)).0; are = (go (eqb b 0xA0) (before_prefix bytes)).1 } where
+  go : (q : Bool) → Before bytes (prefix_len not_a0 bytes)
+      → (cond (not q) (1 + prefix_len not_a0 bytes) 0 ≤ suc (length bytes)) × (take (cond (not q) (1 + prefix_len not_a0 bytes) 0) (b ∷ bytes) ≡ cond q [] (b ∷ before_a0 bytes))
+  go true f = (omega arith, refl)
+  go false f =
+      let e : 1 + prefix_len not_a0 bytes ≡ suc (prefix_len not_a0 bytes) = omega arith in
+      (omega (arith, f.within), rw e (ap (λ (l : List ℕ). b ∷ l) f.are))
 
-module _ {bytes : List ℕ} {i : ℕ} (p : Passed bytes i) where
-  pub pass_end : length bytes ≤ i → Before bytes i
-  unfolding before_a0
-  pass_end h = record { within = p.within; are = rw (drop_of_length-le bytes {i = i} h, append-nil) at p.are }
-
-  pub pass_a0 : i < length bytes → get_or bytes i 0 ≡ 0xA0 → Before bytes i
-  unfolding before_a0
-  pass_a0 h e = record { within = p.within; are = rw append-nil at (simp (eq-eqb (get_or bytes i 0) 0xA0 e) at (rw (drop-cons bytes i 0 h) at p.are)) }
-
-  pub pass_turn : i < length bytes → (get_or bytes i 0 ≡ 0xA0 → ⊥) → Passed bytes (i + 1)
-  unfolding before_a0
-  pass_turn h e =
-      let a : take i bytes ++ (get_or bytes i 0 ∷ before_a0 (drop (suc i) bytes)) ≡ before_a0 bytes =
-      simp (ne_eqb (get_or bytes i 0) 0xA0 e) at (rw (drop-cons bytes i 0 h) at p.are)
-      in
-      record { within = omega arith; are = rw (add-one, take-suc bytes i 0 h, append_snoc) a }
+pub before_counted : (bytes : List ℕ) {n : ℕ} → n ≡ prefix_len not_a0 bytes → Before bytes n
+before_counted bytes e = rw e (before_prefix bytes)
 
 -- the part of a disk that is an entry's name
 module _ (d : List ℕ) (p : ℕ) {n : ℕ} (h : p + 30 ≤ length d) (b : Before (take (p + 19 - (p + 3)) (drop (p + 3) d)) n) where

@@ -1,4 +1,4 @@
--- What the contracts of the helpers in this crate say of lists in the caller's hands, and of a search.
+-- What the contracts of the helpers in this crate say of lists in the caller's hands.
 -- Assumes nothing.
 use Rattle.std.specs.Prelude.{ℕ, suc, ◌+◌, ◌≤◌, ◌<◌, ◌≡◌, Bool, cond, List, [], ◌∷◌, length, get_or, take}
 use Rattle.disk_rules.specs.Entries.{before_a0}
@@ -11,8 +11,3 @@ pub record Entries (l : List ℕ) : Type 0 where
 pub record Before (bytes : List ℕ) (count : ℕ) : Type 0 where
   pub within : count ≤ length bytes
   pub are : take count bytes ≡ before_a0 bytes
-
--- the place of the first number of a list that passes a test; the list's length where none does
-unfoldable pub first_entry : (ℕ → Bool) → List ℕ → ℕ
-first_entry test [] = 0
-first_entry test (n ∷ ns) = cond (test n) 0 (suc (first_entry test ns))

@@ -1,11 +1,11 @@
 // The directory's entries: where they stand, their names, and the chains of files.
 #![tactic(auto)]
 
-ghost use Rattle.std.specs.Prelude.{◌≡◌, ◌+◌, ◌*◌, ◌-◌, ◌≤◌, ◌<◌, length};
+ghost use Rattle.std.specs.Prelude.{◌≡◌, ◌+◌, ◌*◌, ◌-◌, ◌≤◌, ◌<◌, length, find};
 ghost use Rattle.disk_rules.specs.Entries.{entry_at, is_that, entries_that, name_at, is_named, entries_good};
 ghost use Rattle.disk_rules.specs.CountedHelpers.{chain_of_within, chains_within};
 ghost use Rattle.disk_chains.specs.ChainHelpers.{Sectors, Traces, Lists};
-ghost use Rattle.disk_entries.specs.EntryHelpers.{Entries, Before, first_entry};
+ghost use Rattle.disk_entries.specs.EntryHelpers.{Entries, Before};
 
 use disk_chains::{Traced, trace};
 use disk_rules::Link;
@@ -24,10 +24,7 @@ fn is_that(disk: &[u8], p: usize, listed: bool) -> bool
     requires { p < length disk.now }
     ensures { result ≡ is_that listed disk.now p }
 {
-    if listed {
-        return disk[p] != 0;
-    }
-    disk[p] == 0
+    (disk[p] != 0) == listed
 }
 
 // Lists the entries that are listed, or those that are not, in the chain's order.
@@ -37,10 +34,8 @@ pub fn entries_that(disk: &[u8], sectors: &[usize], listed: bool, list: &mut [us
 {
     let end = 8 * sectors.len();
     let mut count: usize = 0;
-    let mut next: usize = 0;
-    while next < end {
-        let p = entry_at(sectors, next);
-        next += 1;
+    for e in 0..end {
+        let p = entry_at(sectors, e);
         if is_that(disk, p, listed) {
             list[count] = p;
             count += 1;
@@ -53,14 +48,7 @@ pub fn entries_that(disk: &[u8], sectors: &[usize], listed: bool, list: &mut [us
 fn before_a0(bytes: &[u8]) -> usize
     ensures { Before bytes.now result }
 {
-    let mut i: usize = 0;
-    while i < bytes.len() {
-        if bytes[i] == 0xA0 {
-            return i;
-        }
-        i += 1;
-    }
-    i
+    bytes.iter().take_while(|byte| **byte != 0xA0).count()
 }
 
 // An entry's name, as that part of the disk.
@@ -81,19 +69,17 @@ fn is_named(disk: &[u8], p: usize, name: &[u8]) -> bool
     check::same(name_at(disk, p), name)
 }
 
-// The place of the first entry with a name in a list of entries; the list's length where there is none.
-pub fn find(disk: &[u8], entries: &[usize], name: &[u8]) -> usize
+// The first entry with a name in a list of entries.
+pub fn find(disk: &[u8], entries: &[usize], name: &[u8]) -> Option<usize>
     requires { (length disk.now ≡ 174848) × Entries entries.now }
-    ensures { result ≡ first_entry (is_named disk.now name.now) entries.now }
+    ensures { result ≡ find (is_named disk.now name.now) entries.now }
 {
-    let mut i: usize = 0;
-    while i < entries.len() {
-        if is_named(disk, entries[i], name) {
-            return i;
+    for p in entries {
+        if is_named(disk, *p, name) {
+            return Some(*p);
         }
-        i += 1;
     }
-    i
+    None
 }
 
 // Whether each entry is of type 82, and none behind it has its name.
@@ -101,15 +87,11 @@ pub fn entries_good(disk: &[u8], entries: &[usize]) -> bool
     requires { (length disk.now ≡ 174848) × Entries entries.now }
     ensures { result ≡ entries_good disk.now entries.now }
 {
-    let mut i: usize = 0;
-    while i < entries.len() {
-        let p = entries[i];
-        i += 1;
-        if disk[p] != 0x82 {
+    for (i, p) in entries.iter().enumerate() {
+        if disk[*p] != 0x82 {
             return false;
         }
-        let behind = &entries[i..];
-        if find(disk, behind, name_at(disk, p)) < behind.len() {
+        if find(disk, &entries[i + 1..], name_at(disk, *p)).is_some() {
             return false; // two of one name
         }
     }
@@ -123,11 +105,7 @@ pub fn trace_entry(disk: &[u8], p: usize, log: &mut [usize], at: usize) -> Trace
 {
     match link_at(disk, p + 1) {
         Link::To(first) => trace(disk, false, first, log, at),
-        Link::Last(_) => Traced {
-            to: at,
-            ends: false,
-        },
-        Link::Astray => Traced {
+        Link::Last(_) | Link::Astray => Traced {
             to: at,
             ends: false,
         },
@@ -140,17 +118,12 @@ pub fn trace_all(disk: &[u8], entries: &[usize], log: &mut [usize]) -> Traced
     ensures { Traces (chains_within (length log.old) disk.now entries.now) log.old 0 result log.new }
 {
     let mut at: usize = 0;
-    let mut i: usize = 0;
-    while i < entries.len() {
-        let traced = trace_entry(disk, entries[i], log, at);
-        at = traced.to;
-        i += 1;
+    for p in entries {
+        let traced = trace_entry(disk, *p, log, at);
         if !traced.ends {
-            return Traced {
-                to: at,
-                ends: false,
-            };
+            return traced;
         }
+        at = traced.to;
     }
     Traced { to: at, ends: true }
 }

@@ -15,7 +15,7 @@ use Rattle.base_ascii.proofs.Ranges.{between_in}
 use Rattle.word_search.proofs.Search.{and_left, and_right}
 use Rattle.list_bytes.specs.ByteTexts.{hex_digits, hex_byte}
 use Rattle.disk_names.specs.Names.{digit_value, byte_form, character_byte, name_behind, name_given, byte_shown, name_shown}
-use Rattle.disk_names.specs.declared.Form.TheVariants.{Byte, Nothing}
+use Rattle.std.specs.Prelude.{Option, Some, None}
 use Rattle.disk_names.proofs.Naming.{form_short, form_open, form_byte}
 
 -- ---- the value of each hex digit
@@ -42,10 +42,10 @@ sixteen = tt
 -- ---- a byte, and what follows it
 
 -- a text that does not begin with a brace begins with no byte in braces
-no_brace : (b : ℕ) (s : List ℕ) → (b ≡ 0x7B → ⊥) → byte_form (b ∷ s) ≡ Nothing
+no_brace : (b : ℕ) (s : List ℕ) → (b ≡ 0x7B → ⊥) → byte_form (b ∷ s) ≡ None
 no_brace b s n = go (leb 4 (length (b ∷ s))) refl
   where
-    go : (r : Bool) → leb 4 (length (b ∷ s)) ≡ r → byte_form (b ∷ s) ≡ Nothing
+    go : (r : Bool) → leb 4 (length (b ∷ s)) ≡ r → byte_form (b ∷ s) ≡ None
     go true e = sym (form_open (b ∷ s) (leb-true _ _ e) n)
     go false e = sym (form_short (b ∷ s) (leb-false _ _ e))
 
@@ -68,7 +68,7 @@ back_braced b s h =
     let high : digit_value (get_or hex_digits (b / 16) 0) ≡ b / 16 = valued_at 16 sixteen (b / 16) (omega arith) in
     let low : digit_value (get_or hex_digits (b % 16) 0) ≡ b % 16 = valued_at 16 sixteen (b % 16) (omega arith) in
     let text : List ℕ = 0x7B ∷ get_or hex_digits (b / 16) 0 ∷ get_or hex_digits (b % 16) 0 ∷ 0x7D ∷ s in
-    let form : byte_form text ≡ Byte (16 * (b / 16) + b % 16) = sym (form_byte text (omega arith) refl refl (sym high) (omega arith) (sym low) (omega arith)) in
+    let form : byte_form text ≡ Some (16 * (b / 16) + b % 16) = sym (form_byte text (omega arith) refl refl (sym high) (omega arith) (sym low) (omega arith)) in
     let whole : 16 * (b / 16) + b % 16 ≡ b = omega arith in
     rw (name_behind, form, whole)
 

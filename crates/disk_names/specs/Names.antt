@@ -5,8 +5,7 @@
 use Rattle.std.specs.Prelude.{ℕ, zero, suc, ◌+◌, ◌-◌, ◌*◌, Bool, cond, not, ◌&&◌, List, [], ◌∷◌, ◌++◌, leb, eqb, length, get_or}
 use Rattle.base_ascii.specs.Bytes.{between, upper, is_digit}
 use Rattle.list_bytes.specs.ByteTexts.{hex_byte}
-use Rattle.disk_names.specs.declared.Form.{Form}
-use Rattle.disk_names.specs.declared.Form.TheVariants.{Byte, Nothing}
+use Rattle.std.specs.Prelude.{Option, Some, None}
 
 -- the value of a hex digit, small or capital, and 16 for any other byte
 unfoldable pub digit_value : ℕ → ℕ
@@ -14,12 +13,12 @@ unfolding between upper
 digit_value b = cond (is_digit b) (b - 48) (cond (between 65 70 (upper b)) (upper b - 55) 16)
 
 -- "two hex digits between braces", in front of a text
-unfoldable pub byte_form : List ℕ → Form
+unfoldable pub byte_form : List ℕ → Option ℕ
 unfolding digit_value
 byte_form s =
     cond (leb 4 (length s) && eqb (get_or s 0 0) 0x7B && eqb (get_or s 3 0) 0x7D && leb (digit_value (get_or s 1 0)) 15 && leb (digit_value (get_or s 2 0)) 15)
-    (Byte (16 * digit_value (get_or s 1 0) + digit_value (get_or s 2 0)))
-    Nothing
+    (Some (16 * digit_value (get_or s 1 0) + digit_value (get_or s 2 0)))
+    None
 
 -- any other character: its capital, or A0, which no name may hold
 unfoldable pub character_byte : ℕ → ℕ
@@ -31,7 +30,7 @@ unfoldable pub name_behind : ℕ → List ℕ → List ℕ
 unfolding byte_form character_byte
 name_behind k [] = []
 name_behind (suc k) (b ∷ s) = name_behind k s
-name_behind zero (b ∷ s) = elim (byte_form (b ∷ s)) [ Byte v ↦ v ∷ name_behind 3 s | Nothing ↦ character_byte b ∷ name_behind 0 s ]
+name_behind zero (b ∷ s) = elim (byte_form (b ∷ s)) [ Some v ↦ v ∷ name_behind 3 s | None ↦ character_byte b ∷ name_behind 0 s ]
 
 abbrev pub name_given : List ℕ → List ℕ
 name_given text = name_behind 0 text

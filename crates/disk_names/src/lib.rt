@@ -11,13 +11,6 @@ use base_ascii::search::Kind;
 use list_bytes::hex_digit;
 use say_put::put_text;
 
-// What a text begins with: two hex digits between braces, or something else.
-#[derive(Clone, Copy)]
-pub enum Form {
-    Byte(u8),
-    Nothing,
-}
-
 // The value of a hex digit, and 16 for any other byte.
 fn digit_value(b: u8) -> u8
     ensures { result ≡ digit_value b }
@@ -32,27 +25,28 @@ fn digit_value(b: u8) -> u8
     16
 }
 
-fn byte_form(s: &[u8]) -> Form
+// The byte that two hex digits between braces at a text's start stand for.
+fn byte_form(s: &[u8]) -> Option<u8>
     ensures { result ≡ byte_form s.now }
 {
     if s.len() < 4 {
-        return Form::Nothing;
+        return None;
     }
     if s[0] != b'{' {
-        return Form::Nothing;
+        return None;
     }
     if s[3] != b'}' {
-        return Form::Nothing;
+        return None;
     }
     let high = digit_value(s[1]);
     if high > 15 {
-        return Form::Nothing;
+        return None;
     }
     let low = digit_value(s[2]);
     if low > 15 {
-        return Form::Nothing;
+        return None;
     }
-    Form::Byte(16 * high + low)
+    Some(16 * high + low)
 }
 
 // The byte that a character stands for; A0, which no name may hold, where it stands for none.
@@ -74,11 +68,11 @@ pub fn given(text: &[u8], out: &mut [u8]) -> usize
     let mut to: usize = 0;
     while i < text.len() {
         match byte_form(&text[i..]) {
-            Form::Byte(byte) => {
+            Some(byte) => {
                 to = put_text(out, to, &[byte]);
                 i += 4;
             }
-            Form::Nothing => {
+            None => {
                 to = put_text(out, to, &[character(text[i])]);
                 i += 1;
             }
@@ -91,10 +85,7 @@ pub fn given(text: &[u8], out: &mut [u8]) -> usize
 fn is_shown(b: u8) -> bool
     ensures { result ≡ is_shown b }
 {
-    if b == 0x3D {
-        return false;
-    }
-    base_ascii::between(0x20, 0x5F, b)
+    b != 0x3D && base_ascii::between(0x20, 0x5F, b)
 }
 
 // Stores a byte of a name as it is shown.
@@ -113,11 +104,9 @@ pub fn put_name(out: &mut [u8], at: usize, name: &[u8]) -> usize
     requires { at ≤ length out.old }
     ensures { Clipped out.old at (name_shown name.now) result out.new }
 {
-    let mut i: usize = 0;
     let mut to = at;
-    while i < name.len() {
-        to = put_byte(out, to, name[i]);
-        i += 1;
+    for b in name {
+        to = put_byte(out, to, *b);
     }
     to
 }

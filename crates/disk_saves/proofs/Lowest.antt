@@ -1,46 +1,36 @@
--- Searching a list for a number, and a run of numbers for the first that passes a test.
+-- The lowest sector outside a directory's.
 -- Assumes nothing.
-use Prim.Native.Nat.{ℕ, zero, suc, ◌+◌, ◌-◌, ◌≤◌, ◌<◌}
-use mathlib.Core.Path.{◌≡◌, refl, sym, ◌∙◌}
-use mathlib.Core.Bool.{Bool, true, false, not, cond}
+use Prim.Native.Nat.{ℕ, suc, ◌+◌, ◌-◌, ◌≤◌, ◌<◌}
+use mathlib.Core.Path.{◌≡◌, refl, sym, ap, ap₂, ◌∙◌}
+use mathlib.Core.Bool.{Bool, true, false, not, cond, ◌||◌}
 use mathlib.Core.List.{List, [], ◌∷◌}
-use lib.ListN.{length, get_or, drop, drop_of_length-le}
-use lib.Seq.{drop-cons}
-use native.Mathlib.Numerals.{add-one}
+use lib.Dec.{eqb}
 use native.Mathlib.Omega.{arith}
-use borrow.Author.Tests.{eq-eqb, ne_eqb, not-true, not-false}
+use borrow.Author.Tests.{eq-eqb, ne_eqb, eqb-true, eqb-false}
+use Rattle.std.specs.Prelude.{Some, None}
+use Rattle.std.specs.List.{list_any, slice_get}
+use Rattle.base_steps.specs.Each.{Each}
 use Rattle.disk_rules.specs.Lists.{some, those, is_in, numbers_from}
 use Rattle.disk_rules.specs.Calls.{outside}
+use Rattle.disk_check.proofs.Looking.{each_those, numbers_each}
 
--- ---- whether a number stands in a list: it does where it stands in what is left
+eqb_turned : (a b : ℕ) → eqb a b ≡ eqb b a
+eqb_turned a b = go (eqb a b) refl where
+  go : (q : Bool) → eqb a b ≡ q → q ≡ eqb b a
+  go true e = sym (eq-eqb b a (sym (eqb-true a b e)))
+  go false e = sym (ne_eqb b a (λ f. eqb-false a b e (sym f)))
 
-pub record Standing (l : List ℕ) (n i : ℕ) : Type 0 where
-  pub within : i ≤ length l
-  pub leaves : is_in (drop i l) n ≡ is_in l n
-
-pub stand_start : (l : List ℕ) (n : ℕ) → Standing l n 0
-stand_start l n = record { within = omega arith; leaves = refl }
-
-module _ {l : List ℕ} {n i : ℕ} (k : Standing l n i) where
-  pub stand_found : i < length l → get_or l i 0 ≡ n → true ≡ is_in l n
-  unfolding some
-  stand_found h e = simp (eq-eqb n (get_or l i 0) (sym e)) at (rw (drop-cons l i 0 h) at k.leaves)
-
-  pub stand_turn : i < length l → (get_or l i 0 ≡ n → ⊥) → Standing l n (i + 1)
-  unfolding some
-  stand_turn h z =
-      let y : n ≡ get_or l i 0 → ⊥ = λ e. z (sym e) in
-      record { within = omega arith; leaves = rw add-one (simp (ne_eqb n (get_or l i 0) y) at (rw (drop-cons l i 0 h) at k.leaves)) }
-
-  pub stand_end : length l ≤ i → false ≡ is_in l n
-  unfolding some
-  stand_end h = rw (drop_of_length-le l {i = i} h) at k.leaves
+-- std's search of a list for a number is the rule's
+pub any_standing : (l : List ℕ) (n : ℕ) → list_any (λ m. eqb m n) l ≡ is_in l n
+unfolding some
+any_standing [] n = refl
+any_standing (m ∷ l) n = ap₂ (λ (a b : Bool). a || b) (eqb_turned m n) (any_standing l n)
 
 -- ---- the first of 358 to 375 that does not stand in a list: the first of those that are left
 
 pub record Lowest (l : List ℕ) (n : ℕ) : Type 0 where
   pub within : n ≤ 376
-  pub gives : get_or (those (λ m. not (is_in l m)) (numbers_from n (376 - n))) 0 376 ≡ get_or (outside l) 0 376
+  pub gives : slice_get (those (λ m. not (is_in l m)) (numbers_from n (376 - n))) 0 ≡ slice_get (outside l) 0
 
 pub low_start : (l : List ℕ) → Lowest l 358
 low_start l = record { within = omega arith; gives = refl }
@@ -50,28 +40,26 @@ module _ {l : List ℕ} {n : ℕ} (k : Lowest l n) where
   behind : List ℕ
   behind = those (λ m. not (is_in l m)) (numbers_from (n + 1) (376 - (n + 1)))
 
-  onward : n < 376 → get_or (cond (not (is_in l n)) (n ∷ behind) behind) 0 376 ≡ get_or (outside l) 0 376
+  onward : n < 376 → slice_get (cond (not (is_in l n)) (n ∷ behind) behind) 0 ≡ slice_get (outside l) 0
   unfolding those numbers_from behind
   onward h = let e : 376 - n ≡ suc (376 - (n + 1)) = omega arith in rw e at k.gives
 
-  pub low_found : {r : Bool} → n < 376 → not r ≡ true → r ≡ is_in l n → n ≡ get_or (outside l) 0 376
-  low_found {r} h e f = let g : is_in l n ≡ false = sym f ∙ not-true r e in rw g at (onward h)
+  pub low_found : {r : Bool} → n < 376 → r ≡ false → r ≡ list_any (λ m. eqb m n) l → Some n ≡ slice_get (outside l) 0
+  low_found {r} h e f = let g : is_in l n ≡ false = sym (f ∙ any_standing l n) ∙ e in rw g at (onward h)
 
-  pub low_turn : {r : Bool} → n < 376 → not r ≡ false → r ≡ is_in l n → Lowest l (n + 1)
+  pub low_turn : {r : Bool} → n < 376 → r ≡ true → r ≡ list_any (λ m. eqb m n) l → Lowest l (n + 1)
   unfolding behind
-  low_turn {r} h e f = let g : is_in l n ≡ true = sym f ∙ not-false r e in record { within = omega arith; gives = rw g at (onward h) }
+  low_turn {r} h e f =
+      let g : is_in l n ≡ true = sym (f ∙ any_standing l n) ∙ e in record { within = omega arith; gives = rw g at (onward h) }
 
-  pub low_end : 376 ≤ n → 376 ≡ get_or (outside l) 0 376
+  pub low_end : 376 ≤ n → None ≡ slice_get (outside l) 0
   unfolding those numbers_from
   low_end h = let e : 376 - n ≡ 0 = omega arith in rw e at k.gives
 
--- none passes where the first is the end
-pub none_lowest : (test : ℕ → Bool) (end n k : ℕ) → n + k ≤ end → end ≤ get_or (those test (numbers_from n k)) 0 end → those test (numbers_from n k) ≡ []
-unfolding those numbers_from
-none_lowest test end n zero h g = refl
-none_lowest test end n (suc k) h g = go (test n) (none_lowest test end (n + 1) k (omega arith)) g where
-  go : (q : Bool) → (end ≤ get_or (those test (numbers_from (n + 1) k)) 0 end → those test (numbers_from (n + 1) k) ≡ [])
-      → end ≤ get_or (cond q (n ∷ those test (numbers_from (n + 1) k)) (those test (numbers_from (n + 1) k))) 0 end
-      → cond q (n ∷ those test (numbers_from (n + 1) k)) (those test (numbers_from (n + 1) k)) ≡ []
-  go true f i = absurd (omega arith)
-  go false f i = f i
+-- it is on track 18
+pub lowest_below : (l : List ℕ) {n : ℕ} → Some n ≡ slice_get (outside l) 0 → n < 683
+lowest_below l {n} e =
+    go (outside l) e (each_those (λ k. k < 683) (λ k. not (is_in l k)) (numbers_from 358 18) (numbers_each (λ k. k < 683) 358 18 (λ k a b. omega arith))) where
+      go : (out : List ℕ) → Some n ≡ slice_get out 0 → Each (λ k. k < 683) out → n < 683
+      go [] f g = absurd (cc)
+      go (m ∷ out) f g = let z : n ≡ m = cc in omega (arith, g.0)

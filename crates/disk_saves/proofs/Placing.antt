@@ -8,6 +8,8 @@ use lib.ListN.{length, get_or, take}
 use lib.Seq.{sets, get_or-take}
 use native.Mathlib.Omega.{arith}
 use Rattle.base_steps.specs.Again.{again}
+use Rattle.std.specs.Prelude.{Some, None}
+use Rattle.std.specs.List.{slice_get}
 use Rattle.base_refusals.specs.Numbers.{directory_full}
 use Rattle.base_refusals.specs.Answer.{Answer, done, refused}
 use Rattle.disk_rules.specs.Lists.{is_in}
@@ -21,7 +23,6 @@ use Rattle.disk_rules.specs.Free.{marked_all}
 use Rattle.disk_rules.specs.Calls.{laid, entry_bytes, outside, grown, with_entry, with_file, After, onto_disk}
 use Rattle.disk_chains.specs.ChainHelpers.{Lists}
 use Rattle.disk_check.proofs.Looking.{chain_sectors, that_entries, that_few, listed_start}
-use Rattle.disk_saves.proofs.Lowest.{none_lowest}
 
 -- ---- a directory has a sector
 
@@ -44,15 +45,16 @@ module _ (disk entry sectors out : List ℕ) where
   in_unlisted [] h = absurd (omega arith)
   in_unlisted (p ∷ l) h = refl
 
-  in_none : (l : List ℕ) → length l ≤ 0 → out ≡ [] → refused directory_full ≡ with_entry disk entry sectors l out
-  in_none [] h e = rw e
-  in_none (p ∷ l) h e = absurd (omega arith)
+in_none : (disk entry sectors l out : List ℕ) → length l ≤ 0 → None ≡ slice_get out 0 → refused directory_full ≡ with_entry disk entry sectors l out
+in_none disk entry sectors (p ∷ l) out h e = absurd (omega arith)
+in_none disk entry sectors [] [] h e = refl
+in_none disk entry sectors [] (n ∷ out) h e = absurd (cc)
 
-in_grown : (disk entry sectors l out : List ℕ) → length l ≤ 0 → get_or out 0 376 ≤ 375
-    → done (sets (grown disk (get_or sectors (length sectors - 1) 0) (get_or out 0 376)) (256 * get_or out 0 376 + 2) entry) ≡ with_entry disk entry sectors l out
+in_grown : (disk entry sectors l out : List ℕ) {n : ℕ} → length l ≤ 0 → Some n ≡ slice_get out 0
+    → done (sets (grown disk (get_or sectors (length sectors - 1) 0) n) (256 * n + 2) entry) ≡ with_entry disk entry sectors l out
 in_grown disk entry sectors (p ∷ l) out h g = absurd (omega arith)
-in_grown disk entry sectors [] [] h g = absurd (omega arith)
-in_grown disk entry sectors [] (n ∷ out) h g = refl
+in_grown disk entry sectors [] [] h g = absurd (cc)
+in_grown disk entry sectors [] (m ∷ out) {n} h g = let z : n ≡ m = cc in rw z
 
 module _ (d : List ℕ) {sectors buffer after : List ℕ} {count : ℕ} (e : sectors ≡ (directory d).sectors) (few : length sectors ≤ 18) (l : Lists (entries_that false d sectors) buffer count after) (b : length buffer ≡ 144) where
   unlisted : take count after ≡ entries_that false d sectors
@@ -80,18 +82,16 @@ module _ (d : List ℕ) {sectors buffer after : List ℕ} {count : ℕ} (e : sec
         ap (λ (x : List ℕ). onto_disk (done x) d) (f ∙ ap (λ (p : ℕ). sets written p (entry_bytes name chosen)) (sym (first_unlisted h)))
         ∙ ap (λ (x : Answer (List ℕ)). onto_disk x d) (in_unlisted written (entry_bytes name chosen) sectors (outside sectors) (entries_that false d sectors) (omega (arith, l.counts)) ∙ sym known)
 
-    module _ {n : ℕ} (h : count ≤ 0) (g : n ≡ get_or (outside sectors) 0 376) where
-      pub saved_none : 375 < n → ◌≡◌ {A = After} (record { answer = refused directory_full; disk = d }) (onto_disk (with_file d name image chosen) d)
-      saved_none i =
-          let o : outside sectors ≡ [] = none_lowest (λ k. not (is_in sectors k)) 376 358 18 (omega arith) (omega arith) in
-          ap (λ (x : Answer (List ℕ)). onto_disk x d) (in_none written (entry_bytes name chosen) sectors (outside sectors) (entries_that false d sectors) (omega (arith, l.counts)) o ∙ sym known)
+    pub saved_none : count ≤ 0 → None ≡ slice_get (outside sectors) 0 → ◌≡◌ {A = After} (record { answer = refused directory_full; disk = d }) (onto_disk (with_file d name image chosen) d)
+    saved_none h o =
+        ap (λ (x : Answer (List ℕ)). onto_disk x d) (in_none written (entry_bytes name chosen) sectors (entries_that false d sectors) (outside sectors) (omega (arith, l.counts)) o ∙ sym known)
 
-      pub saved_grown : {d' : List ℕ} → n ≤ 375
-          → d' ≡ sets (grown (marked_all (laid d chosen image) chosen false) (get_or sectors (length sectors - 1) 0) n) (256 * n + 2) (entry_bytes name chosen)
-          → ◌≡◌ {A = After} (record { answer = done tt; disk = d' }) (onto_disk (with_file d name image chosen) d)
-      saved_grown i f =
-          ap (λ (x : List ℕ). onto_disk (done x) d) (rw g at f)
-          ∙ ap (λ (x : Answer (List ℕ)). onto_disk x d) (in_grown written (entry_bytes name chosen) sectors (entries_that false d sectors) (outside sectors) (omega (arith, l.counts)) (omega arith) ∙ sym known)
+    pub saved_grown : {n : ℕ} {d' : List ℕ} → count ≤ 0 → Some n ≡ slice_get (outside sectors) 0
+        → d' ≡ sets (grown (marked_all (laid d chosen image) chosen false) (get_or sectors (length sectors - 1) 0) n) (256 * n + 2) (entry_bytes name chosen)
+        → ◌≡◌ {A = After} (record { answer = done tt; disk = d' }) (onto_disk (with_file d name image chosen) d)
+    saved_grown h g f =
+        ap (λ (x : List ℕ). onto_disk (done x) d) f
+        ∙ ap (λ (x : Answer (List ℕ)). onto_disk x d) (in_grown written (entry_bytes name chosen) sectors (entries_that false d sectors) (outside sectors) (omega (arith, l.counts)) g ∙ sym known)
 
 pub last_below : (d : List ℕ) {l : List ℕ} → length d ≡ 174848 → l ≡ (directory d).sectors → get_or l (length l - 1) 0 < 683
 last_below d {l} z e = rw e ((chain_sectors d).below (length (directory d).sectors - 1) (omega (arith, directory_some d z refl)))

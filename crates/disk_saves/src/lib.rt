@@ -1,8 +1,8 @@
 // Saving a file whose name is free: the sectors that it takes, where its entry goes, and what is written there.
 #![tactic(auto)]
 
-ghost use Rattle.std.specs.Prelude.{◌≡◌, ◌≤◌, length, get_or};
-ghost use Rattle.disk_rules.specs.Lists.{is_in};
+ghost use Rattle.std.specs.Prelude.{◌≡◌, ◌≤◌, length};
+ghost use Rattle.std.specs.List.{slice_get};
 ghost use Rattle.disk_rules.specs.Entries.{directory};
 ghost use Rattle.disk_rules.specs.Calls.{sectors_for, outside, with_file, onto_disk, leaving};
 ghost use Rattle.disk_saves.specs.FileHelpers.{Chosen};
@@ -19,39 +19,19 @@ mod file;
 fn sectors_for(image: &[u8]) -> usize
     ensures { result ≡ sectors_for image.now }
 {
-    let full = (image.len() + 253) / 254;
-    if full < 1 {
-        return 1;
-    }
-    full
+    image.len().div_ceil(254).max(1)
 }
 
-// Whether a number stands in a list.
-fn stands_in(list: &[usize], n: usize) -> bool
-    ensures { result ≡ is_in list.now n }
+// The lowest of 18/1 to 18/18 outside a directory's sectors.
+fn lowest_outside(sectors: &[usize]) -> Option<usize>
+    ensures { result ≡ slice_get (outside sectors.now) 0 }
 {
-    let mut i: usize = 0;
-    while i < list.len() {
-        if list[i] == n {
-            return true;
+    for n in 358..376 {
+        if !sectors.contains(&n) {
+            return Some(n);
         }
-        i += 1;
     }
-    false
-}
-
-// The lowest of 18/1 to 18/18 outside a directory's sectors; 376 where there is none.
-fn lowest_outside(sectors: &[usize]) -> usize
-    ensures { result ≡ get_or (outside sectors.now) 0 376 }
-{
-    let mut n: usize = 358;
-    while n < 376 {
-        if !stands_in(sectors, n) {
-            return n;
-        }
-        n += 1;
-    }
-    376
+    None
 }
 
 // Saves a file on the sectors that were chosen for it.
@@ -70,10 +50,9 @@ fn save_on(
         put_file(disk, unlisted[0], name, image, chosen);
         return Ok(());
     }
-    let n = lowest_outside(sectors);
-    if n > 375 {
+    let Some(n) = lowest_outside(sectors) else {
         return Err(Refusal::DirectoryFull);
-    }
+    };
     put_grown(disk, sectors[sectors.len() - 1], n, name, image, chosen);
     Ok(())
 }

@@ -1,9 +1,9 @@
 // The sectors of a disk, their links, and the map of free ones.
 #![tactic(auto)]
 
-ghost use Rattle.std.specs.Prelude.{◌≡◌, cond, ◌+◌, ◌/◌, ◌%◌, ◌^◌, ◌<◌, ◌≤◌, length};
+ghost use Rattle.std.specs.Prelude.{◌≡◌, cond, ◌+◌, ◌/◌, ◌%◌, ◌^◌, ◌<◌, ◌≤◌, length, get_or};
 ghost use Rattle.disk_rules.specs.Places.{sectors_on, sectors_before, track_of, sector_of as sector_in};
-ghost use Rattle.disk_rules.specs.Links.{link_to as link_of, link_at as link_in};
+ghost use Rattle.disk_rules.specs.Links.{link_on, link_at as link_in};
 ghost use Rattle.disk_rules.specs.Map.{bit_of, ones as ones_of, with_bit, bit_at as bit_in, is_free as is_free_on, marked};
 
 use disk_rules::Link;
@@ -19,10 +19,10 @@ pub fn sectors_on(track: usize) -> usize
     }
 }
 
-// How many sectors stand before a track's first.
+// How many sectors stand before a track's first, on a disk of up to 40 tracks.
 pub fn sectors_before(track: usize) -> usize
-    requires { (1 ≤ track) × (track ≤ 35) }
-    ensures { (result ≡ sectors_before track) × (result ≤ 666) }
+    requires { (1 ≤ track) × (track ≤ 40) }
+    ensures { (result ≡ sectors_before track) × (result ≤ 751) × (track ≤ 35 → result ≤ 666) }
 {
     match track {
         0..18 => 21 * (track - 1),
@@ -58,15 +58,16 @@ pub fn sector_of(n: usize) -> usize
     }
 }
 
-// What a track and a sector link to.
-fn link_to(track: u8, sector: u8) -> Link
-    ensures { result ≡ link_of track sector }
+// What a track and a sector link to on a disk of so many tracks.
+fn link_to(tracks: usize, track: u8, sector: u8) -> Link
+    requires { tracks ≤ 40 }
+    ensures { result ≡ link_on tracks track sector }
 {
     let t = usize::from(track);
     let s = usize::from(sector);
     if track == 0 {
         Link::Last(sector)
-    } else if t > 35 {
+    } else if t > tracks {
         Link::Astray
     } else if s >= sectors_on(t) {
         Link::Astray
@@ -75,12 +76,20 @@ fn link_to(track: u8, sector: u8) -> Link
     }
 }
 
-// The link in the two bytes at an offset.
+// The link in the two bytes at an offset of a disk of so many tracks.
+pub fn link_on(disk: &[u8], tracks: usize, at: usize) -> Link
+    requires { (at + 1 < length disk.now) × (tracks ≤ 40) }
+    ensures { result ≡ link_on tracks (get_or disk.now at 0) (get_or disk.now (at + 1) 0) }
+{
+    link_to(tracks, disk[at], disk[at + 1])
+}
+
+// The same on a disk of 35 tracks.
 pub fn link_at(disk: &[u8], at: usize) -> Link
     requires { at + 1 < length disk.now }
     ensures { result ≡ link_in disk.now at }
 {
-    link_to(disk[at], disk[at + 1])
+    link_on(disk, 35, at)
 }
 
 fn bit(byte: u8, k: usize) -> u8

@@ -18,37 +18,23 @@ use say_put::{put_decimal, put_text};
 fn track_of(n: usize) -> usize
     ensures { result ≡ track_of n }
 {
-    if n < 357 {
-        return 1 + n / 21;
+    match n {
+        0..357 => 1 + n / 21,
+        357..490 => 18 + (n - 357) / 19,
+        490..598 => 25 + (n - 490) / 18,
+        _ => 31 + (n - 598) / 17,
     }
-    if n < 490 {
-        return 18 + (n - 357) / 19;
-    }
-    if n < 598 {
-        return 25 + (n - 490) / 18;
-    }
-    31 + (n - 598) / 17
 }
 
 fn sector_of(n: usize) -> usize
     ensures { result ≡ sector_of n }
 {
-    if n < 357 {
-        return n % 21;
+    match n {
+        0..357 => n % 21,
+        357..490 => (n - 357) % 19,
+        490..598 => (n - 490) % 18,
+        _ => (n - 598) % 17,
     }
-    if n < 490 {
-        return (n - 357) % 19;
-    }
-    if n < 598 {
-        return (n - 490) % 18;
-    }
-    (n - 598) % 17
-}
-
-fn wide(byte: u8) -> usize
-    ensures { result ≡ byte }
-{
-    byte as usize
 }
 
 // An entry's name; none where no entry stands.
@@ -117,11 +103,11 @@ fn put_stop(out: &mut [u8], at: usize, stop: Stop) -> usize
                 sector_of(n),
                 b" with a second byte of ",
             );
-            put_decimal(out, a, wide(byte))
+            put_decimal(out, a, usize::from(byte))
         }
         Stop::Astray(track, sector) => {
             let a = put_text(out, at, b" leaves the disk at ");
-            put_place(out, a, wide(track), wide(sector))
+            put_place(out, a, usize::from(track), usize::from(sector))
         }
         Stop::Barred(n) => put_about(
             out,
@@ -220,8 +206,8 @@ pub fn put_broken(disk: &[u8], broken: Broken, out: &mut [u8]) -> usize
             out,
             0,
             b"18/0 links to ",
-            wide(track),
-            wide(sector),
+            usize::from(track),
+            usize::from(sector),
             b", not to 18/1",
         ),
         Broken::Directory(stop) => {

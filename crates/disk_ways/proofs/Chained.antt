@@ -10,7 +10,7 @@ use native.Mathlib.Omega.{arith}
 use borrow.Author.Tests.{eqb-true, eq-eqb}
 use Rattle.base_steps.specs.Again.{again}
 use Rattle.disk_rules.specs.Lists.{some, is_in, none_twice}
-use Rattle.disk_rules.specs.Links.{link_to, link_at}
+use Rattle.disk_rules.specs.Links.{link_on, link_to, link_at}
 use Rattle.disk_rules.specs.declared.Link.{Link}
 use Rattle.disk_rules.specs.declared.Link.TheVariants.{Last, To, Astray as NoSector}
 use Rattle.disk_rules.specs.Chains.{Chain, chain, broken_chain, chain_onward, may_hold, may_end}
@@ -18,7 +18,7 @@ use Rattle.disk_rules.specs.CountedHelpers.{chain_within}
 use Rattle.disk_rules.specs.Entries.{chain_by, chain_of}
 use Rattle.disk_rules.proofs.Counting.{never}
 use Rattle.disk_rules.proofs.Ends.{ends_once, most, chain_any, chain_counted}
-use Rattle.disk_ways.specs.Ways.{tracks_over, may_go, link_on, link_there, Way, stopped, refused_at, way_onward, way, way_by, way_of, ends_as}
+use Rattle.disk_ways.specs.Ways.{tracks_over, may_go, link_there, Way, stopped, refused_at, way_onward, way, way_by, way_of, ends_as}
 use Rattle.disk_ways.specs.declared.Over.{Over}
 use Rattle.disk_ways.specs.declared.Stop.TheVariants.{Ended, Barred, Again}
 

@@ -4,6 +4,7 @@ use Prim.Native.Nat.{ℕ, suc, ◌+◌, ◌-◌, ◌*◌, ◌≤◌, ◌<◌}
 use mathlib.Core.Path.{◌≡◌, refl, sym, ap, ◌∙◌, fun_ext}
 use mathlib.Core.Bool.{Bool, true, false, not, ◌||◌, or-true}
 use mathlib.Core.List.{List, ◌∷◌}
+use mathlib.Core.Logic.{◌⊎◌, inl, inr}
 use lib.Dec.{eqb}
 use lib.ListN.{length, get_or, set, length-set}
 use lib.Seq.{sets, get_or-set_same, get_or-set_other}
@@ -16,11 +17,12 @@ use Rattle.disk_rules.specs.Places.{sectors_before}
 use Rattle.disk_rules.specs.Lists.{some, is_in}
 use Rattle.disk_rules.specs.declared.Link.{Link}
 use Rattle.disk_rules.specs.declared.Link.TheVariants.{Last, To, Astray as NoSector}
-use Rattle.disk_ways.specs.Ways.{tracks_over, sectors_over, may_go, link_on, link_there, Way, stopped, stray_at, refused_at, way_onward, way, way_by, way_of}
+use Rattle.disk_rules.specs.Links.{link_on}
+use Rattle.disk_ways.specs.Ways.{tracks_over, sectors_over, may_go, link_there, Way, stopped, stray_at, refused_at, way_onward, way, way_by, way_of}
 use Rattle.disk_ways.specs.WayHelpers.{Follows}
 use Rattle.disk_ways.specs.declared.Over.{Over}
 use Rattle.disk_ways.specs.declared.Stop.{Stop}
-use Rattle.disk_ways.specs.declared.Stop.TheVariants.{Ended, Astray, Barred, Again}
+use Rattle.disk_ways.specs.declared.Stop.TheVariants.{Ended, Barred, Again}
 use Rattle.disk_ways.specs.declared.Followed.{Followed}
 use Rattle.disk_ways.proofs.Going.{link_below}
 
@@ -107,7 +109,7 @@ module _ {c : Way} {log₀ : List ℕ} {marks₀ : List Bool} {log : List ℕ} {
 
 module _ {over : Over} {d : List ℕ} {c : Way} {log₀ : List ℕ} {marks₀ : List Bool} {log : List ℕ} {marks : List Bool} {n to : ℕ}
     (f : Following over d c log₀ marks₀ log marks n to) where
-  one_more : to < length log → length log₀ - to ≡ suc (length log₀ - (to + 1))
+  one_more : to < length log₀ → length log₀ - to ≡ suc (length log₀ - (to + 1))
   one_more h = omega (arith, f.sized)
 
   pub follow_mark : n < length marks
@@ -126,18 +128,20 @@ module _ {over : Over} {d : List ℕ} {c : Way} {log₀ : List ℕ} {marks₀ : 
   pub follow_room : 256 * n + 1 < length d
   follow_room = omega (arith, f.below, f.size)
 
-  pub follow_full : {s : Stop} → length log ≤ to → s ≡ refused_at over n → Follows c log₀ marks₀ (record { to = to; stop = s }) log marks
+  pub follow_full : {s : Stop} → length log₀ ≤ to → s ≡ refused_at over n → Follows c log₀ marks₀ (record { to = length log; stop = s }) log marks
   unfolding way
   follow_full h e =
-      let z : length log₀ - to ≡ 0 = omega (arith, f.sized) in rw e (owes_none f.within f.long (rw z at f.owes))
+      let z : length log₀ - to ≡ 0 = omega arith in
+      let i : to ≡ length log = omega (arith, f.sized, f.within) in
+      rw (e, ← i) (owes_none f.within f.long (rw z at f.owes))
 
-  pub follow_barred : {r : Bool} → to < length log → not r ≡ true → r ≡ may_go over n → Follows c log₀ marks₀ (record { to = to; stop = Barred n }) log marks
+  pub follow_barred : {r : Bool} → to < length log₀ → not r ≡ true → r ≡ may_go over n → Follows c log₀ marks₀ (record { to = to; stop = Barred n }) log marks
   unfolding way
   follow_barred {r} h e g =
       let m : may_go over n ≡ false = sym g ∙ not-true r e in
       owes_none f.within f.long (simp m at (rw (one_more h) at f.owes))
 
-  module _ {r : Bool} (h : to < length log) (e : not r ≡ false) (g : r ≡ may_go over n) where
+  module _ {r : Bool} (h : to < length log₀) (e : not r ≡ false) (g : r ≡ may_go over n) where
     goes : may_go over n ≡ true
     goes = sym g ∙ not-false r e
 
@@ -160,11 +164,10 @@ module _ {over : Over} {d : List ℕ} {c : Way} {log₀ : List ℕ} {marks₀ : 
       follow_last {b} i =
           owes_none (omega (arith, f.sized)) (length-set marks n true ∙ f.long) (owes_one {x = stopped (Ended n b)} follow_mark (linked i))
 
-      pub follow_astray : l ≡ NoSector
-          → Follows c log₀ marks₀ (record { to = to + 1; stop = Astray (get_or d (256 * n) 0) (get_or d (256 * n + 1) 0) }) (set log to n) (set marks n true)
-      follow_astray i =
-          owes_none (omega (arith, f.sized)) (length-set marks n true ∙ f.long)
-          (owes_one {x = stopped (Astray (get_or d (256 * n) 0) (get_or d (256 * n + 1) 0))} follow_mark (linked i))
+      pub follow_astray : {s : Stop} → l ≡ NoSector → s ≡ stray_at d (256 * n)
+          → Follows c log₀ marks₀ (record { to = to + 1; stop = s }) (set log to n) (set marks n true)
+      follow_astray i e =
+          rw e (owes_none (omega (arith, f.sized)) (length-set marks n true ∙ f.long) (owes_one {x = stopped (stray_at d (256 * n))} follow_mark (linked i)))
 
       pub follow_turn : {m : ℕ} → l ≡ To m → Following over d c log₀ marks₀ (set log to n) (set marks n true) m (to + 1)
       follow_turn {m} i =
@@ -199,8 +202,7 @@ module _ (over : Over) (d log : List ℕ) (marks : List Bool) (p : ℕ) {tracks 
       → Follows (way over (length log) d (marked_in marks) n) log marks r log' marks' → Follows (way_of over (length log) d (marked_in marks) p) log marks r log' marks'
   entry_to i f = rw (begins i) at f
 
-  pub entry_last : {b : ℕ} → l ≡ Last b → Follows (way_of over (length log) d (marked_in marks) p) log marks (record { to = 0; stop = stray_at d (p + 1) }) log marks
-  entry_last i = rw (begins i) at nothing
-
-  pub entry_astray : l ≡ NoSector → Follows (way_of over (length log) d (marked_in marks) p) log marks (record { to = 0; stop = stray_at d (p + 1) }) log marks
-  entry_astray i = rw (begins i) at nothing
+  pub entry_none : {s : Stop} → s ≡ stray_at d (p + 1) → ((b : ℕ) × (l ≡ Last b)) ⊎ (l ≡ NoSector)
+      → Follows (way_of over (length log) d (marked_in marks) p) log marks (record { to = 0; stop = s }) log marks
+  entry_none e (inl (b, i)) = rw e (rw (begins i) at nothing)
+  entry_none e (inr i) = rw e (rw (begins i) at nothing)

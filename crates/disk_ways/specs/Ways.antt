@@ -1,8 +1,9 @@
 -- The way of a chain from sector to sector (docs/RULES.md, "Why a disk is not in order": "It meets no sector twice, and how it stops is told").
 -- The links are those of `Links` (disk_rules), on a disk of 35 tracks or more.
 -- Assumes nothing.
-use Rattle.std.specs.Prelude.{ℕ, zero, suc, ◌+◌, ◌*◌, Bool, true, false, cond, not, ◌&&◌, ◌||◌, List, [], ◌∷◌, leb, ltb, eqb, get_or}
-use Rattle.disk_rules.specs.Places.{sectors_on, sectors_before, sector_at}
+use Rattle.std.specs.Prelude.{ℕ, zero, suc, ◌+◌, ◌*◌, Bool, true, false, cond, not, ◌&&◌, ◌||◌, List, [], ◌∷◌, eqb, get_or}
+use Rattle.disk_rules.specs.Places.{sectors_before}
+use Rattle.disk_rules.specs.Links.{link_on}
 use Rattle.disk_rules.specs.Chains.{may_hold, may_end}
 use Rattle.disk_rules.specs.declared.Link.{Link}
 use Rattle.disk_rules.specs.declared.Link.TheVariants.{Last, To, Astray as NoSector}
@@ -25,10 +26,6 @@ abbrev pub may_go : Over → ℕ → Bool
 may_go Directory n = may_hold true n
 may_go Files n = may_hold false n
 may_go (Tracks tracks) n = true
-
--- what a track and a sector link to on a disk of so many tracks: with 35 it is `link_to`
-unfoldable pub link_on : ℕ → ℕ → ℕ → Link
-link_on tracks t s = cond (eqb t 0) (Last s) (cond (leb 1 t && leb t tracks && ltb s (sectors_on t)) (To (sector_at t s)) NoSector)
 
 -- the link in the two bytes at an offset
 abbrev pub link_there : Over → List ℕ → ℕ → Link

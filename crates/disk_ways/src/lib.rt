@@ -2,12 +2,12 @@
 #![tactic(auto)]
 
 ghost use Rattle.std.specs.Prelude.{◌≡◌, false, ◌+◌, ◌*◌, ◌≤◌, ◌<◌, length, get_or};
-ghost use Rattle.disk_rules.specs.Places.{sectors_before};
-ghost use Rattle.disk_ways.specs.Ways.{tracks_over, sectors_over, may_go, link_on, refused_at, way, way_of, ends_as};
+ghost use Rattle.disk_ways.specs.Ways.{tracks_over, sectors_over, may_go, stray_at, refused_at, way, way_of, ends_as};
 ghost use Rattle.disk_ways.specs.WayHelpers.{Follows};
 
+use disk_chains::{may_end, may_hold};
 use disk_rules::Link;
-use disk_sectors::{sectors_before, sectors_on};
+use disk_sectors::link_on;
 
 // What a way goes over: the directory's sectors, those off track 18, or all of a disk of so many tracks.
 #[derive(Clone, Copy)]
@@ -34,58 +34,13 @@ pub struct Followed {
     pub stop: Stop,
 }
 
-fn wide(byte: u8) -> usize
-    ensures { (result ≡ byte) × (result < 256) }
-{
-    byte as usize
-}
-
 pub fn tracks_over(over: Over) -> usize
     ensures { result ≡ tracks_over over }
 {
     match over {
-        Over::Directory => 35,
-        Over::Files => 35,
+        Over::Directory | Over::Files => 35,
         Over::Tracks(tracks) => tracks,
     }
-}
-
-// How many sectors stand before a track's first, on a disk of up to 40 tracks.
-fn before(track: usize) -> usize
-    requires { (1 ≤ track) × (track ≤ 40) }
-    ensures { (result ≡ sectors_before track) × (result ≤ 751) }
-{
-    if track <= 35 {
-        return sectors_before(track);
-    }
-    598 + 17 * (track - 31)
-}
-
-// What two bytes link to on a disk of so many tracks.
-fn link_to(tracks: usize, track: u8, sector: u8) -> Link
-    requires { tracks ≤ 40 }
-    ensures { result ≡ link_on tracks track sector }
-{
-    if track < 1 {
-        return Link::Last(sector);
-    }
-    let t = wide(track);
-    if t > tracks {
-        return Link::Astray;
-    }
-    let s = wide(sector);
-    if s >= sectors_on(t) {
-        return Link::Astray;
-    }
-    Link::To(before(t) + s)
-}
-
-// The link at an offset of a disk of so many tracks.
-pub fn link_on(disk: &[u8], tracks: usize, at: usize) -> Link
-    requires { (at + 1 < length disk.now) × (tracks ≤ 40) }
-    ensures { result ≡ link_on tracks (get_or disk.now at 0) (get_or disk.now (at + 1) 0) }
-{
-    link_to(tracks, disk[at], disk[at + 1])
 }
 
 // Whether a way may go to a sector.
@@ -93,21 +48,8 @@ fn may_go(over: Over, n: usize) -> bool
     ensures { result ≡ may_go over n }
 {
     match over {
-        Over::Directory => {
-            if n < 358 {
-                return false;
-            }
-            n <= 375
-        }
-        Over::Files => {
-            if n < 357 {
-                return true;
-            }
-            if n <= 375 {
-                return false;
-            }
-            n < 683
-        }
+        Over::Directory => may_hold(true, n),
+        Over::Files => may_hold(false, n),
         Over::Tracks(_) => true,
     }
 }
@@ -116,9 +58,18 @@ fn refused_at(over: Over, n: usize) -> Stop
     ensures { result ≡ refused_at over n }
 {
     if may_go(over, n) {
-        return Stop::Again(n);
+        Stop::Again(n)
+    } else {
+        Stop::Barred(n)
     }
-    Stop::Barred(n)
+}
+
+// The track and the sector in the two bytes at an offset, which do not exist.
+fn astray_at(disk: &[u8], at: usize) -> Stop
+    requires { at + 1 < length disk.now }
+    ensures { result ≡ stray_at disk.now at }
+{
+    Stop::Astray(disk[at], disk[at + 1])
 }
 
 // Follows the way from a sector on over sectors that are not marked: logs them from the log's start on, as many as it has room for, and marks
@@ -135,44 +86,35 @@ pub fn follow(
 {
     let tracks = tracks_over(over);
     let mut n = first;
-    let mut to: usize = 0;
-    while to < log.len() {
+    for i in 0..log.len() {
         if !may_go(over, n) {
-            return Followed {
-                to,
-                stop: Stop::Barred(n),
-            };
+            let stop = Stop::Barred(n);
+            return Followed { to: i, stop };
         }
         if marks[n] {
-            return Followed {
-                to,
-                stop: Stop::Again(n),
-            };
+            let stop = Stop::Again(n);
+            return Followed { to: i, stop };
         }
         marks[n] = true;
-        log[to] = n;
-        to += 1;
-        let at = 256 * n;
-        match link_on(disk, tracks, at) {
+        log[i] = n;
+        let to = i + 1;
+        match link_on(disk, tracks, 256 * n) {
             Link::Last(byte) => {
-                return Followed {
-                    to,
-                    stop: Stop::Ended(n, byte),
-                };
+                let stop = Stop::Ended(n, byte);
+                return Followed { to, stop };
             }
-            Link::To(next) => {
-                n = next;
-            }
+            Link::To(next) => n = next,
             Link::Astray => {
-                return Followed {
-                    to,
-                    stop: Stop::Astray(disk[at], disk[at + 1]),
-                };
+                let stop = astray_at(disk, 256 * n);
+                return Followed { to, stop };
             }
         }
     }
     let stop = refused_at(over, n);
-    Followed { to, stop }
+    Followed {
+        to: log.len(),
+        stop,
+    }
 }
 
 // The same of the way of an entry's file.
@@ -189,13 +131,9 @@ pub fn follow_entry(
     let at = p + 1;
     match link_on(disk, tracks_over(over), at) {
         Link::To(first) => follow(disk, over, first, log, marks),
-        Link::Last(_) => Followed {
+        Link::Last(_) | Link::Astray => Followed {
             to: 0,
-            stop: Stop::Astray(disk[at], disk[at + 1]),
-        },
-        Link::Astray => Followed {
-            to: 0,
-            stop: Stop::Astray(disk[at], disk[at + 1]),
+            stop: astray_at(disk, at),
         },
     }
 }
@@ -205,14 +143,7 @@ pub fn ends_as(directory: bool, stop: Stop) -> bool
     ensures { result ≡ ends_as directory stop }
 {
     match stop {
-        Stop::Ended(_, byte) => {
-            if directory {
-                return true;
-            }
-            byte != 0
-        }
-        Stop::Astray(_, _) => false,
-        Stop::Barred(_) => false,
-        Stop::Again(_) => false,
+        Stop::Ended(_, byte) => may_end(directory, byte),
+        _ => false,
     }
 }

@@ -15,7 +15,8 @@ use Rattle.disk_rules.specs.Map.{bit_at}
 use Rattle.disk_rules.specs.Free.{bit_agrees}
 use Rattle.disk_rules.specs.Entries.{name_at, is_named}
 use Rattle.disk_chains.proofs.Mapping.{agrees_18, agrees_beyond, agrees_met, agrees_free}
-use Rattle.disk_entries.specs.EntryHelpers.{Entries, first_entry}
+use Rattle.disk_entries.specs.EntryHelpers.{Entries}
+use Rattle.std.specs.Prelude.{Option, Some, None, find}
 use Rattle.disk_ways.specs.Ways.{none_met, sectors_over, Way, way_of, ends_as}
 use Rattle.disk_ways.specs.declared.Over.TheVariants.{Files}
 use Rattle.disk_ways.specs.declared.Stop.{Stop}
@@ -74,24 +75,23 @@ module _ {d l : List ℕ} {i : ℕ} (a : Alone d l i) where
 -- ---- an entry's type and name
 
 module _ (test : ℕ → Bool) (p : ℕ) where
-  same_first : (l : List ℕ) → first_entry test l < length l → same_fault p (those test l) ≡ SameName p (get_or l (first_entry test l) 0)
-  unfolding first_entry those
-  same_first [] h = absurd (omega arith)
-  same_first (n ∷ l) h = go (test n) (same_first l) h where
-    go : (q : Bool) → (first_entry test l < length l → same_fault p (those test l) ≡ SameName p (get_or l (first_entry test l) 0))
-        → cond q 0 (suc (first_entry test l)) < suc (length l)
-        → same_fault p (cond q (n ∷ those test l) (those test l)) ≡ SameName p (get_or (n ∷ l) (cond q 0 (suc (first_entry test l))) 0)
-    go true e g = refl
-    go false e g = e (omega arith)
+  same_first : (l : List ℕ) {q : ℕ} → find test l ≡ Some q → same_fault p (those test l) ≡ SameName p q
+  unfolding those
+  same_first [] e = absurd (cc)
+  same_first (n ∷ l) {q} e = go (test n) (same_first l) e where
+    go : (b : Bool) → (find test l ≡ Some q → same_fault p (those test l) ≡ SameName p q) → cond b (Some n) (find test l) ≡ Some q
+        → same_fault p (cond b (n ∷ those test l) (those test l)) ≡ SameName p q
+    go true k f = let z : n ≡ q = cc in ap (SameName p) z
+    go false k f = k f
 
-  same_none : (l : List ℕ) → length l ≤ first_entry test l → same_fault p (those test l) ≡ Nothing
-  unfolding first_entry those
-  same_none [] h = refl
-  same_none (n ∷ l) h = go (test n) (same_none l) h where
-    go : (q : Bool) → (length l ≤ first_entry test l → same_fault p (those test l) ≡ Nothing) → suc (length l) ≤ cond q 0 (suc (first_entry test l))
-        → same_fault p (cond q (n ∷ those test l) (those test l)) ≡ Nothing
-    go true e g = absurd (omega arith)
-    go false e g = e (omega arith)
+  same_none : (l : List ℕ) → find test l ≡ None → same_fault p (those test l) ≡ Nothing
+  unfolding those
+  same_none [] e = refl
+  same_none (n ∷ l) e = go (test n) (same_none l) e where
+    go : (b : Bool) → (find test l ≡ None → same_fault p (those test l) ≡ Nothing) → cond b (Some n) (find test l) ≡ None
+        → same_fault p (cond b (n ∷ those test l) (those test l)) ≡ Nothing
+    go true k f = absurd (cc)
+    go false k f = k f
 
 pub record Testing (d l : List ℕ) (i : ℕ) : Type 0 where
   pub within : i ≤ length l
@@ -116,26 +116,24 @@ module _ {d l : List ℕ} {i : ℕ} (t : Testing d l i) where
   unfolding entry_fault
   test_type h e = simp (ne_eqb (get_or d (get_or l i 0) 0) 0x82 e) at (unrolled h)
 
-  module _ {r : ℕ} {name : List ℕ} (h : i < length l) (e : get_or d (get_or l i 0) 0 ≡ 0x82) (m : name ≡ name_at d (get_or l i 0))
-      (f : r ≡ first_entry (is_named d name) (take (length l - (i + 1)) (drop (i + 1) l))) where
-    first : r ≡ first_entry (is_named d (name_at d (get_or l i 0))) (drop (i + 1) l)
+  module _ {r : Option ℕ} {name : List ℕ} (h : i < length l) (e : get_or d (get_or l i 0) 0 ≡ 0x82) (m : name ≡ name_at d (get_or l i 0))
+      (f : r ≡ find (is_named d name) (take (length l - (i + 1)) (drop (i + 1) l))) where
+    first : r ≡ find (is_named d (name_at d (get_or l i 0))) (drop (i + 1) l)
     first = rw (m, tail_drop (i + 1)) at f
 
-    pub test_twice : r < length (take (length l - (i + 1)) (drop (i + 1) l)) → SameName (get_or l i 0) (get_or (take (length l - (i + 1)) (drop (i + 1) l)) r 0) ≡ entry_fault d l
+    pub test_twice : {q : ℕ} → r ≡ Some q → SameName (get_or l i 0) q ≡ entry_fault d l
     unfolding entry_fault
-    test_twice g =
-        let k : r < length (drop (i + 1) l) = rw (tail_drop (i + 1)) at g in
-        let a : same_fault (get_or l i 0) (those (is_named d (name_at d (get_or l i 0))) (drop (i + 1) l)) ≡ SameName (get_or l i 0) (get_or (drop (i + 1) l) r 0) =
-        rw first (same_first (is_named d (name_at d (get_or l i 0))) (get_or l i 0) (drop (i + 1) l) (omega (arith, first)))
+    test_twice {q} g =
+        let a : same_fault (get_or l i 0) (those (is_named d (name_at d (get_or l i 0))) (drop (i + 1) l)) ≡ SameName (get_or l i 0) q =
+        same_first (is_named d (name_at d (get_or l i 0))) (get_or l i 0) (drop (i + 1) l) (sym first ∙ g)
         in
-        rw (tail_drop (i + 1)) (simp (eq-eqb (get_or d (get_or l i 0) 0) 0x82 e, a) at (unrolled h))
+        simp (eq-eqb (get_or d (get_or l i 0) 0) 0x82 e, a) at (unrolled h)
 
-    pub test_turn : length (take (length l - (i + 1)) (drop (i + 1) l)) ≤ r → Testing d l (i + 1)
+    pub test_turn : r ≡ None → Testing d l (i + 1)
     unfolding entry_fault
     test_turn g =
-        let k : length (drop (i + 1) l) ≤ r = rw (tail_drop (i + 1)) at g in
         let a : same_fault (get_or l i 0) (those (is_named d (name_at d (get_or l i 0))) (drop (i + 1) l)) ≡ Nothing =
-        same_none (is_named d (name_at d (get_or l i 0))) (get_or l i 0) (drop (i + 1) l) (omega (arith, first))
+        same_none (is_named d (name_at d (get_or l i 0))) (get_or l i 0) (drop (i + 1) l) (sym first ∙ g)
         in
         record { within = omega arith; entries = t.entries; gives = simp (eq-eqb (get_or d (get_or l i 0) 0) 0x82 e, a) at (unrolled h) }
 

@@ -39,18 +39,7 @@ pub enum Broken {
 pub fn is_nothing(broken: Broken) -> bool
     ensures { result ≡ is_nothing broken }
 {
-    match broken {
-        Broken::Nothing => true,
-        Broken::Length(_) => false,
-        Broken::Start(_, _) => false,
-        Broken::Directory(_) => false,
-        Broken::NotClosed(_) => false,
-        Broken::SameName(_, _) => false,
-        Broken::File(_, _) => false,
-        Broken::Free(_, _) => false,
-        Broken::Used(_, _) => false,
-        Broken::Beyond(_, _) => false,
-    }
+    matches!(broken, Broken::Nothing)
 }
 
 // What is broken by an entry's type, or by an entry behind it of its name.
@@ -58,17 +47,12 @@ fn entry_fault(disk: &[u8], files: &[usize]) -> Broken
     requires { (length disk.now ≡ 174848) × Entries files.now }
     ensures { result ≡ entry_fault disk.now files.now }
 {
-    let mut i: usize = 0;
-    while i < files.len() {
-        let p = files[i];
-        i += 1;
-        if disk[p] != 0x82 {
-            return Broken::NotClosed(p);
+    for (i, p) in files.iter().enumerate() {
+        if disk[*p] != 0x82 {
+            return Broken::NotClosed(*p);
         }
-        let behind = &files[i..];
-        let at = find(disk, behind, name_at(disk, p));
-        if at < behind.len() {
-            return Broken::SameName(p, behind[at]);
+        if let Some(q) = find(disk, &files[i + 1..], name_at(disk, *p)) {
+            return Broken::SameName(*p, q);
         }
     }
     Broken::Nothing
@@ -102,13 +86,11 @@ fn chain_fault(disk: &[u8], files: &[usize]) -> Broken
     requires { (length disk.now ≡ 174848) × Entries files.now }
     ensures { result ≡ alone_fault disk.now files.now }
 {
-    let mut i: usize = 0;
-    while i < files.len() {
-        let fault = alone_fault(disk, files[i]);
+    for p in files {
+        let fault = alone_fault(disk, *p);
         if !is_nothing(fault) {
             return fault;
         }
-        i += 1;
     }
     Broken::Nothing
 }
@@ -118,14 +100,11 @@ fn crossed_fault(disk: &[u8], files: &[usize], marks: &mut [bool]) -> Broken
     requires { (length disk.now ≡ 174848) × Entries files.now × (683 ≤ length marks.old) }
     ensures { Crossed disk.now files.now marks.old result marks.new }
 {
-    let mut i: usize = 0;
-    while i < files.len() {
-        let p = files[i];
-        let stop = file_stop(disk, p, marks);
+    for p in files {
+        let stop = file_stop(disk, *p, marks);
         if !ends_as(false, stop) {
-            return Broken::File(p, stop);
+            return Broken::File(*p, stop);
         }
-        i += 1;
     }
     Broken::Nothing
 }
@@ -161,13 +140,11 @@ fn map_fault(disk: &[u8], marks: &[bool]) -> Broken
     requires { (length disk.now ≡ 174848) × (length marks.now ≡ 683) }
     ensures { result ≡ map_fault disk.now (λ n. get_or marks.now n false) }
 {
-    let mut i: usize = 0;
-    while i < 840 {
+    for i in 0..840 {
         let fault = bit_fault(disk, marks, 1 + i / 24, i % 24);
         if !is_nothing(fault) {
             return fault;
         }
-        i += 1;
     }
     Broken::Nothing
 }

@@ -31,12 +31,11 @@ pub fn original() -> ListOptions
 pub fn rules_under(options: ListOptions) -> Rules
     ensures { result ≡ rules_under options }
 {
-    let dialect = options.dialect;
     Rules {
-        prefix: heeds_prefix(dialect, options.remarks),
+        prefix: heeds_prefix(options.dialect, options.remarks),
         remarks: options.remarks,
         items: false,
-        basic35: word_dialects::is_basic35(dialect),
+        basic35: word_dialects::is_basic35(options.dialect),
     }
 }
 
@@ -45,9 +44,8 @@ fn heeds_prefix(dialect: Dialect, remarks: bool) -> bool
     ensures { result ≡ heeds_prefix dialect remarks }
 {
     match dialect {
-        Dialect::Auto => true,
+        Dialect::Auto | Dialect::Tsb => true,
         Dialect::BasicV2 => !remarks,
-        Dialect::Tsb => true,
         Dialect::Basic35 => false,
     }
 }

@@ -3,5 +3,5 @@
 use Rattle.desk_check.proofs.Fewer.{fewer_left}
 use Rattle.desk_check.proofs.walk.Goals as goal
 
-pub loop-fault-smaller : goal.loop-fault-smaller
-loop-fault-smaller c = search fewer_left
+pub loop-found-smaller : goal.loop-found-smaller
+loop-found-smaller c = search fewer_left

@@ -6,8 +6,8 @@ use Rattle.disk.proofs.check.Goals as goal
 pub returns-then-disk-ne174848 : goal.returns-then-disk-ne174848
 returns-then-disk-ne174848 c = search (check_long, c.if-disk-ne174848.true)
 
-pub returns-then-not-seen : goal.returns-then-not-seen
-returns-then-not-seen c = search check_unsound
+pub returns-in_default : goal.returns-in_default
+returns-in_default c = check_unsound c.args.disk.now c.in_default.ensures
 
 pub returns : goal.returns
-returns c = search check_sound
+returns c = check_sound c.in-Some.ensures c.free_sectors-free.ensures

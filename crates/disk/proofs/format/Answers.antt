@@ -9,4 +9,4 @@ returns-then-disk-ne174848 c = search (format_long, c.if-disk-ne174848.true)
 
 pub returns : goal.returns
 unfolding fresh_header
-returns c = search format_done
+returns c = format_done c.args.disk.now c.if-disk-ne174848.false (c.fill.ensures.after (λ y e. cc)) c.store.ensures c.store-2.ensures

@@ -1,19 +1,13 @@
 -- `disk::locate` meets its contract.
 -- Assumes nothing.
-use Rattle.disk.proofs.Locating.{locate_none, locate_fits, locate_in, locate_at, locate_refused}
+use Rattle.std.proofs.lemmas.Result.{err_from_is_err_and}
+use mathlib.Core.Path.{refl}
+use Rattle.disk.proofs.Locating.{locate_told, locate_refused}
 use Rattle.disk.proofs.locate.Goals as goal
 
-pub returns-then-at-count : goal.returns-then-at-count
-returns-then-at-count c = search locate_none
+pub returns-in_err-sought : goal.returns-in_err-sought
+returns-in_err-sought c =
+    let p = err_from_is_err_and c.from_residual.result c.from_residual.ensures.1 in rw (p.1, p.2) (locate_refused c.in_err-sought.ensures refl)
 
-pub offset_bounds-files-at : goal.offset_bounds-files-at
-offset_bounds-files-at c = search locate_fits
-
-pub bounds-files-at : goal.bounds-files-at
-bounds-files-at c = search locate_in
-
-pub returns-else-at-count : goal.returns-else-at-count
-returns-else-at-count c = search locate_at
-
-pub returns-in-Err : goal.returns-in-Err
-returns-in-Err c = search locate_refused
+pub returns : goal.returns
+returns c = locate_told c.in_ok-sought.ensures refl c.ok_or.ensures.value

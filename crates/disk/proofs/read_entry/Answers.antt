@@ -3,7 +3,7 @@
 use mathlib.Core.Path.{sym}
 use native.Mathlib.Omega.{arith}
 use lib.Seq.{length-take-le}
-use Rattle.disk.proofs.Calling.{traced_sectors, traced_few, entry_none, entry_read}
+use Rattle.disk.proofs.Calling.{traced_below, entry_none, entry_read}
 use borrow.Author.Rules.{rules}
 use Rattle.disk.proofs.read_entry.Goals as goal
 
@@ -11,7 +11,7 @@ pub slice_bounds-measure-end : goal.slice_bounds-measure-end
 slice_bounds-measure-end c = sym (length-take-le _ _ (omega arith))
 
 pub measure-needed-requires : goal.measure-needed-requires
-measure-needed-requires c = search (rules, traced_sectors, traced_few)
+measure-needed-requires c = search (rules, traced_below)
 
 pub returns-then-needed-out : goal.returns-then-needed-out
 returns-then-needed-out c = search entry_none
@@ -20,7 +20,7 @@ pub slice_bounds-take_out-end : goal.slice_bounds-take_out-end
 slice_bounds-take_out-end c = sym (length-take-le _ _ (omega arith))
 
 pub take_out-requires : goal.take_out-requires
-take_out-requires c = search (rules, traced_sectors)
+take_out-requires c = search (rules, traced_below)
 
 pub returns : goal.returns
 returns c = search entry_read

@@ -6,8 +6,8 @@ use Rattle.disk_any.proofs.entry_at.Goals as goal
 pub described-requires : goal.described-requires
 described-requires c = search on_within
 
-pub returns-in-On : goal.returns-in-On
-returns-in-On c = search on_entry
+pub returns-in-Some : goal.returns-in-Some
+returns-in-Some c = search on_entry
 
-pub returns-in-Off : goal.returns-in-Off
-returns-in-Off c = search off_entry
+pub returns-in-None : goal.returns-in-None
+returns-in-None c = search off_entry

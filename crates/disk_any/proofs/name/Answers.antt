@@ -6,8 +6,8 @@ use Rattle.disk_any.proofs.name.Goals as goal
 pub name_at-requires : goal.name_at-requires
 name_at-requires c = search on_within
 
-pub returns-in-On : goal.returns-in-On
-returns-in-On c = search on_name
+pub returns-in-Some : goal.returns-in-Some
+returns-in-Some c = search on_name
 
-pub returns-in-Off : goal.returns-in-Off
-returns-in-Off c = search off_name
+pub returns-in-None : goal.returns-in-None
+returns-in-None c = search off_name

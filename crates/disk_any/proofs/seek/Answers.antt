@@ -3,6 +3,7 @@
 use Rattle.disk_any.proofs.Locating.{seek_start, seek_mul, seek_in, seek_fits, seek_fits_2, seek_fits_3, seek_room, seek_out, seek_found, seek_turn, seek_end}
 use borrow.Author.Rules.{rules}
 use Rattle.disk_any.proofs.seek.Goals as goal
+use Rattle.disk_any.proofs.seek.Goals.{then-disk-p-ne0+else-left-eq0, else-disk-p-ne0}
 
 pub overflow_mul-end : goal.overflow_mul-end
 overflow_mul-end c = search seek_mul
@@ -25,14 +26,13 @@ overflow_add-p-in-loop-next c = search seek_fits_3
 pub bounds-disk-p : goal.bounds-disk-p
 bounds-disk-p c = search seek_room
 
-pub returns-then-left-lt1 : goal.returns-then-left-lt1
-returns-then-left-lt1 c = search (seek_found, c.if-disk-p-ne0.true)
-
-pub loop-next-preserved-then-disk-p-ne0 : goal.loop-next-preserved-then-disk-p-ne0
-loop-next-preserved-then-disk-p-ne0 c = search (seek_turn, c.if-disk-p-ne0.true)
+pub returns-then-left-eq0 : goal.returns-then-left-eq0
+returns-then-left-eq0 c = search (seek_found, c.if-disk-p-ne0.true)
 
 pub loop-next-preserved : goal.loop-next-preserved
-loop-next-preserved c = search seek_out
+loop-next-preserved c =
+    elim c.if-disk-p-ne0.branch
+    [ then-disk-p-ne0+else-left-eq0 w ↦ rw w.left-is (search (seek_turn, w.if-disk-p-ne0.true, w.if-left-eq0.false)) | else-disk-p-ne0 w ↦ rw w.left-is (search seek_out) ]
 
 pub returns : goal.returns
 returns c = search seek_end

@@ -4,8 +4,8 @@ use Rattle.disk_bytes.proofs.Taking.{take_start, take_below, take_room, take_mul
 use borrow.Author.Rules.{rules}
 use Rattle.disk_bytes.proofs.take_out.Goals as goal
 
-pub loop-i-init : goal.loop-i-init
-loop-i-init c = search take_start
+pub loop-n-init : goal.loop-n-init
+loop-n-init c = search take_start
 
 pub overflow_mul-from : goal.overflow_mul-from
 overflow_mul-from c = search take_mul
@@ -28,8 +28,8 @@ store-requires c = search take_room
 pub overflow_add-to : goal.overflow_add-to
 overflow_add-to c = search take_to
 
-pub loop-i-preserved : goal.loop-i-preserved
-loop-i-preserved c = search take_turn
+pub loop-n-preserved : goal.loop-n-preserved
+loop-n-preserved c = search take_turn
 
 pub returns : goal.returns
 returns c = search take_end

@@ -1,18 +1,13 @@
 -- `disk_chains::map_agrees` meets its contract.
 -- Assumes nothing.
-use Rattle.disk_rules.specs.Free.{map_agrees}
-use Rattle.disk_chains.proofs.Runs.{left_start, left_turn, left_failed, left_end}
+use Rattle.std.proofs.Common.{rules, tests, ◌∙◌, refl, ◌+◌, ◌/◌, ◌%◌, false, get_or}
+use Rattle.std.proofs.lemmas.Iterator.{YieldsList-from_range}
+use Rattle.std.proofs.lemmas.Iterator.Search.{all_from_yields_List}
+use Rattle.disk_rules.specs.Free.{bit_agrees}
+use Rattle.disk_chains.proofs.Mapping.{map_listed}
 use Rattle.disk_chains.proofs.map_agrees.Goals as goal
 
-pub loop-i-init : goal.loop-i-init
-unfolding map_agrees
-loop-i-init c = left_start _ 840
-
-pub returns-then-not-bit_agrees : goal.returns-then-not-bit_agrees
-returns-then-not-bit_agrees c = search left_failed
-
-pub loop-i-preserved : goal.loop-i-preserved
-loop-i-preserved c = search left_turn
-
 pub returns : goal.returns
-returns c = search left_end
+returns c =
+    all_from_yields_List (λ i. bit_agrees c.args.disk.now (λ n. get_or c.args.marks.now n false) (1 + i / 24) (i % 24)) _ _ _ c.all.ensures.ran (YieldsList-from_range 0 840 840 refl refl) (λ x b q k. search (rules, tests))
+    ∙ map_listed c.args.disk.now (λ n. get_or c.args.marks.now n false)

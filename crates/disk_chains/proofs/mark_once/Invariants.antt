@@ -7,6 +7,3 @@ use Rattle.disk_chains.proofs.mark_once.Given as goal
 
 abbrev pub invariant-loop-i : goal.invariant-loop-i
 invariant-loop-i l = Marking l.list l.marks l.i × (length l.marks ≡ length l.initial.marks)
-
-abbrev pub decreases-loop-i : goal.decreases-loop-i
-decreases-loop-i l = l.i

@@ -5,8 +5,8 @@ use lib.ListN.{length-set}
 use Rattle.disk_chains.proofs.Tracing.{trace_start, trace_full, trace_not, trace_fits, trace_room, trace_last, trace_astray, trace_turn}
 use Rattle.disk_chains.proofs.trace.Goals as goal
 
-pub loop-to-init : goal.loop-to-init
-loop-to-init c = search trace_start
+pub loop-i-init : goal.loop-i-init
+loop-i-init c = search trace_start
 
 pub returns-then-not-may_hold : goal.returns-then-not-may_hold
 returns-then-not-may_hold c = search trace_not
@@ -23,11 +23,8 @@ shape_of-log-in-Last c = simp length-set (omega arith)
 pub returns-in-Last : goal.returns-in-Last
 returns-in-Last c = search trace_last
 
-pub loop-to-smaller : goal.loop-to-smaller
-loop-to-smaller c = simp length-set (omega arith)
-
-pub loop-to-preserved : goal.loop-to-preserved
-loop-to-preserved c = search trace_turn
+pub loop-i-preserved : goal.loop-i-preserved
+loop-i-preserved c = search trace_turn
 
 pub shape_of-log-in-Astray : goal.shape_of-log-in-Astray
 shape_of-log-in-Astray c = simp length-set (omega arith)

@@ -3,7 +3,7 @@
 use mathlib.Core.Path.{sym}
 use native.Mathlib.Omega.{arith}
 use lib.Seq.{length-take-le}
-use Rattle.disk_check.proofs.Looking.{seen_directory, seen_ends, seen_sectors, seen_room, seen_after, seen_listed, seen_all}
+use Rattle.disk_check.proofs.Looking.{seen_directory, seen_ends, seen_sectors, seen_room, seen_after, seen_listed, seen_all, seen_none}
 use borrow.Author.Rules.{rules}
 use Rattle.disk_check.proofs.look.Goals as goal
 
@@ -19,8 +19,11 @@ slice_bounds-holds-end-3 c = search seen_after
 pub slice_bounds-holds-end-4 : goal.slice_bounds-holds-end-4
 slice_bounds-holds-end-4 c = sym (length-take-le _ _ (search seen_after))
 
-pub holds-sound-requires : goal.holds-sound-requires
-holds-sound-requires c = search (rules, seen_directory, seen_ends, seen_listed)
+pub holds-requires : goal.holds-requires
+holds-requires c = search (rules, seen_directory, seen_ends, seen_listed)
 
-pub returns : goal.returns
-returns c = search seen_all
+pub returns-then-holds : goal.returns-then-holds
+returns-then-holds c = search (seen_all, c.if-holds.true)
+
+pub returns-else-holds : goal.returns-else-holds
+returns-else-holds c = search (seen_none, c.if-holds.false)

@@ -5,14 +5,14 @@ use Rattle.disk_directory.proofs.Lining.{lining_start, lining_turn, lining_end, 
 use borrow.Author.Rules.{rules}
 use Rattle.disk_directory.proofs.put_files.Goals as goal
 
-pub loop-i-init : goal.loop-i-init
-loop-i-init c = search lining_start
+pub loop-p-init : goal.loop-p-init
+loop-p-init c = search lining_start
 
 pub put_file-to-requires : goal.put_file-to-requires
 put_file-to-requires c = search (rules, entry_listed)
 
-pub loop-i-preserved : goal.loop-i-preserved
-loop-i-preserved c = search lining_turn
+pub loop-p-preserved : goal.loop-p-preserved
+loop-p-preserved c = search lining_turn
 
 pub returns : goal.returns
 returns c = search lining_end

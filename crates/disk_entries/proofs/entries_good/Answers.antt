@@ -19,11 +19,11 @@ name_at-requires c = search entry_in_lem
 pub find-requires : goal.find-requires
 find-requires c = search (rules, test_tail)
 
-pub returns-then-find-behind : goal.returns-then-find-behind
-returns-then-find-behind c = search test_twice
+pub returns-then-is_some : goal.returns-then-is_some
+returns-then-is_some c = search (test_twice, c.if-is_some.true)
 
 pub loop-i-preserved : goal.loop-i-preserved
-loop-i-preserved c = search test_turn
+loop-i-preserved c = search (test_turn, c.if-is_some.false)
 
 pub returns : goal.returns
 returns c = search test_end

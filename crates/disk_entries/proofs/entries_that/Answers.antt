@@ -4,15 +4,16 @@ use mathlib.Core.Path.{refl}
 use Rattle.disk_chains.proofs.Runs.{pick_start, pick_in, pick_out, pick_end}
 use Rattle.disk_entries.proofs.Placing.{that_stored}
 use Rattle.disk_entries.proofs.entries_that.Goals as goal
+use Rattle.disk_entries.proofs.entries_that.Goals.{then-is_that, else-is_that}
 
-pub loop-next-init : goal.loop-next-init
-loop-next-init c = pick_start _ _ _ _
+pub loop-e-init : goal.loop-e-init
+loop-e-init c = pick_start _ _ _ _
 
-pub loop-next-preserved-then-is_that : goal.loop-next-preserved-then-is_that
-loop-next-preserved-then-is_that c = search pick_in
-
-pub loop-next-preserved : goal.loop-next-preserved
-loop-next-preserved c = search pick_out
+pub loop-e-preserved : goal.loop-e-preserved
+loop-e-preserved c =
+    elim c.if-is_that.branch
+    [ then-is_that w ↦ rw (w.list-is, w.count-is) (pick_in c.loop-e.invariant c.loop-e-test.true w.if-is_that.true c.is_that.ensures c.entry_at-p.ensures.0)
+    | else-is_that w ↦ rw (w.list-is, w.count-is) (pick_out c.loop-e.invariant c.loop-e-test.true w.if-is_that.false c.is_that.ensures c.entry_at-p.ensures.0) ]
 
 pub returns : goal.returns
-returns c = that_stored _ _ _ (pick_end c.loop-next.invariant c.loop-next-test.false) refl
+returns c = that_stored _ _ _ (pick_end c.loop-e.invariant c.loop-e-test.false) refl

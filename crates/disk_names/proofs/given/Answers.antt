@@ -7,8 +7,8 @@ use Rattle.disk_names.proofs.given.Goals as goal
 pub loop-i-init : goal.loop-i-init
 loop-i-init c = search giving_start
 
-pub loop-i-preserved-in-Byte : goal.loop-i-preserved-in-Byte
-loop-i-preserved-in-Byte c = search giving_form
+pub loop-i-preserved-in-Some : goal.loop-i-preserved-in-Some
+loop-i-preserved-in-Some c = search giving_form
 
 pub loop-i-preserved : goal.loop-i-preserved
 loop-i-preserved c = search giving_character

@@ -4,11 +4,11 @@ use Rattle.say_put.proofs.Clipping.{clip_long}
 use Rattle.disk_names.proofs.Showing.{showing_start, showing_turn, showing_end}
 use Rattle.disk_names.proofs.put_name.Goals as goal
 
-pub loop-i-init : goal.loop-i-init
-loop-i-init c = search showing_start
+pub loop-b-init : goal.loop-b-init
+loop-b-init c = search showing_start
 
-pub loop-i-preserved : goal.loop-i-preserved
-loop-i-preserved c = search showing_turn
+pub loop-b-preserved : goal.loop-b-preserved
+loop-b-preserved c = search showing_turn
 
 pub returns : goal.returns
 returns c = search showing_end

@@ -6,11 +6,11 @@ use Rattle.disk_saves.proofs.lowest_outside.Goals as goal
 pub loop-n-init : goal.loop-n-init
 loop-n-init c = low_start _
 
-pub returns-then-not-stands_in : goal.returns-then-not-stands_in
-returns-then-not-stands_in c = search low_found
+pub returns-then-not-contains : goal.returns-then-not-contains
+returns-then-not-contains c = low_found c.loop-n.invariant c.loop-n-test.true c.if-not-contains.true c.contains.ensures.value
 
 pub loop-n-preserved : goal.loop-n-preserved
-loop-n-preserved c = search low_turn
+loop-n-preserved c = low_turn c.loop-n.invariant c.loop-n-test.true c.if-not-contains.false c.contains.ensures.value
 
 pub returns : goal.returns
-returns c = search low_end
+returns c = low_end c.loop-n.invariant c.loop-n-test.false

@@ -5,18 +5,18 @@ use Rattle.disk_sectors.proofs.Geometry.{zone_1, zone_2, zone_3, zone_4}
 use borrow.Author.Rules.{rules}
 use Rattle.disk_sentences.proofs.sector_of.Goals as goal
 
-pub returns-then-n-lt357 : goal.returns-then-n-lt357
+pub returns-in-0-to-356 : goal.returns-in-0-to-356
 unfolding sector_of
-returns-then-n-lt357 c = search (rules, zone_1)
+returns-in-0-to-356 c = search (rules, zone_1)
 
-pub returns-then-n-lt490 : goal.returns-then-n-lt490
+pub returns-in-357-to-489 : goal.returns-in-357-to-489
 unfolding sector_of
-returns-then-n-lt490 c = search (rules, zone_2)
+returns-in-357-to-489 c = search (rules, zone_2)
 
-pub returns-then-n-lt598 : goal.returns-then-n-lt598
+pub returns-in-490-to-597 : goal.returns-in-490-to-597
 unfolding sector_of
-returns-then-n-lt598 c = search (rules, zone_3)
+returns-in-490-to-597 c = search (rules, zone_3)
 
-pub returns : goal.returns
+pub returns-in_default : goal.returns-in_default
 unfolding sector_of
-returns c = search (rules, zone_4)
+returns-in_default c = search (rules, zone_4)

@@ -1,13 +1,9 @@
 -- `disk_ways::follow` meets its contract.
 -- Assumes nothing.
-use Prim.Native.Nat.{◌-◌}
 use lib.ListN.{length}
 use Rattle.disk_ways.specs.Ways.{way}
 use Rattle.disk_ways.proofs.Following.{marked_in, Following}
 use Rattle.disk_ways.proofs.follow.Given as goal
 
-abbrev pub invariant-loop-to : goal.invariant-loop-to
-invariant-loop-to l = Following l.over l.disk (way l.over (length l.initial.log) l.disk (marked_in l.initial.marks) l.first) l.initial.log l.initial.marks l.log l.marks l.n l.to
-
-abbrev pub decreases-loop-to : goal.decreases-loop-to
-decreases-loop-to l = length l.log - l.to
+abbrev pub invariant-loop-i : goal.invariant-loop-i
+invariant-loop-i l = Following l.over l.disk (way l.over (length l.initial.log) l.disk (marked_in l.initial.marks) l.first) l.initial.log l.initial.marks l.log l.marks l.n l.i

@@ -16,11 +16,11 @@ returns-then-disk-p c = search (test_type, c.if-disk-p.true)
 pub name_at-requires : goal.name_at-requires
 name_at-requires c = search entry_in_lem
 
-pub find-at-requires : goal.find-at-requires
-find-at-requires c = search (rules, test_tail)
+pub find-requires : goal.find-requires
+find-requires c = search (rules, test_tail)
 
-pub returns-then-at-behind : goal.returns-then-at-behind
-returns-then-at-behind c = search test_twice
+pub returns-in-Some : goal.returns-in-Some
+returns-in-Some c = search test_twice
 
 pub loop-i-preserved : goal.loop-i-preserved
 loop-i-preserved c = search test_turn
