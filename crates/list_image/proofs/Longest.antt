@@ -13,8 +13,7 @@ use Rattle.base_lent.specs.Lent.{Lent, into_buffer, room_for}
 use Rattle.base_lent.specs.Stores.{HasRoom}
 use Rattle.base_lent.proofs.Outcomes.{into_refused}
 use Rattle.image_readers.specs.declared.By.{By}
-use Rattle.image_readers.specs.declared.Checked.{Checked}
-use Rattle.image_readers.specs.declared.Checked.TheVariants.{Image, Refused}
+use Rattle.image_readers.specs.declared.Overview.{Overview}
 use Rattle.image_readers.specs.declared.Line.{Line}
 use Rattle.image_readers.specs.NumberedBody.{NumberedBody}
 use Rattle.image_readers.specs.Bodies.{body_of, numbered_body, bodies_from}
@@ -28,7 +27,7 @@ use Rattle.image_units.specs.declared.Rules.{Rules}
 use Rattle.list_lines.specs.Body.{line_listing}
 use Rattle.list_image.specs.Listing.{lines_listing, listing_by}
 use Rattle.list_lines.proofs.Lining.{line_short}
-use Rattle.std.specs.Prelude.{Option, Some, None}
+use Rattle.std.specs.Prelude.{Option, Some, None, Result, Ok, Err}
 
 module _ (by : By) (rules : Rules) (image : List ℕ) (bytes : (i : ℕ) → get_or image i 0 < 256) where
   abbrev from : ℕ → Answer (List NumberedBody)
@@ -72,9 +71,9 @@ module _ (by : By) (rules : Rules) (image : List ℕ) (bytes : (i : ℕ) → get
 overview_by : (by : By) (image : List ℕ) {a : Answer (List NumberedBody)} → bodies_from (step_by by) image 2 ≡ a → overview (step_by by) image ≡ map_done (overview_of image) a
 overview_by by image f = overview_bodies (step_by by) image ∙ ap (map_done (overview_of image)) f
 
-module _ (by : By) (rules : Rules) (image buffer : List ℕ) {r : Checked} (e : answered r ≡ overview (step_by by) image) where
+module _ (by : By) (rules : Rules) (image buffer : List ℕ) {r : Result Overview Refusal} (e : answered r ≡ overview (step_by by) image) where
   -- an image that was read to its None has a listing, and the buffer has room for it
-  pub ninefold_room : {load lines : ℕ} → r ≡ Image load lines → length image ≤ length buffer / 9 → ((i : ℕ) → Fits w8 (get_or image i 0)) → HasRoom buffer (listing_by by rules image)
+  pub ninefold_room : {v : Overview} → r ≡ Ok v → length image ≤ length buffer / 9 → ((i : ℕ) → Fits w8 (get_or image i 0)) → HasRoom buffer (listing_by by rules image)
   unfolding listing_by
   ninefold_room is few bytes = go (bodies_from (step_by by) image 2) refl
     where
@@ -83,7 +82,7 @@ module _ (by : By) (rules : Rules) (image buffer : List ℕ) {r : Checked} (e : 
       go (refused n) f = let z : ◌≡◌ {A = ℕ} 0 1 = cc (overview_by by image f, told_back is e) in absurd (omega arith)
 
   -- one that was refused has none
-  pub ninefold_refused : {n : Refusal} → r ≡ Refused n → ◌≡◌ {A = Lent} (record { answer = refused (numbered n); buffer = buffer }) (into_buffer (listing_by by rules image) buffer)
+  pub ninefold_refused : {n : Refusal} → r ≡ Err n → ◌≡◌ {A = Lent} (record { answer = refused (numbered n); buffer = buffer }) (into_buffer (listing_by by rules image) buffer)
   unfolding listing_by
   ninefold_refused {n} is = into_refused buffer (listing_by by rules image) (go (bodies_from (step_by by) image 2) refl)
     where

@@ -179,15 +179,15 @@ written_long k = k.owed.long
 
 module _ (by : By) (rules : Rules) (image buffer : List ℕ) {r : (Result ℕ Refusal)} (e : answered r ≡ room_for (listing_by by rules image)) where
   pub room_there : {n : ℕ} → r ≡ Ok n → n ≤ length buffer → HasRoom buffer (listing_by by rules image)
-  room_there is h = has_room buffer (listing_by by rules image) (told_back is e) h
+  room_there is h = has_room buffer (listing_by by rules image) (told is e) h
 
   pub no_room_lem : {n : ℕ} → r ≡ Ok n → length buffer < n
       → ◌≡◌ {A = Lent} (record { answer = refused (no_room n); buffer = buffer }) (into_buffer (listing_by by rules image) buffer)
-  no_room_lem is h = into_none buffer (listing_by by rules image) (told_back is e) h
+  no_room_lem is h = into_none buffer (listing_by by rules image) (told is e) h
 
   pub no_listing : {n : Refusal} → r ≡ Err n
       → ◌≡◌ {A = Lent} (record { answer = refused (numbered n); buffer = buffer }) (into_buffer (listing_by by rules image) buffer)
-  no_listing is = into_refused buffer (listing_by by rules image) (told_back is e)
+  no_listing is = into_refused buffer (listing_by by rules image) (told is e)
 
 -- ---- as the options ask for it
 

@@ -1,7 +1,7 @@
 // The listing of an image.
 #![tactic(auto)]
 
-ghost use Rattle.std.specs.Prelude.{◌≡◌, ◌/◌, ◌≤◌, length};
+ghost use Rattle.std.specs.Prelude.{◌≡◌, ◌/◌, ◌≤◌, Ok, length};
 ghost use Rattle.base_lent.specs.Lent.{into_buffer, room_for, left};
 ghost use Rattle.base_lent.specs.Stores.{HasRoom};
 ghost use Rattle.list_image.specs.Listing.{listing, listing_by, listing_under};
@@ -31,27 +31,16 @@ pub fn room(image: &[u8]) -> Result<usize, Refusal>
 pub fn list_under(image: &[u8], options: ListOptions, out: &mut [u8]) -> Result<usize, Refusal>
     ensures { left result out.new ≡ into_buffer (listing_under options image.now) out.old }
 {
-    let by = options.by;
-    list_with(
-        out,
-        list_texts::stored_texts(),
-        by,
-        list_options::rules_under(options),
-        image,
-    )
+    let rules = list_options::rules_under(options);
+    list_with(out, list_texts::stored_texts(), options.by, rules, image)
 }
 
 // The room that this listing of an image needs.
 pub fn room_under(image: &[u8], options: ListOptions) -> Result<usize, Refusal>
     ensures { answered result ≡ room_for (listing_under options image.now) }
 {
-    let by = options.by;
-    measure(
-        list_texts::stored_texts(),
-        by,
-        list_options::rules_under(options),
-        image,
-    )
+    let rules = list_options::rules_under(options);
+    measure(list_texts::stored_texts(), options.by, rules, image)
 }
 
 // Where the room holds nine bytes for each byte of the image, which no listing exceeds, nothing is measured.
@@ -65,9 +54,10 @@ fn list_with(
     ensures { left result out.new ≡ into_buffer (listing_by by rules image.now) out.old }
 {
     if image.len() <= out.len() / 9 {
-        return list_checked(out, texts, by, rules, image);
+        list_checked(out, texts, by, rules, image)
+    } else {
+        list_measured(out, texts, by, rules, image)
     }
-    list_measured(out, texts, by, rules, image)
 }
 
 // The same in a buffer that holds any listing of an image of this length: a refused image is known before a byte is stored.
@@ -81,12 +71,8 @@ fn list_checked(
     requires { (length image.now ≤ length out.old / 9) }
     ensures { left result out.new ≡ into_buffer (listing_by by rules image.now) out.old }
 {
-    match image_readers::check_by(image, by) {
-        Ok(_) => {
-            Ok(write(out, texts, by, rules, image))
-        }
-        Err(refusal) => Err(refusal),
-    }
+    image_readers::check_by(image, by)?;
+    Ok(write(out, texts, by, rules, image))
 }
 
 // The same in any buffer: what is measured decides.
@@ -99,15 +85,11 @@ fn list_measured(
 ) -> Result<usize, Refusal>
     ensures { left result out.new ≡ into_buffer (listing_by by rules image.now) out.old }
 {
-    match measure(texts, by, rules, image) {
-        Ok(needed) => {
-            if needed > out.len() {
-                return Err(Refusal::NoRoom { needed });
-            }
-            Ok(write(out, texts, by, rules, image))
-        }
-        Err(refusal) => Err(refusal),
+    let needed = measure(texts, by, rules, image)?;
+    if needed > out.len() {
+        return Err(Refusal::NoRoom { needed });
     }
+    Ok(write(out, texts, by, rules, image))
 }
 
 fn measure(texts: Texts, by: By, rules: Rules, image: &[u8]) -> Result<usize, Refusal>
@@ -115,47 +97,25 @@ fn measure(texts: Texts, by: By, rules: Rules, image: &[u8]) -> Result<usize, Re
 {
     let mut offset: usize = 2;
     let mut n: usize = 0;
-    loop {
-        match image_readers::step_by(image, offset, by) {
-            Ok(Some(line)) => {
-                let from = line.from;
-                let to = line.to;
-                n += list_lines::measure_line(texts, rules, line.number, &image[from..to]);
-                offset = line.next;
-            }
-            Ok(None) => {
-                return Ok(n);
-            }
-            Err(refusal) => {
-                return Err(refusal);
-            }
-        }
+    while let Some(line) = image_readers::step_by(image, offset, by)? {
+        n += list_lines::measure_line(texts, rules, line.number, &image[line.from..line.to]);
+        offset = line.next;
     }
+    Ok(n)
 }
 
 // Stores the listing of an image that has one, in a buffer that has the room.
 fn write(out: &mut [u8], texts: Texts, by: By, rules: Rules, image: &[u8]) -> usize
     requires { HasRoom out.old (listing_by by rules image.now) }
-    ensures { left (Outcome.Done result) out.new ≡ into_buffer (listing_by by rules image.now) out.old }
+    ensures { left (Ok result) out.new ≡ into_buffer (listing_by by rules image.now) out.old }
 {
     let mut offset: usize = 2;
     let mut at: usize = 0;
-    loop {
-        match image_readers::step_by(image, offset, by) {
-            Ok(Some(line)) => {
-                let from = line.from;
-                let to = line.to;
-                let behind = list_lines::put_head(out, at, line.number);
-                at = list_lines::put_rest(out, behind, texts, rules, &image[from..to]);
-                offset = line.next;
-            }
-            Ok(None) => {
-                return at;
-            }
-            // An image that has a listing is refused nowhere.
-            Err(_) => {
-                return at;
-            }
-        }
+    // An image that has a listing is refused nowhere.
+    while let Ok(Some(line)) = image_readers::step_by(image, offset, by) {
+        let behind = list_lines::put_head(out, at, line.number);
+        at = list_lines::put_rest(out, behind, texts, rules, &image[line.from..line.to]);
+        offset = line.next;
     }
+    at
 }

@@ -53,13 +53,6 @@ and_second false b e = let z : ◌≡◌ {A = ℕ} 0 1 = cc in absurd (omega ari
 
 -- ---- whether a unit fits
 
-module _ (room b : ℕ) where
-  pub holds_none : room ≡ 0 → false ≡ (ltb 0 room && lists_as_itself b)
-  holds_none e = rw e
-
-  pub holds_some : {r : Bool} → (room ≡ 0 → ⊥) → r ≡ lists_as_itself b → r ≡ (ltb 0 room && lists_as_itself b)
-  holds_some n e = let some : 0 < room = omega arith in e ∙ simp (lt-ltb 0 room some)
-
 pub any_fits : (u : Unit) (room : ℕ) → 9 ≤ room → true ≡ leb (length (unit_text u)) room
 any_fits u room h = let s : length (unit_text u) ≤ room = omega (arith, unit_short u) in sym (le-leb _ _ s)
 

@@ -51,19 +51,12 @@ pub fn list_stretch(body: &[u8], options: ListOptions, place: Place, out: &mut [
     )
 }
 
-fn put_stretch(
-    out: &mut [u8],
-    texts: Texts,
-    rules: Rules,
-    body: &[u8],
-    place: Place,
-) -> Stretch
+fn put_stretch(out: &mut [u8], texts: Texts, rules: Rules, body: &[u8], place: Place) -> Stretch
     ensures { StretchPut (stretch_of rules body.now (length out.old) place) out.old 0 result out.new }
 {
     match place {
         Place::Number(number) => {
             if decimal::places(number) + 1 > out.len() {
-                let place = Place::Number(number);
                 return Stretch { length: 0, place };
             }
             let to = list_lines::put_head(out, 0, number);
@@ -83,28 +76,16 @@ fn put_stretch(
 }
 
 // What a buffer holds of a body and the line's end from a spot on.
-fn put_body_stretch(
-    out: &mut [u8],
-    texts: Texts,
-    rules: Rules,
-    body: &[u8],
-    spot: Spot,
-) -> Stretch
+fn put_body_stretch(out: &mut [u8], texts: Texts, rules: Rules, body: &[u8], spot: Spot) -> Stretch
     requires { (spot.to ≤ length out.old) }
     ensures { StretchPut (body_stretch rules body.now (length out.old - spot.to) spot.at spot.mode) out.old spot.to result out.new }
 {
-    let behind = put_run(out, texts, rules, body, spot);
-    let to = behind.to;
-    let at = behind.at;
-    let mode = behind.mode;
-    let place = Place::Body { at, mode };
-    if at < body.len() {
+    let Spot { to, at, mode } = put_run(out, texts, rules, body, spot);
+    if at < body.len() || to >= out.len() {
+        let place = Place::Body { at, mode };
         return Stretch { length: to, place };
     }
-    if to >= out.len() {
-        return Stretch { length: to, place };
-    }
-    out[to] = 0x0A;
+    out[to] = b'\n';
     Stretch {
         length: to + 1,
         place: Place::Over,
@@ -112,13 +93,7 @@ fn put_body_stretch(
 }
 
 // What a buffer holds of the units of a body from a spot on. A loop of its own beside `put_body`, which has room for the whole body and asks for none.
-fn put_run(
-    out: &mut [u8],
-    texts: Texts,
-    rules: Rules,
-    body: &[u8],
-    spot: Spot,
-) -> Spot
+fn put_run(out: &mut [u8], texts: Texts, rules: Rules, body: &[u8], spot: Spot) -> Spot
     requires { (spot.to ≤ length out.old) }
     ensures { RunPut (run_at rules body.now out.old spot) out.old spot result out.new }
 {
@@ -134,11 +109,10 @@ fn put_run(
             at += 1;
         } else {
             let taken = image_units::unit_at(body, at, mode, rules);
-            let unit = taken.unit;
-            if !fits(texts, unit, room) {
+            if !fits(texts, taken.unit, room) {
                 return Spot { to, at, mode };
             }
-            to = list_spelling::put_unit(out, to, texts, unit);
+            to = list_spelling::put_unit(out, to, texts, taken.unit);
             at += taken.used;
             mode = taken.mode;
         }
@@ -150,18 +124,12 @@ fn put_run(
 fn holds_itself(room: usize, b: u8) -> bool
     ensures { result ≡ (ltb 0 room && lists_as_itself b) }
 {
-    if room == 0 {
-        return false;
-    }
-    list_spelling::lists_as_itself(b)
+    room > 0 && list_spelling::lists_as_itself(b)
 }
 
 // Whether a room holds a unit's text: nine bytes hold any.
 fn fits(texts: Texts, unit: Unit, room: usize) -> bool
     ensures { result ≡ leb (length (unit_text unit)) room }
 {
-    if room >= 9 {
-        return true;
-    }
-    list_spelling::unit_length(texts, unit) <= room
+    room >= 9 || list_spelling::unit_length(texts, unit) <= room
 }
