@@ -10,7 +10,6 @@ use Rattle.image_units.specs.declared.Mode.TheVariants.{Plain, Quoted, Remark, D
 use Rattle.image_jumps.specs.declared.Cursor.{Cursor}
 use Rattle.image_faults.specs.declared.Fault.{Fault}
 use Rattle.image_faults.specs.declared.Fault.TheVariants.{OutsideMemory, NumberTooHigh, NotAscending, ZeroInBody, BodyLength, NoTarget, LinkChanges, LinksLeave, LinksEndless}
-use Rattle.image_fitness.specs.declared.Check.{Check}
 use Rattle.image_fitness.specs.declared.Check.TheVariants.{Number, Order, Zero, Length, Jumps}
 use Rattle.image_fitness.specs.declared.Stage.{Stage}
 use Rattle.image_fitness.specs.declared.Stage.TheVariants.{Memory, Line, Relinking, Done}
@@ -19,7 +18,7 @@ use Rattle.image_fitness.specs.declared.Found.{Found}
 use Rattle.image_fitness.specs.FaultHelpers.{faults_at, FaultIs}
 use Rattle.library_numbers.specs.declared.faults.WalkNumbers.{WalkNumbers}
 use Rattle.library_numbers.specs.declared.faults.FaultCode.{FaultCode}
-use Rattle.library_numbers.specs.FaultNumbers.{mode_number, worth_of, value_of, plain_walk, jumps_walk, check_walk, stage_walk, walk_numbers, mode_of, part_of, cursor_of, stage_of, walk_place, fault_code, found_code, FaultLeft}
+use Rattle.library_numbers.specs.FaultNumbers.{mode_number, worth_of, value_of, plain_walk, jumps_walk, stage_walk, walk_numbers, mode_of, part_of, cursor_of, stage_of, walk_place, fault_code, found_code, FaultLeft}
 use Rattle.std.specs.Prelude.{Option, Some, None}
 
 -- ---- numbers name what they were made from
@@ -96,15 +95,6 @@ mode_other (suc (suc (suc (suc zero)))) a b c d = absurd (d refl)
 mode_other (suc (suc (suc (suc (suc n))))) a b c d = refl
 
 module _ (x : WalkNumbers) where
-  pub cursor_made : {m : Mode} → m ≡ mode_of x.mode → {p : Option ℕ} → p ≡ part_of (not (eqb x.begun 0)) x.value
-      → record { at = x.at; mode = m; listed = not (eqb x.listed 0); part = p } ≡ cursor_of x
-  cursor_made {m} mode part =
-      ap (λ (y : Option ℕ). record { at = x.at; mode = m; listed = not (eqb x.listed 0); part = y }) part
-      ∙ ap (λ (y : Mode). record { at = x.at; mode = y; listed = not (eqb x.listed 0); part = part_of (not (eqb x.begun 0)) x.value }) mode
-
-  pub place_made : {s : Stage} → s ≡ stage_of x.stage x → record { stage = s; offset = x.offset; least = x.least } ≡ walk_place x
-  place_made e = ap (λ (y : Stage). record { stage = y; offset = x.offset; least = x.least }) e
-
   pub stage_jumps : x.stage ≡ 5 → {c : Cursor} → c ≡ cursor_of x → Line (Jumps c) ≡ stage_of x.stage x
   unfolding stage_of
   stage_jumps e is = ap (λ (y : Cursor). Line (Jumps y)) is ∙ ap (λ (k : ℕ). stage_of k x) (sym e)
@@ -119,37 +109,6 @@ module _ (x : WalkNumbers) where
   stage_other (suc (suc (suc (suc (suc zero))))) a b c d e f g = absurd (f refl)
   stage_other (suc (suc (suc (suc (suc (suc zero)))))) a b c d e f g = absurd (g refl)
   stage_other (suc (suc (suc (suc (suc (suc (suc n))))))) a b c d e f g = refl
-
--- ---- to numbers
-
-pub tells_mode : (m : Mode) {k : Mode} → m ≡ k → {n : ℕ} → n ≡ mode_number k → n ≡ mode_number m
-tells_mode m e is = is ∙ ap mode_number (sym e)
-
-pub tells_worth : (p : Option ℕ) {k : Option ℕ} → p ≡ k → {n : ℕ} → n ≡ worth_of k → n ≡ worth_of p
-tells_worth p e is = is ∙ ap worth_of (sym e)
-
-pub tells_value : (p : Option ℕ) {k : Option ℕ} → p ≡ k → {n : ℕ} → n ≡ value_of k → n ≡ value_of p
-tells_value p e is = is ∙ ap value_of (sym e)
-
-pub tells_jumps : (c : Cursor) (offset least : ℕ) {m : ℕ} → m ≡ mode_number c.mode → {l : ℕ} → l ≡ cond c.listed 1 0 → {w : ℕ} → w ≡ worth_of c.part → {v : ℕ} → v ≡ value_of c.part
-    → record { stage = 5; mode = m; listed = l; begun = w; at = c.at; value = v; offset = offset; least = least } ≡ jumps_walk c offset least
-tells_jumps c offset least mode listed worth value = rw (mode, listed, worth, value) refl
-
-module _ {x : WalkNumbers} (offset least : ℕ) where
-  pub tells_check : (c : Check) {k : Check} → c ≡ k → x ≡ check_walk k offset least → x ≡ check_walk c offset least
-  tells_check c e is = is ∙ ap (λ (y : Check). check_walk y offset least) (sym e)
-
-pub tells_stage : (p : Place) {k : Stage} → p.stage ≡ k → {x : WalkNumbers} → x ≡ stage_walk k p.offset p.least → x ≡ walk_numbers p
-tells_stage p e is = is ∙ ap (λ (y : Stage). stage_walk y p.offset p.least) (sym e)
-
-pub tells_fault : (f : Fault) {k : Fault} → f ≡ k → (x : WalkNumbers) {c : FaultCode} → c ≡ fault_code k x → c ≡ fault_code f x
-tells_fault f e x is = is ∙ ap (λ (y : Fault). fault_code y x) (sym e)
-
-pub tells_found : (r : Option Found) {m : Found} → r ≡ Some m → {x : WalkNumbers} → x ≡ walk_numbers m.place → {c : FaultCode} → c ≡ fault_code m.fault x → c ≡ found_code r
-tells_found r {m} e number is = is ∙ ap (fault_code m.fault) number ∙ ap found_code (sym e)
-
-pub tells_none : (r : Option Found) → r ≡ None → {x : WalkNumbers} → x ≡ walk_numbers (record { stage = Done; offset = 0; least = 0 }) → {c : FaultCode} → c ≡ record { kind = 0; first = 0; second = 0; place = x } → c ≡ found_code r
-tells_none r e number is = is ∙ ap (λ (y : WalkNumbers). record { kind = 0; first = 0; second = 0; place = y }) number ∙ ap found_code (sym e)
 
 -- the place behind a fault
 placed : (f : Fault) (x : WalkNumbers) → (fault_code f x).place ≡ x

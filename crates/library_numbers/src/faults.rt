@@ -1,5 +1,5 @@
 // The walk over a program's faults in numbers, for callers in other languages: they carry the place of the walk from call to call.
-ghost use Rattle.std.specs.Prelude.{◌≡◌, cond};
+ghost use Rattle.std.specs.Prelude.{◌≡◌};
 ghost use Rattle.image_marks.specs.Marks.{has_mark};
 ghost use Rattle.image_fitness.specs.FaultHelpers.{faults_at};
 ghost use Rattle.library_numbers.specs.FaultNumbers.{mode_of, mode_number, stage_of, cursor_of, part_of, walk_place, plain_walk, jumps_walk, check_walk, worth_of, value_of, walk_numbers, fault_code, found_code, FaultLeft};
@@ -54,9 +54,8 @@ pub fn next_fault(image: &[u8], marked: &[u8], place: WalkNumbers) -> FaultCode
 fn walk_place(given: WalkNumbers) -> Place
     ensures { result ≡ walk_place given }
 {
-    let stage = stage_of(given);
     Place {
-        stage,
+        stage: stage_of(given),
         offset: given.offset,
         least: given.least,
     }
@@ -65,8 +64,7 @@ fn walk_place(given: WalkNumbers) -> Place
 fn stage_of(given: WalkNumbers) -> Stage
     ensures { result ≡ stage_of given.stage given }
 {
-    let stage = given.stage;
-    match stage {
+    match given.stage {
         0 => Stage::Memory,
         1 => Stage::Line(Check::Number),
         2 => Stage::Line(Check::Order),
@@ -81,20 +79,18 @@ fn stage_of(given: WalkNumbers) -> Stage
 fn cursor_of(given: WalkNumbers) -> Cursor
     ensures { result ≡ cursor_of given }
 {
-    let mode = mode_of(given.mode);
-    let part = part_of(given.begun != 0, given.value);
     Cursor {
         at: given.at,
-        mode,
+        mode: mode_of(given.mode),
         listed: given.listed != 0,
-        part,
+        part: part_of(given.begun != 0, given.value),
     }
 }
 
 fn part_of(begun: bool, value: usize) -> Option<usize>
     ensures { result ≡ part_of begun value }
 {
-    if begun { Some(value) } else { None }
+    begun.then_some(value)
 }
 
 pub fn mode_of(number: u8) -> Mode
@@ -124,13 +120,18 @@ fn fault_code(fault: Fault, place: WalkNumbers) -> FaultCode
     ensures { result ≡ fault_code fault place }
 {
     match fault {
-        Fault::OutsideMemory { load, length } => told(1, load as usize, length, place),
-        Fault::NumberTooHigh { number } => told(2, number as usize, 0, place),
-        Fault::NotAscending { number } => told(3, number as usize, 0, place),
-        Fault::ZeroInBody { number, address } => told(4, number as usize, address, place),
-        Fault::BodyLength { number, length } => told(5, number as usize, length, place),
-        Fault::NoTarget { number, target } => told(6, number as usize, target, place),
-        Fault::LinkChanges { number, link } => told(7, number as usize, link as usize, place),
+        Fault::OutsideMemory { load, length } => told(1, usize::from(load), length, place),
+        Fault::NumberTooHigh { number } => told(2, usize::from(number), 0, place),
+        Fault::NotAscending { number } => told(3, usize::from(number), 0, place),
+        Fault::ZeroInBody { number, address } => told(4, usize::from(number), address, place),
+        Fault::BodyLength { number, length } => told(5, usize::from(number), length, place),
+        Fault::NoTarget { number, target } => told(6, usize::from(number), target, place),
+        Fault::LinkChanges { number, link } => told(
+            7,
+            usize::from(number),
+            usize::from(link),
+            place,
+        ),
         Fault::LinksLeave => told(8, 0, 0, place),
         Fault::LinksEndless => told(9, 0, 0, place),
     }
@@ -150,9 +151,11 @@ fn told(kind: u8, first: usize, second: usize, place: WalkNumbers) -> FaultCode
 fn walk_numbers(place: Place) -> WalkNumbers
     ensures { result ≡ walk_numbers place }
 {
-    let stage = place.stage;
-    let offset = place.offset;
-    let least = place.least;
+    let Place {
+        stage,
+        offset,
+        least,
+    } = place;
     match stage {
         Stage::Memory => plain_walk(0, offset, least),
         Stage::Line(check) => check_walk(check, offset, least),
@@ -191,42 +194,28 @@ fn plain_walk(stage: u8, offset: usize, least: usize) -> WalkNumbers
 fn jumps_walk(cursor: Cursor, offset: usize, least: usize) -> WalkNumbers
     ensures { result ≡ jumps_walk cursor offset least }
 {
-    let mode = cursor.mode;
-    let part = cursor.part;
     WalkNumbers {
         stage: 5,
-        mode: mode_number(mode),
-        listed: yes_or_no(cursor.listed),
-        begun: worth_of(part),
+        mode: mode_number(cursor.mode),
+        listed: u8::from(cursor.listed),
+        begun: worth_of(cursor.part),
         at: cursor.at,
-        value: value_of(part),
+        value: value_of(cursor.part),
         offset,
         least,
     }
 }
 
-fn yes_or_no(b: bool) -> u8
-    ensures { result ≡ cond b 1 0 }
-{
-    if b { 1 } else { 0 }
-}
-
 fn worth_of(part: Option<usize>) -> u8
     ensures { result ≡ worth_of part }
 {
-    match part {
-        None => 0,
-        Some(_) => 1,
-    }
+    u8::from(part.is_some())
 }
 
 fn value_of(part: Option<usize>) -> usize
     ensures { result ≡ value_of part }
 {
-    match part {
-        None => 0,
-        Some(value) => value,
-    }
+    part.unwrap_or(0)
 }
 
 pub fn mode_number(mode: Mode) -> u8

@@ -9,7 +9,7 @@ ghost use Rattle.library_numbers.specs.Choices.{crunch_options, reader_by, list_
 ghost use Rattle.library_numbers.specs.Overview.{overview_code};
 ghost use Rattle.base_refusals.specs.Answer.{answered};
 
-use base_refusals::Code;
+use base_refusals::{Code, Refusal};
 use crunch_rules::Options;
 use image_readers::{By, Overview};
 use list_options::ListOptions;
@@ -69,7 +69,7 @@ pub fn checked_code(checked: Result<Overview, Refusal>) -> Code
         Ok(Overview { load, lines }) => Code {
             number: 0,
             count: 2,
-            first: base_ascii::wide16(load),
+            first: usize::from(load),
             second: lines,
         },
         Err(refusal) => base_refusals::refusal_code(refusal),

@@ -14,7 +14,6 @@ use Rattle.base_refusals.specs.declared.Refusal.{Refusal}
 use Rattle.disk_rules.specs.Calls.{After, leaving}
 use Rattle.disk_rules.specs.declared.Holding.{Holding}
 use Rattle.disk_directory.specs.Listing.{directory_text, Shows}
-use Rattle.disk_rules.specs.declared.DiskCheck.{DiskCheck}
 use Rattle.image_index_entries.specs.declared.Numbers.{Numbers}
 use Rattle.image_relink.specs.Relinking.{Relinking, relinked_answer}
 use Rattle.image_relink.specs.declared.Relinked.{Relinked}
@@ -49,8 +48,8 @@ tells_disk r code {d} q = ap (λ (x : Code). record { code = x; buffer = d }) co
 pub tells_changed : (r : Result (Unit {0}) Refusal) {m : (Result (Unit {0}) Refusal)} → r ≡ m → {c : Code} → c ≡ bare_code (answered m) → c ≡ bare_code (answered r)
 tells_changed r e code = code ∙ ap (λ (x : Result (Unit {0}) Refusal). bare_code (answered x)) (sym e)
 
-pub tells_holding : (r : DiskCheck) {m : DiskCheck} → r ≡ m → {a : Answer Holding} → answered r ≡ a → {c : Code} → c ≡ holding_code (answered m) → c ≡ holding_code a
-tells_holding r e q code = code ∙ ap (λ (x : DiskCheck). holding_code (answered x)) (sym e) ∙ ap holding_code q
+pub tells_holding : (r : Result Holding Refusal) {m : Result Holding Refusal} → r ≡ m → {a : Answer Holding} → answered r ≡ a → {c : Code} → c ≡ holding_code (answered m) → c ≡ holding_code a
+tells_holding r e q code = code ∙ ap (λ (x : Result Holding Refusal). holding_code (answered x)) (sym e) ∙ ap holding_code q
 
 -- a text at a buffer's start
 clipped_length : {n : ℕ} (m k : ℕ) → n ≡ min (0 + m) k → n ≡ min m k

@@ -44,9 +44,6 @@ module _ {c : Code} where
   pub tells_default : (r : Result Dialect Refusal) → c ≡ load_code (answered r) → {a : Answer Dialect} → answered r ≡ a → c ≡ load_code a
   tells_default r code q = code ∙ ap load_code q
 
-  pub tells_resolved : (r : Result Dialect Refusal) {m : (Result Dialect Refusal)} → r ≡ m → c ≡ dialect_code (answered m) → c ≡ dialect_code (answered r)
-  tells_resolved r e code = code ∙ ap (λ (x : Result Dialect Refusal). dialect_code (answered x)) (sym e)
-
   pub tells_coded : (r : Option Escape) {m : Option Escape} → r ≡ m → c ≡ escape_code m → c ≡ escape_code r
   tells_coded r e code = code ∙ ap escape_code (sym e)
 

@@ -12,7 +12,7 @@ use Rattle.word_dialects.specs.declared.Dialect.{Dialect}
 use Rattle.image_find.specs.Sought.{Visit, sought_answer}
 use Rattle.image_find.specs.declared.Sought.{Sought}
 use Rattle.crunch_rules.specs.declared.Options.{Options}
-use Rattle.crunch_rules.specs.declared.LineMeasured.{LineMeasured}
+use Rattle.crunch_rules.specs.declared.MeasuredLine.{MeasuredLine}
 use Rattle.crunch_rules.specs.Measured.{line_measured}
 use Rattle.library_numbers.specs.declared.CrunchNumbers.{CrunchNumbers}
 use Rattle.library_numbers.specs.Choices.{crunch_options}
@@ -41,12 +41,12 @@ module _ {c : LineCode} where
   pub tells_visit : (r : Result Sought Refusal) → c ≡ visit_code (sought_answer r) → {a : Answer Visit} → sought_answer r ≡ a → c ≡ visit_code a
   tells_visit r code q = code ∙ ap visit_code q
 
-  pub tells_measured : (r : LineMeasured) {m : LineMeasured} → r ≡ m → c ≡ measured_code (answered m) → c ≡ measured_code (answered r)
-  tells_measured r e code = code ∙ ap (λ (x : LineMeasured). measured_code (answered x)) (sym e)
+  pub tells_measured : (r : Result (Option MeasuredLine) Refusal) {m : Result (Option MeasuredLine) Refusal} → r ≡ m → c ≡ measured_code (answered m) → c ≡ measured_code (answered r)
+  tells_measured r e code = code ∙ ap (λ (x : Result (Option MeasuredLine) Refusal). measured_code (answered x)) (sym e)
 
 -- the line at a place of the image that a text would have
 module _ (g : CrunchNumbers) (place : ℕ) (text : List ℕ) {n : (Result Dialect Refusal)} (answer : answered n ≡ by_number g.dialect) {c : LineCode} where
-  pub tells_there : {d : Dialect} → n ≡ Ok d → {p : Options} → p ≡ crunch_options g d → (r : LineMeasured) → c ≡ measured_code (answered r)
+  pub tells_there : {d : Dialect} → n ≡ Ok d → {p : Options} → p ≡ crunch_options g d → (r : Result (Option MeasuredLine) Refusal) → c ≡ measured_code (answered r)
       → answered r ≡ line_measured p place text → c ≡ measured_code (measured_with g place text)
   tells_there e is r code q =
       code

@@ -73,5 +73,5 @@ fn carried_code(carried: Carried) -> Code
 fn number_of(code: Code) -> usize
     ensures { result ≡ code.number }
 {
-    code.number as usize
+    usize::from(code.number)
 }

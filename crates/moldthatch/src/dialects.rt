@@ -9,8 +9,7 @@ ghost use Rattle.crunch_rules.specs.Measured.{nonblank_lines};
 ghost use Rattle.moldthatch.specs.Given.{resolved_by};
 ghost use Rattle.moldthatch.specs.ToldDialects.{dialect_code, load_code, escape_code};
 
-use base_refusals::Refusal;
-use base_refusals::Code;
+use base_refusals::{Code, Refusal};
 use escape_bytes::Escape;
 use guess::resolve;
 use word_dialects::Dialect;
@@ -38,7 +37,7 @@ pub extern "C" fn moldthatch_resolved_dialect(text: &[u8], dialect: u8) -> Code
     ensures { result ≡ dialect_code (resolved_by dialect text.now) }
 {
     match word_dialects::dialect_by_number(dialect) {
-        Ok(known) => resolved_code(resolve::resolved_dialect(text, known)),
+        Ok(known) => named_code(resolve::resolved_dialect(text, known)),
         Err(refusal) => base_refusals::refusal_code(refusal),
     }
 }
@@ -81,17 +80,8 @@ fn load_code(named: Result<Dialect, Refusal>) -> Code
 {
     match named {
         Ok(dialect) => {
-            base_refusals::with_one(0, base_ascii::wide16(word_dialects::default_load(dialect)))
+            base_refusals::with_one(0, usize::from(word_dialects::default_load(dialect)))
         }
-        Err(refusal) => base_refusals::refusal_code(refusal),
-    }
-}
-
-fn resolved_code(resolved: Result<Dialect, Refusal>) -> Code
-    ensures { result ≡ dialect_code (answered resolved) }
-{
-    match resolved {
-        Ok(dialect) => dialect_code(dialect),
         Err(refusal) => base_refusals::refusal_code(refusal),
     }
 }
@@ -114,7 +104,7 @@ fn escape_code(escape: Option<Escape>) -> Code
         Some(Escape { byte, count }) => Code {
             number: 0,
             count: 2,
-            first: byte as usize,
+            first: usize::from(byte),
             second: count as usize,
         },
         None => Code {

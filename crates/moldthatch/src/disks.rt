@@ -7,8 +7,7 @@ ghost use Rattle.disk_names.specs.Names.{name_given};
 ghost use Rattle.moldthatch.specs.Told.{told_code, bare_code, told_disk, holding_code, shown_directory};
 ghost use Rattle.base_refusals.specs.Answer.{answered};
 
-use base_refusals::Refusal;
-use base_refusals::Code;
+use base_refusals::{Code, Refusal};
 use disk_rules::Holding;
 
 // Makes a disk without files.

@@ -8,7 +8,7 @@ ghost use Rattle.image_relink.specs.Relinking.{relinking, relinked_answer};
 ghost use Rattle.moldthatch.specs.Told.{told_code, held_code, relinking_code};
 
 use base_refusals::Code;
-use image_index_entries::{Numbers, Kind};
+use image_index_entries::{Kind, Numbers};
 use image_relink::Relinked;
 
 // Writes the line index of an image into the start of a buffer: its length.
@@ -86,7 +86,7 @@ pub extern "C" fn moldthatch_relink(image: &[u8]) -> Code
             number: 0,
             count: 2,
             first: offset,
-            second: base_ascii::wide16(link),
+            second: usize::from(link),
         },
         Ok(Relinked::Leaves) => base_refusals::with_one(0, 0),
         Ok(Relinked::Endless) => base_refusals::with_one(0, 1),

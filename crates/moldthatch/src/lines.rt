@@ -9,6 +9,7 @@ ghost use Rattle.moldthatch.specs.Given.{measured_with};
 ghost use Rattle.moldthatch.specs.ToldLines.{line_code, no_line, step_code, visit_code, measured_code};
 
 use base_refusals::{Code, Refusal};
+use crunch_rules::MeasuredLine;
 use image_find::Sought;
 use image_readers::{Line, links, terminators};
 use library_numbers::{CrunchNumbers, crunch_options};
@@ -94,10 +95,7 @@ fn measured_code(measured: Result<Option<MeasuredLine>, Refusal>) -> LineCode
     ensures { result ≡ measured_code (answered measured) }
 {
     match measured {
-        Ok(Some(there)) => {
-            let line = there.line;
-            line_code(1, there.origin, line)
-        }
+        Ok(Some(there)) => line_code(1, there.origin, there.line),
         Ok(None) => no_line(0, 0, 0),
         Err(refusal) => refused_line(refusal),
     }

@@ -51,10 +51,9 @@ pub extern "C" fn moldthatch_list_stretch(
 fn stretch_code(stretch: Stretch) -> StretchCode
     ensures { result ≡ stretch_code stretch }
 {
-    let place = stretch.place;
     StretchCode {
         code: base_refusals::with_one(0, stretch.length),
-        place: place_numbers(place),
+        place: place_numbers(stretch.place),
     }
 }
 
@@ -70,8 +69,7 @@ fn refused_stretch(refusal: Refusal, place: PlaceNumbers) -> StretchCode
 fn place_of(given: PlaceNumbers) -> Place
     ensures { result ≡ stretch_place given }
 {
-    let kind = given.kind;
-    match kind {
+    match given.kind {
         0 => Place::Number(given.number),
         1 => Place::Body {
             at: given.at,

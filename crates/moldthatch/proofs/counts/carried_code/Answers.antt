@@ -9,8 +9,8 @@ returns-in-Taken c = search tells_fate
 pub returns-in-Apart : goal.returns-in-Apart
 returns-in-Apart c = search tells_apart
 
-pub returns-in-Err : goal.returns-in-Err
-returns-in-Err c = search tells_fate
+pub returns-in-Refused : goal.returns-in-Refused
+returns-in-Refused c = search tells_fate
 
 pub returns-in-NoTotals : goal.returns-in-NoTotals
 returns-in-NoTotals c = search tells_fate
