@@ -1,26 +1,18 @@
 -- A line stored at the start of a lent part of a buffer: its body first, behind its link and number.
 -- Assumes nothing.
-use Prim.Native.Nat.{ℕ, suc, ◌+◌, ◌-◌, ◌/◌, ◌%◌, ◌≤◌}
-use mathlib.Core.Path.{◌≡◌, refl, ap, ◌∙◌}
+use Prim.Native.Nat.{ℕ, ◌+◌, ◌-◌, ◌≤◌}
+use mathlib.Core.Path.{◌≡◌, ap, ◌∙◌}
 use mathlib.Core.List.{List}
 use native.Mathlib.Omega.{arith}
-use lib.ListN.{length, take, drop, set, length-drop}
+use lib.ListN.{length, take, drop, length-drop}
 use lib.Seq.{sets, take_all, length-sets}
 use borrow.Rule.Slice.PartMut.{mid_of, put_mid}
 use Rattle.base_lent.specs.Stores.{Room, Put}
 use Rattle.base_lent.proofs.Storing.{tail_put}
-use Rattle.image_layout.specs.Layout.{link_of, line_bytes, two_bytes}
+use Rattle.image_layout.specs.Layout.{link_of, line_bytes}
 use Rattle.image_layout.proofs.Laying.{line_length_lem}
 use Rattle.image_layout.proofs.Writing.{line_stored}
 use Rattle.crunch_write.specs.FrameHelpers.{FrameRoom, Framed}
-
-pub two_room : {buffer : List ℕ} {at : ℕ} (n : ℕ) → Room buffer at (two_bytes n) → at + 2 ≤ length buffer
-two_room n r = omega (arith, r.room)
-
-pub put_two_bytes : (buffer : List ℕ) (at n : ℕ) → Put buffer at (two_bytes n) (at + 2) (set (set buffer at (n % 256)) (at + 1) (n / 256 % 256))
-put_two_bytes buffer at n =
-    let e : at + 1 ≡ suc at = omega arith in
-    record { ends = refl; stored = ap (λ (i : ℕ). set (set buffer at (n % 256)) i (n / 256 % 256)) e }
 
 -- ---- the part of a buffer from a place on, lent
 

@@ -57,11 +57,9 @@ fn put_frame(out: &mut [u8], address: usize, number: u16, length: usize) -> usiz
     requires { FrameRoom address length out.old }
     ensures { Framed address number length out.old result out.new }
 {
-    let link = address + 5 + length;
-    out[0] = (link % 256) as u8;
-    out[1] = (link / 256 % 256) as u8;
-    out[2] = (number % 256) as u8;
-    out[3] = (number / 256 % 256) as u8;
+    let link = (address + 5 + length) % 0x1_0000;
+    put_two(out, 0, link as u16);
+    put_two(out, 2, number);
     out[length + 4] = 0;
     length + 5
 }
@@ -71,7 +69,6 @@ fn put_two(out: &mut [u8], at: usize, n: u16) -> usize
     requires { Room out.old at (two_bytes n) }
     ensures { Put out.old at (two_bytes n) result out.new }
 {
-    out[at] = (n % 256) as u8;
-    out[at + 1] = (n / 256 % 256) as u8;
+    out[at..at + 2].copy_from_slice(&n.to_le_bytes());
     at + 2
 }

@@ -2,7 +2,7 @@
 #![tactic(auto)]
 
 ghost use Rattle.std.specs.Prelude.{◌≡◌, get_or};
-ghost use Rattle.editor_strange_bytes.specs.Foreign.{is_inner, inner_behind, inner_asked, width_of, is_utf16, is_mark_of_order, is_curly_quote, is_no_break_space, is_long_dash, kind_of, first_stranger};
+ghost use Rattle.editor_strange_bytes.specs.Foreign.{is_inner, inner_behind, inner_asked, width_of, is_utf16, is_curly_quote, is_no_break_space, is_long_dash, kind_of, first_stranger};
 
 // What stands at a byte outside the domain.
 #[derive(Clone, Copy)]

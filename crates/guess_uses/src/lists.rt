@@ -1,6 +1,9 @@
 // Whether = follows each list in parentheses. Lists stand within lists, so looking behind each of them by itself could take the square of a
 // line's length. Here one pass from the line's end finds it for all of them, and keeps a bit for each.
-ghost use Rattle.std.specs.Prelude.{◌≡◌, true, cond, ◌-◌, ◌*◌, ◌^◌, ◌≤◌, ◌<◌, eqb, length};
+//
+// A text and its marks stay two parameters: the two scans know different blanks, so a struct of both would need a clause for them in each
+// contract.
+ghost use Rattle.std.specs.Prelude.{◌≡◌, cond, ◌*◌, ◌≤◌, ◌<◌, eqb, length};
 ghost use Rattle.base_ascii.specs.Search.{of_kind};
 ghost use Rattle.guess_uses.specs.MarkHelpers.{is_on, Turned, last_bit, MarksOf};
 

@@ -16,8 +16,6 @@ use Rattle.base_lent.proofs.Storing.{put_as, put_both, put_none, put_long}
 use Rattle.say_put.specs.Rows.{filled}
 use Rattle.image_readers.specs.declared.By.{By}
 use Rattle.image_readers.specs.declared.Line.{Line}
-use Rattle.image_readers.specs.declared.Checked.{Checked}
-use Rattle.image_readers.specs.declared.Checked.TheVariants.{Image, Refused as RefusedImage}
 use Rattle.image_readers.specs.Lines.{lines_from, lines_of, overview_of, overview}
 use Rattle.image_readers.specs.Readers.{step_by}
 use Rattle.image_readers.proofs.Equations.{LiesAt, lines_line, lines_end, lines_refused}
@@ -25,6 +23,7 @@ use Rattle.base_refusals.proofs.Tight.{told_back}
 use Rattle.image_readers.proofs.Steps.{by_sound, found_lies}
 use Rattle.image_rows.specs.Places.{place_text, place_rows, places_shown}
 use Rattle.image_rows.specs.PartHelpers.{Adds, AddsTwo, Stores, IsText}
+use Rattle.image_readers.specs.declared.Overview.{Overview}
 use Rattle.std.specs.Prelude.{Option, Some, None, Result, Ok, Err}
 
 module _ (l : Line) (origins : List ℕ) (before : ℕ) {buffer after : List ℕ} {at behind : ℕ} where
@@ -123,16 +122,16 @@ module _ (by : By) (s origins : List ℕ) {buffer out : List ℕ} {p k to : ℕ}
 
 -- ---- the whole
 
-module _ (by : By) (s origins : List ℕ) {r : Checked} where
-  pub checked_text_lem : {load lines : ℕ} → r ≡ Image load lines → answered r ≡ overview (step_by by) s → IsText (places_shown by s origins)
+module _ (by : By) (s origins : List ℕ) {r : Result Overview Refusal} where
+  pub checked_text_lem : {v : Overview} → r ≡ Ok v → answered r ≡ overview (step_by by) s → IsText (places_shown by s origins)
   unfolding places_shown overview
-  checked_text_lem {load} {lines} is e = go (lines_of (step_by by) s) (told_back is e)
+  checked_text_lem {v} is e = go (lines_of (step_by by) s) (told_back is e)
     where
-      go : (a : Answer (List Line)) → map_done (overview_of s) a ≡ answered (Image load lines) → IsText (map_done (λ ls. place_rows ls origins) a)
+      go : (a : Answer (List Line)) → map_done (overview_of s) a ≡ done v → IsText (map_done (λ ls. place_rows ls origins) a)
       go (done ls) f = tt
       go (refused n) f = let z : ◌≡◌ {A = ℕ} 0 1 = cc in absurd (omega arith)
 
-  pub checked_none : {m : Refusal} (out : List ℕ) → r ≡ RefusedImage m → answered r ≡ overview (step_by by) s
+  pub checked_none : {m : Refusal} (out : List ℕ) → r ≡ Err m → answered r ≡ overview (step_by by) s
       → ◌≡◌ {A = Lent} (record { answer = refused (numbered m); buffer = out }) (into_buffer (places_shown by s origins) out)
   unfolding places_shown overview into_buffer
   checked_none {m} out is e = go (lines_of (step_by by) s) (told_back is e)

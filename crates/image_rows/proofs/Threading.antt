@@ -21,7 +21,7 @@ use Rattle.base_lent.proofs.Outcomes.{into_none, into_done}
 use Rattle.say_put.specs.Rows.{filled}
 use Rattle.image_references.specs.References.{Chained, source_of, row_from}
 use Rattle.image_references.specs.declared.Row.{Row}
-use Rattle.image_references.specs.declared.Row.TheVariants.{Target, End}
+use Rattle.std.specs.Prelude.{Option, Some, None}
 use Rattle.image_marks.specs.Marks.{has_mark}
 use Rattle.image_rows.specs.Jumps.{target_text, places_on, sources_text, jump_row, jump_rows, jumps_text}
 use Rattle.image_rows.specs.PartHelpers.{Adds, AddsMany}
@@ -102,19 +102,19 @@ module _ {x nexts : List ℕ} {first at : ℕ} {buffer out : List ℕ} {left pla
 
 module _ (x firsts nexts marked : List ℕ) where
   -- what a row says of the rows of k numbers from n on: it is the first, and the others follow; or there is none
-  Splits : ℕ → ℕ → Row → Type 0
-  Splits n k (Target m f there) =
-      (n ≤ m) × (m < n + k) × (jump_rows x firsts nexts marked n k ≡ jump_row x nexts m f there ++ jump_rows x firsts nexts marked (m + 1) (n + k - (m + 1)))
-  Splits n k End = jump_rows x firsts nexts marked n k ≡ []
+  Splits : ℕ → ℕ → Option Row → Type 0
+  Splits n k (Some r) =
+      (n ≤ r.number) × (r.number < n + k) × (jump_rows x firsts nexts marked n k ≡ jump_row x nexts r.number r.first r.there ++ jump_rows x firsts nexts marked (r.number + 1) (n + k - (r.number + 1)))
+  Splits n k None = jump_rows x firsts nexts marked n k ≡ []
 
-  later : (n k : ℕ) (r : Row) → jump_rows x firsts nexts marked n (suc k) ≡ jump_rows x firsts nexts marked (n + 1) k → Splits (n + 1) k r → Splits n (suc k) r
+  later : (n k : ℕ) (r : Option Row) → jump_rows x firsts nexts marked n (suc k) ≡ jump_rows x firsts nexts marked (n + 1) k → Splits (n + 1) k r → Splits n (suc k) r
   unfolding Splits
-  later n k (Target m f there) e h =
-      let low : n + 1 ≤ m = h.0 in
-      let high : m < n + 1 + k = h.1 in
-      let same : n + 1 + k - (m + 1) ≡ n + suc k - (m + 1) = omega arith in
-      (omega arith, omega arith, e ∙ h.2 ∙ ap (λ (i : ℕ). jump_row x nexts m f there ++ jump_rows x firsts nexts marked (m + 1) i) same)
-  later n k End e h = e ∙ h
+  later n k (Some r) e h =
+      let low : n + 1 ≤ r.number = h.0 in
+      let high : r.number < n + 1 + k = h.1 in
+      let same : n + 1 + k - (r.number + 1) ≡ n + suc k - (r.number + 1) = omega arith in
+      (omega arith, omega arith, e ∙ h.2 ∙ ap (λ (i : ℕ). jump_row x nexts r.number r.first r.there ++ jump_rows x firsts nexts marked (r.number + 1) i) same)
+  later n k None e h = e ∙ h
 
   splits : (n k : ℕ) → Splits n k (row_from (λ m. get_or firsts m 0) marked n k)
   unfolding row_from Splits jump_rows
@@ -122,7 +122,7 @@ module _ (x firsts nexts marked : List ℕ) where
   splits n (suc k) = go (splits (n + 1) k) (eqb (get_or firsts n 0) 0) refl
     where
       go : Splits (n + 1) k (row_from (λ m. get_or firsts m 0) marked (n + 1) k) → (b : Bool) → eqb (get_or firsts n 0) 0 ≡ b
-          → Splits n (suc k) (cond b (row_from (λ m. get_or firsts m 0) marked (n + 1) k) (Target n (get_or firsts n 0) (has_mark marked n)))
+          → Splits n (suc k) (cond b (row_from (λ m. get_or firsts m 0) marked (n + 1) k) (Some (record { number = n; first = get_or firsts n 0; there = has_mark marked n })))
       go behind true e = later n k (row_from (λ m. get_or firsts m 0) marked (n + 1) k) (rw e) behind
       go behind false e =
           let same : k ≡ n + suc k - (n + 1) = omega arith in
@@ -153,40 +153,40 @@ module _ {x firsts nexts marked buffer out : List ℕ} {from to : ℕ} (i : Rowi
       → m2 ≤ 1152921504606846976
   rowing_end_room h k a b = omega (arith, i.near, i.few, a.near, b.near)
 
-  module _ {number first : ℕ} {there : Bool} {r : Row} (is : r ≡ Target number first there) (e : r ≡ row_from (λ m. get_or firsts m 0) marked from (length firsts - from)) where
-    next : Splits x firsts nexts marked from (length firsts - from) (Target number first there)
-    next = subst (λ (s : Row). Splits x firsts nexts marked from (length firsts - from) s) (sym e ∙ is) (splits x firsts nexts marked from (length firsts - from))
+  module _ {w : Row} {r : Option Row} (is : r ≡ Some w) (e : r ≡ row_from (λ m. get_or firsts m 0) marked from (length firsts - from)) where
+    next : Splits x firsts nexts marked from (length firsts - from) (Some w)
+    next = subst (λ (s : Option Row). Splits x firsts nexts marked from (length firsts - from) s) (sym e ∙ is) (splits x firsts nexts marked from (length firsts - from))
 
-    pub rowing_turn : {o1 o2 o3 : List ℕ} {m1 m2 m3 : ℕ} → length nexts ≤ 65536 → Adds out to (target_text number there) m1 o1
-        → AddsMany (length nexts) o1 m1 (sources_text x (places_on nexts (length nexts) first)) m2 o2 → Adds o2 m2 (0x0A ∷ []) m3 o3
-        → Rowing x firsts nexts marked buffer o3 (number + 1) m3
+    pub rowing_turn : {o1 o2 o3 : List ℕ} {m1 m2 m3 : ℕ} → length nexts ≤ 65536 → Adds out to (target_text w.number w.there) m1 o1
+        → AddsMany (length nexts) o1 m1 (sources_text x (places_on nexts (length nexts) w.first)) m2 o2 → Adds o2 m2 (0x0A ∷ []) m3 o3
+        → Rowing x firsts nexts marked buffer o3 (w.number + 1) m3
     unfolding Splits jump_row
     rowing_turn k a b c =
-        let low : from ≤ number = next.0 in
-        let high : number < from + (length firsts - from) = next.1 in
-        let same : from + (length firsts - from) - (number + 1) ≡ length firsts - (number + 1) = omega (arith, i.few) in
-        let row : List ℕ = jump_row x nexts number first there in
+        let low : from ≤ w.number = next.0 in
+        let high : w.number < from + (length firsts - from) = next.1 in
+        let same : from + (length firsts - from) - (w.number + 1) ≡ length firsts - (w.number + 1) = omega (arith, i.few) in
+        let row : List ℕ = jump_row x nexts w.number w.first w.there in
         record {
           text = i.text ++ row;
           put =
               put_both i.text row i.put
-              (put_both (target_text number there) _ a.put (put_both (sources_text x (places_on nexts (length nexts) first)) (0x0A ∷ []) b.put c.put));
+              (put_both (target_text w.number w.there) _ a.put (put_both (sources_text x (places_on nexts (length nexts) w.first)) (0x0A ∷ []) b.put c.put));
           few = omega (arith, i.few);
           near = omega (arith, i.near, a.near, b.near, c.near);
           onward =
               i.onward ∙ ap (λ (t : List ℕ). i.text ++ t) next.2 ∙ sym (append_assoc i.text row _)
-              ∙ ap (λ (n : ℕ). (i.text ++ row) ++ jump_rows x firsts nexts marked (number + 1) n) same;
+              ∙ ap (λ (n : ℕ). (i.text ++ row) ++ jump_rows x firsts nexts marked (w.number + 1) n) same;
         }
 
-    pub rowing_fits : length firsts ≤ 65536 → Fits w64 (number + 1)
+    pub rowing_fits : length firsts ≤ 65536 → Fits w64 (w.number + 1)
     unfolding Splits
-    rowing_fits h = let high : number < from + (length firsts - from) = next.1 in record { fits = omega (arith, i.few) }
+    rowing_fits h = let high : w.number < from + (length firsts - from) = next.1 in record { fits = omega (arith, i.few) }
 
-  pub rowing_end : {r : Row} → r ≡ End → r ≡ row_from (λ m. get_or firsts m 0) marked from (length firsts - from) → Put buffer 0 (jumps_text x firsts nexts marked) to out
+  pub rowing_end : {r : Option Row} → r ≡ None → r ≡ row_from (λ m. get_or firsts m 0) marked from (length firsts - from) → Put buffer 0 (jumps_text x firsts nexts marked) to out
   unfolding Splits
   rowing_end is e =
       let none : jump_rows x firsts nexts marked from (length firsts - from) ≡ [] =
-      subst (λ (s : Row). Splits x firsts nexts marked from (length firsts - from) s) (sym e ∙ is) (splits x firsts nexts marked from (length firsts - from)) in
+      subst (λ (s : Option Row). Splits x firsts nexts marked from (length firsts - from) s) (sym e ∙ is) (splits x firsts nexts marked from (length firsts - from)) in
       put_as (sym (i.onward ∙ ap (λ (t : List ℕ). i.text ++ t) none ∙ append-nil i.text)) i.put
 
 -- ---- the whole

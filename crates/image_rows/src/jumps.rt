@@ -8,7 +8,6 @@ ghost use Rattle.image_rows.specs.PartHelpers.{Adds, AddsMany};
 
 use crate::parts::{add_row, add_text};
 use base_refusals::Refusal;
-use image_references::Row;
 
 // A number that is jumped to, and whether a line has it.
 fn add_target(out: &mut [u8], at: usize, number: usize, there: bool) -> usize
@@ -16,9 +15,10 @@ fn add_target(out: &mut [u8], at: usize, number: usize, there: bool) -> usize
     ensures { Adds out.old at (target_text number there) result out.new }
 {
     if there {
-        return add_row(out, at, b"#:", number, 0, 0);
+        add_row(out, at, b"#:", number, 0, 0)
+    } else {
+        add_row(out, at, b"# (missing):", number, 0, 0)
     }
-    add_row(out, at, b"# (missing):", number, 0, 0)
 }
 
 // The lines of the jumps from one on.
@@ -28,11 +28,9 @@ fn add_sources(out: &mut [u8], at: usize, index: &[u8], nexts: &[usize], first: 
 {
     let mut to = at;
     let mut place = first;
-    let mut left = nexts.len();
-    while left > 0 {
+    for _left in (0..nexts.len()).rev() {
         to = add_row(out, to, b" #", image_references::source(index, place), 0, 0);
         place = image_references::next_threaded(nexts, place);
-        left -= 1;
         if place == 0 {
             return to;
         }
@@ -47,23 +45,13 @@ fn add_rows(out: &mut [u8], index: &[u8], firsts: &[usize], nexts: &[usize], mar
 {
     let mut from: usize = 0;
     let mut to: usize = 0;
-    loop {
-        match image_references::next_row(firsts, marked, from) {
-            Row::Target {
-                number,
-                first,
-                there,
-            } => {
-                let colon = add_target(out, to, number, there);
-                let end = add_sources(out, colon, index, nexts, first);
-                to = add_text(out, end, b"\n");
-                from = number + 1;
-            }
-            Row::End => {
-                return to;
-            }
-        }
+    while let Some(row) = image_references::next_row(firsts, marked, from) {
+        let colon = add_target(out, to, row.number, row.there);
+        let end = add_sources(out, colon, index, nexts, row.first);
+        to = add_text(out, end, b"\n");
+        from = row.number + 1;
     }
+    to
 }
 
 // A row for each number that is jumped to, of the jumps of an index, threaded, and with marks at the numbers that lines have.

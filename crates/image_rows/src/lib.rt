@@ -30,7 +30,12 @@ pub fn lend_found(line: Line, visited: usize, out: &mut [u8]) -> Result<usize, R
 }
 
 // The row of a number that no line has, behind the name of what was read.
-pub fn lend_missing(name: &[u8], number: u16, visited: usize, out: &mut [u8]) -> Result<usize, Refusal>
+pub fn lend_missing(
+    name: &[u8],
+    number: u16,
+    visited: usize,
+    out: &mut [u8],
+) -> Result<usize, Refusal>
     requires { length name.now ≤ 4352 }
     ensures { left result out.new ≡ into_buffer (done (missing_row name.now number visited)) out.old }
 {

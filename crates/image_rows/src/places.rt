@@ -15,9 +15,10 @@ fn add_numbers(out: &mut [u8], at: usize, line: Line, origins: &[usize], before:
 {
     let number = line.number as usize;
     if before < origins.len() {
-        return add_row(out, at, b"#\t#\t#", number, line.address, origins[before]);
+        add_row(out, at, b"#\t#\t#", number, line.address, origins[before])
+    } else {
+        add_row(out, at, b"#\t#", number, line.address, 0)
     }
-    add_row(out, at, b"#\t#", number, line.address, 0)
 }
 
 // The row of a line behind so many.
@@ -35,21 +36,13 @@ fn add_places(out: &mut [u8], image: &[u8], by: By, origins: &[usize]) -> usize
     let mut offset: usize = 2;
     let mut before: usize = 0;
     let mut to: usize = 0;
-    loop {
-        match image_readers::step_by(image, offset, by) {
-            Ok(Some(line)) => {
-                to = add_place(out, to, line, origins, before);
-                before += 1;
-                offset = line.next;
-            }
-            Ok(None) => {
-                return to;
-            }
-            Err(_) => {
-                return to;
-            }
-        }
+    // The rows end at a fault as at the image's end.
+    while let Ok(Some(line)) = image_readers::step_by(image, offset, by) {
+        to = add_place(out, to, line, origins, before);
+        before += 1;
+        offset = line.next;
     }
+    to
 }
 
 fn lend_checked(image: &[u8], by: By, origins: &[usize], out: &mut [u8]) -> Result<usize, Refusal>
@@ -65,11 +58,14 @@ fn lend_checked(image: &[u8], by: By, origins: &[usize], out: &mut [u8]) -> Resu
 }
 
 // The rows of an image's lines; origins are the text lines of the first so many.
-pub fn lend_places(image: &[u8], by: By, origins: &[usize], out: &mut [u8]) -> Result<usize, Refusal>
+pub fn lend_places(
+    image: &[u8],
+    by: By,
+    origins: &[usize],
+    out: &mut [u8],
+) -> Result<usize, Refusal>
     ensures { left result out.new ≡ into_buffer (places_shown by image.now origins.now) out.old }
 {
-    match image_readers::check_by(image, by) {
-        Ok(_) => lend_checked(image, by, origins, out),
-        Err(refusal) => Err(refusal),
-    }
+    image_readers::check_by(image, by)?;
+    lend_checked(image, by, origins, out)
 }

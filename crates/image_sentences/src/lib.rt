@@ -61,17 +61,24 @@ fn lend_target(name: &[u8], number: usize, target: usize, out: &mut [u8]) -> Res
     ensures { left result out.new ≡ into_buffer (done (target_sentence name.now number target)) out.old }
 {
     if target > 65535 {
-        return lend_row(name, &TARGET_TOO_HIGH, number, target, 0, out);
+        lend_row(name, &TARGET_TOO_HIGH, number, target, 0, out)
+    } else {
+        lend_row(name, &NO_TARGET, number, target, 0, out)
     }
-    lend_row(name, &NO_TARGET, number, target, 0, out)
 }
 
 // A row with a number of at most 65535, and another.
-fn lend_about(name: &[u8], row: &[u8], number: u16, value: usize, out: &mut [u8]) -> Result<usize, Refusal>
+fn lend_about(
+    name: &[u8],
+    row: &[u8],
+    number: u16,
+    value: usize,
+    out: &mut [u8],
+) -> Result<usize, Refusal>
     requires { (length name.now ≤ 4352) × (length row.now ≤ 128) }
     ensures { left result out.new ≡ into_buffer (done (row_text name.now row.now number value 0)) out.old }
 {
-    lend_row(name, row, number as usize, value, 0, out)
+    lend_row(name, row, usize::from(number), value, 0, out)
 }
 
 pub fn lend_fault(name: &[u8], fault: Fault, out: &mut [u8]) -> Result<usize, Refusal>
@@ -92,20 +99,22 @@ pub fn lend_fault(name: &[u8], fault: Fault, out: &mut [u8]) -> Result<usize, Re
 }
 
 // The last line of a program: its load address, and how many lines it has.
-pub fn lend_program(name: &[u8], load: usize, lines: usize, fit: bool, out: &mut [u8]) -> Result<usize, Refusal>
+pub fn lend_program(
+    name: &[u8],
+    load: usize,
+    lines: usize,
+    fit: bool,
+    out: &mut [u8],
+) -> Result<usize, Refusal>
     requires { length name.now ≤ 4352 }
     ensures { left result out.new ≡ into_buffer (done (program_sentence name.now load lines fit)) out.old }
 {
-    if fit {
-        if lines == 1 {
-            return lend_row(name, &FIT_LINE, load, lines, 0, out);
-        }
-        return lend_row(name, &FIT_LINES, load, lines, 0, out);
+    match (fit, lines) {
+        (true, 1) => lend_row(name, &FIT_LINE, load, lines, 0, out),
+        (true, _) => lend_row(name, &FIT_LINES, load, lines, 0, out),
+        (false, 1) => lend_row(name, &UNFIT_LINE, load, lines, 0, out),
+        (false, _) => lend_row(name, &UNFIT_LINES, load, lines, 0, out),
     }
-    if lines == 1 {
-        return lend_row(name, &UNFIT_LINE, load, lines, 0, out);
-    }
-    lend_row(name, &UNFIT_LINES, load, lines, 0, out)
 }
 
 // The last line of a disk: how many files it has.
@@ -113,16 +122,12 @@ pub fn lend_disk(name: &[u8], files: usize, fit: bool, out: &mut [u8]) -> Result
     requires { length name.now ≤ 4352 }
     ensures { left result out.new ≡ into_buffer (done (disk_sentence name.now files fit)) out.old }
 {
-    if fit {
-        if files == 1 {
-            return lend_row(name, &FIT_FILE, files, 0, 0, out);
-        }
-        return lend_row(name, &FIT_FILES, files, 0, 0, out);
+    match (fit, files) {
+        (true, 1) => lend_row(name, &FIT_FILE, files, 0, 0, out),
+        (true, _) => lend_row(name, &FIT_FILES, files, 0, 0, out),
+        (false, 1) => lend_row(name, &UNFIT_FILE, files, 0, 0, out),
+        (false, _) => lend_row(name, &UNFIT_FILES, files, 0, 0, out),
     }
-    if files == 1 {
-        return lend_row(name, &UNFIT_FILE, files, 0, 0, out);
-    }
-    lend_row(name, &UNFIT_FILES, files, 0, 0, out)
 }
 
 // The last line of what no reader, or no disk, could be made of.

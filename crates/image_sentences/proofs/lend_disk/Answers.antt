@@ -4,18 +4,18 @@ use Rattle.image_sentences.specs.Sentences.{disk_row}
 use Rattle.image_sentences.proofs.Telling.{tells_file, tells_files}
 use Rattle.image_sentences.proofs.lend_disk.Goals as goal
 
-pub returns-then-files-eq1 : goal.returns-then-files-eq1
+pub returns-in-true-eq1 : goal.returns-in-true-eq1
 unfolding disk_row
-returns-then-files-eq1 c = search tells_file
+returns-in-true-eq1 c = search tells_file
 
-pub returns-then-fit : goal.returns-then-fit
+pub returns-in-true-default : goal.returns-in-true-default
 unfolding disk_row
-returns-then-fit c = search (tells_files, c.if-files-eq1.false)
+returns-in-true-default c = search (tells_files, c.in-true-default.is-1)
 
-pub returns-then-files-eq1-2 : goal.returns-then-files-eq1-2
+pub returns-in-false-eq1 : goal.returns-in-false-eq1
 unfolding disk_row
-returns-then-files-eq1-2 c = search tells_file
+returns-in-false-eq1 c = search tells_file
 
-pub returns : goal.returns
+pub returns-in-false-default : goal.returns-in-false-default
 unfolding disk_row
-returns c = search (tells_files, c.if-files-eq1-2.false)
+returns-in-false-default c = search (tells_files, c.in-false-default.is-1)

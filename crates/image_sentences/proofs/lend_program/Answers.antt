@@ -4,18 +4,18 @@ use Rattle.image_sentences.specs.Sentences.{program_row}
 use Rattle.image_sentences.proofs.Telling.{tells_line, tells_lines}
 use Rattle.image_sentences.proofs.lend_program.Goals as goal
 
-pub returns-then-lines-eq1 : goal.returns-then-lines-eq1
+pub returns-in-true-eq1 : goal.returns-in-true-eq1
 unfolding program_row
-returns-then-lines-eq1 c = search tells_line
+returns-in-true-eq1 c = search tells_line
 
-pub returns-then-fit : goal.returns-then-fit
+pub returns-in-true-default : goal.returns-in-true-default
 unfolding program_row
-returns-then-fit c = search (tells_lines, c.if-lines-eq1.false)
+returns-in-true-default c = search (tells_lines, c.in-true-default.is-1)
 
-pub returns-then-lines-eq1-2 : goal.returns-then-lines-eq1-2
+pub returns-in-false-eq1 : goal.returns-in-false-eq1
 unfolding program_row
-returns-then-lines-eq1-2 c = search tells_line
+returns-in-false-eq1 c = search tells_line
 
-pub returns : goal.returns
+pub returns-in-false-default : goal.returns-in-false-default
 unfolding program_row
-returns c = search (tells_lines, c.if-lines-eq1-2.false)
+returns-in-false-default c = search (tells_lines, c.in-false-default.is-1)

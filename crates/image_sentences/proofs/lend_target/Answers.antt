@@ -8,6 +8,6 @@ pub returns-then-target-gt65535 : goal.returns-then-target-gt65535
 unfolding target_row
 returns-then-target-gt65535 c = search tells_high
 
-pub returns : goal.returns
+pub returns-else-target-gt65535 : goal.returns-else-target-gt65535
 unfolding target_row
-returns c = search tells_missing
+returns-else-target-gt65535 c = search tells_missing

@@ -6,8 +6,8 @@ use Rattle.image_rows.proofs.Threading.{rowing_start, rowing_room, rowing_source
 use borrow.Author.Rules.{rules}
 use Rattle.image_rows.proofs.jumps.add_rows.Goals as goal
 
-pub loop-number-init : goal.loop-number-init
-loop-number-init c = search rowing_start
+pub loop-row-init : goal.loop-row-init
+loop-row-init c = search rowing_start
 
 pub add_target-colon-requires : goal.add_target-colon-requires
 add_target-colon-requires c = search rowing_room
@@ -21,14 +21,14 @@ add_text-to-requires c = (search rowing_end_room, search rules)
 pub overflow_add-from : goal.overflow_add-from
 overflow_add-from c = search rowing_fits
 
-pub loop-number-smaller : goal.loop-number-smaller
-loop-number-smaller c = search row_nearer
+pub loop-row-smaller : goal.loop-row-smaller
+loop-row-smaller c = search row_nearer
 
-pub loop-number-preserved : goal.loop-number-preserved
-loop-number-preserved c = search rowing_turn
+pub loop-row-preserved : goal.loop-row-preserved
+loop-row-preserved c = search rowing_turn
 
-pub returns-in-Ok-None : goal.returns-in-Ok-None
-returns-in-Ok-None c = search rowing_end
+pub returns : goal.returns
+returns c = search rowing_end
 
-pub shape_of-out-in-Ok-None : goal.shape_of-out-in-Ok-None
-shape_of-out-in-Ok-None c = put_long (returns-in-Ok-None c)
+pub shape_of-out : goal.shape_of-out
+shape_of-out c = put_long (returns c)

@@ -4,7 +4,4 @@ use Rattle.image_rows.proofs.Threading.{Sourcing}
 use Rattle.image_rows.proofs.jumps.add_sources.Given as goal
 
 abbrev pub invariant-loop-left : goal.invariant-loop-left
-invariant-loop-left l = Sourcing l.index l.nexts l.first l.at l.initial.out l.out l.left l.place l.to
-
-abbrev pub decreases-loop-left : goal.decreases-loop-left
-decreases-loop-left l = l.left
+invariant-loop-left l = Sourcing l.index l.nexts l.first l.at l.initial.out l.out l._left l.place l.to

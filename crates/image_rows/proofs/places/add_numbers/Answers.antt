@@ -6,5 +6,5 @@ use Rattle.image_rows.proofs.places.add_numbers.Goals as goal
 pub returns-then-before-origins : goal.returns-then-before-origins
 returns-then-before-origins c = search adds_origin
 
-pub returns : goal.returns
-returns c = search adds_bare
+pub returns-else-before-origins : goal.returns-else-before-origins
+returns-else-before-origins c = search adds_bare
