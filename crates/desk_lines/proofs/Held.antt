@@ -10,35 +10,20 @@ use mir.Syntax.{w16}
 use mir.Val.{Fits}
 use Rattle.list_options.specs.declared.ListOptions.{ListOptions}
 use Rattle.list_stretches.specs.declared.Place.{Place}
-use Rattle.list_stretches.specs.declared.Place.TheVariants.{Number, Body, Over}
+use Rattle.list_stretches.specs.declared.Place.TheVariants.{Number, Over}
 use Rattle.list_stretches.specs.declared.Stretch.{Stretch}
 use Rattle.list_options.specs.Modes.{rules_under}
 use Rattle.list_stretches.specs.Stretch.{stretch_of, stretch_answer, place_left}
 use Rattle.list_stretches.proofs.Joining.{SmallNumber, stretch_held, stretch_nearer, number_small}
 
--- something of a line is left, and the buffer is as long as it was
-pub record Writing (body first out : List ℕ) (place : Place) : Type 0 where
+-- the buffer is as long as it was, and what is left of a line has a number of five digits at most
+pub record Writing (first out : List ℕ) (place : Place) : Type 0 where
   pub kept : length out ≡ length first
   pub large : 9 ≤ length out
   pub small : SmallNumber place
-  pub more : 0 < place_left body place
 
-number_left : (body : List ℕ) (n : ℕ) → 0 < place_left body (Number n)
-unfolding place_left
-number_left body n = omega arith
-
-pub writing_start : (body out : List ℕ) (n : ℕ) → Fits w16 n → 9 ≤ length out → Writing body out out (Number n)
-writing_start body out n f e = record { kept = refl; large = e; small = omega (arith, f); more = number_left body n }
-
-more_left : (body : List ℕ) (q : Place) → (q ≡ Over → ⊥) → 0 < place_left body q
-unfolding place_left
-more_left body (Number n) h = omega arith
-more_left body (Body at mode) h = omega arith
-more_left body Over h = absurd (h refl)
-
-none_left : (body : List ℕ) → place_left body Over ≡ 0
-unfolding place_left
-none_left body = refl
+pub writing_start : (out : List ℕ) (n : ℕ) → Fits w16 n → 9 ≤ length out → Writing out out (Number n)
+writing_start out n f e = record { kept = refl; large = e; small = omega (arith, f) }
 
 module _ (o : ListOptions) (body first out : List ℕ) (place : Place) {r : Stretch} {after : List ℕ} (is : r ≡ stretch_answer (stretch_of (rules_under o) body (length out) place))
     (e : after ≡ sets out 0 (stretch_of (rules_under o) body (length out) place).text) where
@@ -48,14 +33,12 @@ module _ (o : ListOptions) (body first out : List ℕ) (place : Place) {r : Stre
   pub stretch_within : r.length ≤ length after
   stretch_within = omega (arith, stretch_held o body (length out) place is, same_long)
 
-  pub writing_turn : (r.place ≡ Over → ⊥) → Writing body first out place → Writing body first after r.place
-  writing_turn h w = record {
+  pub writing_turn : Writing first out place → Writing first after r.place
+  writing_turn w = record {
     kept = same_long ∙ w.kept;
     large = omega (arith, same_long, w.large);
     small = number_small o body (length out) place is w.small;
-    more = more_left body r.place h;
   }
 
-  pub writing_less : Writing body first out place → place_left body r.place < place_left body place
-  writing_less w =
-      stretch_nearer o body (length out) place is w.large w.small (λ q. omega (arith, w.more, ap (place_left body) q, none_left body))
+  pub writing_less : (place ≡ Over → ⊥) → Writing first out place → place_left body r.place < place_left body place
+  writing_less h w = stretch_nearer o body (length out) place is w.large w.small h

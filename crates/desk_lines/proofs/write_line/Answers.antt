@@ -2,15 +2,17 @@
 -- Assumes nothing.
 use Rattle.desk_lines.proofs.Held.{writing_start, writing_turn, writing_less, stretch_within}
 use Rattle.desk_lines.proofs.write_line.Goals as goal
+use Rattle.desk_lines.proofs.write_line.Goals.{in-Over, in_default}
 
-pub loop-options-init : goal.loop-options-init
-loop-options-init c = search writing_start
+pub loop-place-init : goal.loop-place-init
+loop-place-init c = search writing_start
 
 pub write_first-requires : goal.write_first-requires
 write_first-requires c = search stretch_within
 
-pub loop-options-smaller : goal.loop-options-smaller
-loop-options-smaller c = search writing_less
+pub loop-place-smaller : goal.loop-place-smaller
+loop-place-smaller c =
+    elim c.match-matches.branch [ in-Over w ↦ cc w.matches-is | in_default w ↦ search (writing_less, w.in_default.not-Over) ]
 
-pub loop-options-preserved : goal.loop-options-preserved
-loop-options-preserved c = search (writing_turn, c.in_default.not-Over)
+pub loop-place-preserved : goal.loop-place-preserved
+loop-place-preserved c = search writing_turn

@@ -4,8 +4,8 @@ use Rattle.list_stretches.specs.Stretch.{place_left}
 use Rattle.desk_lines.proofs.Held.{Writing}
 use Rattle.desk_lines.proofs.write_line.Given as goal
 
-abbrev pub invariant-loop-options : goal.invariant-loop-options
-invariant-loop-options l = Writing l.body l.initial.out l.out l.place
+abbrev pub invariant-loop-place : goal.invariant-loop-place
+invariant-loop-place l = Writing l.initial.out l.out l.place
 
-abbrev pub decreases-loop-options : goal.decreases-loop-options
-decreases-loop-options l = place_left l.body l.place
+abbrev pub decreases-loop-place : goal.decreases-loop-place
+decreases-loop-place l = place_left l.body l.place

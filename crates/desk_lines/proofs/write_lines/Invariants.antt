@@ -5,8 +5,8 @@ use mathlib.Core.Path.{◌≡◌}
 use lib.ListN.{length}
 use Rattle.desk_lines.proofs.write_lines.Given as goal
 
-abbrev pub invariant-loop-line : goal.invariant-loop-line
-invariant-loop-line l = length l.out ≡ length l.initial.out
+abbrev pub invariant-loop-step : goal.invariant-loop-step
+invariant-loop-step l = length l.out ≡ length l.initial.out
 
-abbrev pub decreases-loop-line : goal.decreases-loop-line
-decreases-loop-line l = length l.image - l.offset
+abbrev pub decreases-loop-step : goal.decreases-loop-step
+decreases-loop-step l = length l.image - l.offset
