@@ -8,8 +8,9 @@ use Rattle.base_refusals.specs.Numbers.{Numbered}
 use Rattle.base_refusals.specs.Answer.{Answer, done, refused, map_done, numbered, answered}
 use Rattle.base_refusals.specs.declared.Refusal.{Refusal}
 use Rattle.image_readers.specs.declared.By.TheVariants.{Terminators}
-use Rattle.image_readers.specs.declared.Checked.{Checked}
-use Rattle.image_readers.specs.declared.Checked.TheVariants.{Image, Refused}
+use Rattle.image_readers.specs.declared.Overview.{Overview}
+use Rattle.base_refusals.specs.declared.Refusal.{Refusal}
+use Rattle.std.specs.Prelude.{Result, Ok, Err}
 use Rattle.image_readers.specs.Bodies.{bodies_from}
 use Rattle.image_readers.specs.NumberedBody.{NumberedBody}
 use Rattle.image_readers.specs.Lines.{overview_of, overview}
@@ -56,13 +57,13 @@ module _ (image : List ℕ) where
       go (done bs) f = let z : ◌≡◌ {A = ℕ} 0 1 = cc (overview_by f, e) in absurd (omega arith)
       go (refused m) f = ap (map_done _) f ∙ ap refused (cc (overview_by f, e))
 
-module _ (t image : List ℕ) {one two : List ℕ} {r : Checked} (e : one ≡ added t (tally (0xCC ∷ []))) (d : answered r ≡ overview (step_by Terminators) image) where
-  pub image_counted : {load lines : ℕ} → r ≡ Image load lines → Tallied (tokens_in image) one two
+module _ (t image : List ℕ) {one two : List ℕ} {r : Result Overview Refusal} (e : one ≡ added t (tally (0xCC ∷ []))) (d : answered r ≡ overview (step_by Terminators) image) where
+  pub image_counted : {v : Overview} → r ≡ Ok v → Tallied (tokens_in image) one two
       → ◌≡◌ {A = Kept} (record { answer = done counted; totals = two }) (with_marks t (tokens_in image))
   image_counted is s =
       let w = read_whole image (told_back is d) in
       rw (w.1, s.is w.0 w.1, e, tally_on t (0xCC ∷ []) w.0)
 
-  pub image_apart : {n : Refusal} → r ≡ Refused n → two ≡ added one (tally (0xCD ∷ []))
+  pub image_apart : {n : Refusal} → r ≡ Err n → two ≡ added one (tally (0xCD ∷ []))
       → ◌≡◌ {A = Kept} (record { answer = done (counted_apart (numbered n)); totals = two }) (with_marks t (tokens_in image))
   image_apart is s = rw (read_refused image (told_back is d), s, e, tally_on t (0xCC ∷ []) (0xCD ∷ []))

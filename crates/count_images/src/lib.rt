@@ -80,10 +80,8 @@ fn add_all(totals: &mut [u64], other: &[u64])
     requires { Small totals.old × Small other.now }
     ensures { totals.new ≡ added totals.old other.now }
 {
-    let mut k: usize = 0;
-    while k < totals.len() {
-        totals[k] += other[k];
-        k += 1;
+    for (k, more) in other.iter().enumerate() {
+        totals[k] += *more;
     }
 }
 

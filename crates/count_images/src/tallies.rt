@@ -14,35 +14,12 @@ pub fn count_image(totals: &mut [u64], image: &[u8])
     requires { Raisable 1048576 totals.old }
     ensures { Tallied (tokens_in image.now) totals.old totals.new }
 {
-    count_lines(
-        totals,
-        list_texts::stored_texts(),
-        image,
-    );
-}
-
-// The same with the texts lent, line by line.
-fn count_lines(totals: &mut [u64], texts: Texts, image: &[u8])
-    requires { Raisable 1048576 totals.old }
-    ensures { Tallied (tokens_in image.now) totals.old totals.new }
-{
+    let texts = list_texts::stored_texts();
     let mut offset: usize = 2;
-    loop {
-        match image_readers::step_by(image, offset, By::Terminators) {
-            Ok(Some(line)) => {
-                let from = line.from;
-                let to = line.to;
-                count_body(totals, texts, &image[from..to]);
-                offset = line.next;
-            }
-            Ok(None) => {
-                return;
-            }
-            // An image that is accepted is refused nowhere.
-            Err(_) => {
-                return;
-            }
-        }
+    // An image that is accepted is refused nowhere.
+    while let Ok(Some(line)) = image_readers::step_by(image, offset, By::Terminators) {
+        count_body(totals, texts, &image[line.from..line.to]);
+        offset = line.next;
     }
 }
 
@@ -56,8 +33,7 @@ fn count_body(totals: &mut [u64], texts: Texts, body: &[u8])
     let mut mode = Mode::Plain;
     while i < body.len() {
         let taken = image_units::unit_at(body, i, mode, rules);
-        let unit = taken.unit;
-        count_unit(totals, texts, unit);
+        count_unit(totals, texts, taken.unit);
         i += taken.used;
         mode = taken.mode;
     }

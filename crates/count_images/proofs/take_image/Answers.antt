@@ -10,11 +10,11 @@ raise-requires c = (search rules, search once)
 pub count_image-requires : goal.count_image-requires
 count_image-requires c = search room_left
 
-pub raise-requires-in-Refused : goal.raise-requires-in-Refused
-raise-requires-in-Refused c = (search rules, search once_more)
+pub raise-requires-in-Err : goal.raise-requires-in-Err
+raise-requires-in-Err c = (search rules, search once_more)
 
 pub returns-in-Ok : goal.returns-in-Ok
 returns-in-Ok c = search image_counted
 
-pub returns-in-Refused : goal.returns-in-Refused
-returns-in-Refused c = search image_apart
+pub returns-in-Err : goal.returns-in-Err
+returns-in-Err c = search image_apart

@@ -1,9 +1,9 @@
--- `count_images::tallies::count_lines` meets its contract.
+-- `count_images::tallies::count_image` meets its contract.
 -- Assumes nothing.
 use Prim.Native.Nat.{◌-◌}
 use lib.ListN.{length}
 use Rattle.count_images.proofs.Bodies.{ImageTallied}
-use Rattle.count_images.proofs.tallies.count_lines.Given as goal
+use Rattle.count_images.proofs.tallies.count_image.Given as goal
 
 abbrev pub invariant-loop-line : goal.invariant-loop-line
 invariant-loop-line l = ImageTallied l.image l.initial.totals l.totals l.offset
