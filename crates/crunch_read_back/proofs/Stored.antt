@@ -17,7 +17,6 @@ use Rattle.image_readers.specs.Lines.{overview}
 use Rattle.image_readers.specs.declared.Overview.{Overview}
 use Rattle.image_readers.specs.Links.{link_step}
 use Rattle.crunch_read_back.specs.ReadingBack.{reading_back, left_read}
-use Rattle.crunch_read_back.specs.declared.ReadBack.{ReadBack}
 use Rattle.std.specs.Prelude.{Result, Ok, Err}
 
 -- what was stored is no longer than the buffer
