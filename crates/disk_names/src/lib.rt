@@ -60,7 +60,8 @@ fn character(b: u8) -> u8
     0xA0
 }
 
-// Stores the name that a text stands for at the start of a buffer, as much of it as fits, and answers how many bytes that are.
+// Stores the name that a text stands for at the start of a buffer, as much of it as fits, and answers how many bytes that are. A step takes
+// one byte or four, so it is no `for`.
 pub fn given(text: &[u8], out: &mut [u8]) -> usize
     ensures { Clipped out.old 0 (name_given text.now) result out.new }
 {

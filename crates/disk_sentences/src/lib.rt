@@ -14,7 +14,7 @@ use disk_why::Broken;
 use list_bytes::hex_digit;
 use say_put::{put_decimal, put_text};
 
-// The track of a sector, also of one that no disk has.
+// The track of a sector, also of one that no disk has; those of disk_sectors require that a disk has it.
 fn track_of(n: usize) -> usize
     ensures { result ≡ track_of n }
 {
