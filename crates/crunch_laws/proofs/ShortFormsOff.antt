@@ -8,7 +8,7 @@ use lib.Dec.{eqb}
 use lib.ListN.{length, drop}
 use Rattle.base_steps.specs.Again.{again}
 use Rattle.base_refusals.specs.Answer.{Answer, done, refused, map_done, and_then}
-use Rattle.word_search.specs.declared.Match.TheVariants.{Word, Nothing}
+use Rattle.std.specs.Prelude.{Some, None}
 use Rattle.word_match.specs.Sets.{live_word, plain_word, with_forms}
 use Rattle.word_match.specs.declared.sets.Sets.{Sets}
 use Rattle.body_short_forms.proofs.Standing.{form_off}
@@ -51,8 +51,8 @@ module _ (l : Lexicon) (off : l.sets.forms ≡ false) where
       ap (λ (o : Move). elim (eqb (first t) 0x22) as (λ _. Move) [
         | true ↦ one 0x22 String
         | false ↦ elim (live_word l.sets l.tsb t) as (λ _. Move) [
-          | Word i u k ↦ token true k Plain u
-          | Nothing ↦ elim (plain_word l.sets l.v2 l.basic35 t) as (λ _. Move) [ Word i u k ↦ token false k (opened k) u | Nothing ↦ o ]
+          | Some m ↦ token true m.token Plain m.used
+          | None ↦ elim (plain_word l.sets l.v2 l.basic35 t) as (λ _. Move) [ Some m ↦ token false m.token (opened m.token) m.used | None ↦ o ]
         ]
       ]) (form_step_off t)
   step_off String t = refl

@@ -5,7 +5,7 @@ use Rattle.std.specs.Prelude.{ℕ, suc, Bool, true, false, cond, List, [], ◌�
 use Rattle.base_steps.specs.Again.{again}
 use Rattle.base_refusals.specs.Answer.{Answer, done, refused, map_done, and_then}
 use Rattle.base_refusals.specs.Numbers.{missing_line_number, line_number_out_of_range}
-use Rattle.std.specs.Prelude.{Option, Some, None}
+use Rattle.std.specs.Prelude.{Some, None}
 use Rattle.word_match.specs.Sets.{live_word, plain_word}
 use Rattle.word_dialects.specs.declared.Dialect.{Dialect}
 use Rattle.text_lines.specs.declared.LineRule.TheVariants.{AfterCr}
