@@ -1,10 +1,7 @@
--- A directory's text lies within the buffer that was lent for it, and so does a name.
+-- A directory's text lies within the buffer that was lent for it.
 -- Assumes nothing.
-use Prim.Native.Nat.{ℕ, ◌≤◌}
-use mathlib.Core.Path.{◌≡◌}
+use Prim.Native.Nat.{ℕ}
 use mathlib.Core.List.{List}
-use lib.ListN.{length, take}
-use Rattle.io.proofs.Counting.{prefix_len_of_le}
 use Rattle.say_put.proofs.Clipping.{clip_within}
 use Rattle.disk_directory.specs.Listing.{Shows}
 use Rattle.desk.specs.ResultHelpers.{Holds}
@@ -14,6 +11,3 @@ use Rattle.base_refusals.specs.declared.Refusal.{Refusal}
 pub shown_held : (disk out : List ℕ) (r : Result ℕ Refusal) (after : List ℕ) → Shows disk out r after → Holds r after
 shown_held disk out (Ok n) after k = clip_within k.1
 shown_held disk out (Err r) after k = tt
-
-pub name_count : (after : List ℕ) {n : ℕ} → n ≤ length after → n ≡ length (take n after)
-name_count after {n} h = (prefix_len_of_le n after h).1
