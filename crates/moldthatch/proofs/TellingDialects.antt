@@ -15,7 +15,7 @@ use Rattle.escape_bytes.specs.declared.Escape.{Escape}
 use Rattle.moldthatch.specs.Given.{resolved_by}
 use Rattle.moldthatch.specs.ToldDialects.{dialect_number, dialect_code, load_code, escape_code}
 use Rattle.moldthatch.proofs.TellingOptions.{of_known, of_unknown}
-use Rattle.std.specs.Prelude.{Result, Ok, Err}
+use Rattle.std.specs.Prelude.{Option, Some, Result, Ok, Err}
 
 -- the number of a dialect names it
 pub number_back : (d : Dialect) → by_number (dialect_number d) ≡ done d
@@ -49,6 +49,14 @@ module _ {c : Code} where
 
   pub tells_escape : (r : Option Escape) → c ≡ escape_code r → {e : Option Escape} → r ≡ e → c ≡ escape_code e
   tells_escape r code q = code ∙ ap escape_code q
+
+-- a byte and how often it is repeated
+pub tells_byte : {r : Option Escape} {e : Escape} → r ≡ Some e → {first second : ℕ} → first ≡ e.byte → second ≡ e.count
+    → record { number = 0; count = 2; first = first; second = second } ≡ escape_code r
+tells_byte {r} {e} is {first} {second} byte count =
+    ap (λ (x : ℕ). record { number = 0; count = 2; first = x; second = second }) byte
+    ∙ ap (λ (x : ℕ). record { number = 0; count = 2; first = e.byte; second = x }) count
+    ∙ ap escape_code (sym is)
 
 -- the dialect by which a text is taken
 module _ (number : ℕ) (text : List ℕ) {n : (Result Dialect Refusal)} (answer : answered n ≡ by_number number) {c : Code} where

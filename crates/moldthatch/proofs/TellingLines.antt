@@ -24,6 +24,10 @@ use Rattle.std.specs.Prelude.{Result, Ok, Err}
 use Rattle.std.specs.Prelude.{Option}
 use Rattle.image_readers.specs.declared.Line.{Line}
 
+-- a result whose value is read again from the result itself
+pub inner_read : {A E : Type 0} {r : Result A E} {f g a : A} → r ≡ Ok f → g ≡ a → f ≡ g → r ≡ Ok a
+inner_read is e read = is ∙ ap Ok (read ∙ e)
+
 -- none, for a refusal
 pub tells_none : (r : Refusal) {k : Code} → k ≡ code_of (numbered r) → {c : LineCode} → c ≡ no_line k → c ≡ no_line (code_of (numbered r))
 tells_none r code made = made ∙ ap no_line code

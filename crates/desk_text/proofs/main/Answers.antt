@@ -5,5 +5,5 @@ use mathlib.Core.Path.{sym}
 use lib.ListN.{length-replicate}
 use Rattle.desk_text.proofs.main.Goals as goal
 
-pub slice_bounds-run_with-end : goal.slice_bounds-run_with-end
-slice_bounds-run_with-end c = sym (length-replicate {A = ℕ} 1048577 0)
+pub slice_bounds-take_files-end : goal.slice_bounds-take_files-end
+slice_bounds-take_files-end c = sym (length-replicate {A = ℕ} 1048577 0)
