@@ -2,11 +2,7 @@
 -- Assumes nothing.
 use native.Mathlib.Omega.{arith}
 use lib.ListN.{length-take}
-use Rattle.desk_check.proofs.Held.{part_long}
 use Rattle.desk_check.proofs.telling.short.Goals as goal
-
-pub slice_bounds-result-end : goal.slice_bounds-result-end
-slice_bounds-result-end c = search part_long
 
 pub returns : goal.returns
 returns c = simp length-take (omega arith)
