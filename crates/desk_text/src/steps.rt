@@ -77,11 +77,13 @@ pub fn check_steps(report: &mut Report, from: Place, body: &[u8], sets: Sets) {
     for _ in 0..body.len() {
         let next = sights::sight_from(body, stand, sets);
         stand = next.stand;
-        let Some(Sighting {
-            finding,
-            from: at,
-            to,
-        }) = next.sighting
+        let Some(
+            Sighting {
+                finding,
+                from: at,
+                to,
+            },
+        ) = next.sighting
         else {
             return;
         };

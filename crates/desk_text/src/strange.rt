@@ -26,9 +26,9 @@ pub fn check_line(report: &mut Report, k: usize, line: &[u8]) {
     let mut at: usize = 0;
     let mut column: usize = 1;
     for _ in 0..line.len() {
-        let Ok(Some(Stranger { offset, kind, used })) =
-            editor_strange_bytes::next_stranger(line, at)
-        else {
+        let Ok(Some(Stranger { offset, kind, used })) = editor_strange_bytes::next_stranger(
+            line, at,
+        ) else {
             return;
         };
         column = column.saturating_add(characters(sayings::cut(line, at, offset)));

@@ -58,7 +58,12 @@ fn save_on(
 }
 
 // Saves a file on a sound disk that lists none of its name.
-pub fn save_new(disk: &mut [u8], sectors: &[usize], name: &[u8], image: &[u8]) -> Result<(), Refusal>
+pub fn save_new(
+    disk: &mut [u8],
+    sectors: &[usize],
+    name: &[u8],
+    image: &[u8],
+) -> Result<(), Refusal>
     requires { (length disk.old ≡ 174848) × (sectors.now ≡ (directory disk.old).sectors) × (length sectors.now ≤ 18) × (length name.now ≤ 16) }
     ensures { leaving result disk.new ≡ onto_disk (saved_new disk.old name.now image.now) disk.old }
 {

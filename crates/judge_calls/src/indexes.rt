@@ -1,5 +1,5 @@
 // Ops 1D and 1E: a target in a line index, an entry of one.
-use image_index_entries::{Numbers, Kind};
+use image_index_entries::{Kind, Numbers};
 use judge_frames::Answer;
 
 pub fn look_up(payload: &[u8]) -> bool {

@@ -25,9 +25,10 @@ chains_hold-requires c = search (rules, log_entries)
 pub returns-then-entries_good : goal.returns-then-entries_good
 returns-then-entries_good c =
     let a : c.if-disk-eq18.value ≡ (eqb (get_or c.args.disk.now 91392 0) 18 && eqb (get_or c.args.disk.now 91393 0) 1) =
-    elim c.if-disk-eq18.branch
-    [ then-disk-eq18 w ↦ and_made (eq-eqb _ 18 w.if-disk-eq18.true) w.value-is refl
-    | else-disk-eq18 w ↦ and_left_out _ (ne_eqb _ 18 w.if-disk-eq18.false) w.value-is ]
+    elim c.if-disk-eq18.branch [
+      | then-disk-eq18 w ↦ and_made (eq-eqb _ 18 w.if-disk-eq18.true) w.value-is refl
+      | else-disk-eq18 w ↦ and_left_out _ (ne_eqb _ 18 w.if-disk-eq18.false) w.value-is
+    ]
     in
     let b : c.if-disk-eq1.value ≡ (c.if-disk-eq18.value && c.args.ends) =
     elim c.if-disk-eq1.branch
@@ -46,9 +47,10 @@ returns-then-entries_good c =
 pub returns-else-entries_good : goal.returns-else-entries_good
 returns-else-entries_good c =
     let a : c.if-disk-eq18.value ≡ (eqb (get_or c.args.disk.now 91392 0) 18 && eqb (get_or c.args.disk.now 91393 0) 1) =
-    elim c.if-disk-eq18.branch
-    [ then-disk-eq18 w ↦ and_made (eq-eqb _ 18 w.if-disk-eq18.true) w.value-is refl
-    | else-disk-eq18 w ↦ and_left_out _ (ne_eqb _ 18 w.if-disk-eq18.false) w.value-is ]
+    elim c.if-disk-eq18.branch [
+      | then-disk-eq18 w ↦ and_made (eq-eqb _ 18 w.if-disk-eq18.true) w.value-is refl
+      | else-disk-eq18 w ↦ and_left_out _ (ne_eqb _ 18 w.if-disk-eq18.false) w.value-is
+    ]
     in
     let b : c.if-disk-eq1.value ≡ (c.if-disk-eq18.value && c.args.ends) =
     elim c.if-disk-eq1.branch

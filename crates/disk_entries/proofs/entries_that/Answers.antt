@@ -11,9 +11,10 @@ loop-e-init c = pick_start _ _ _ _
 
 pub loop-e-preserved : goal.loop-e-preserved
 loop-e-preserved c =
-    elim c.if-is_that.branch
-    [ then-is_that w ↦ rw (w.list-is, w.count-is) (pick_in c.loop-e.invariant c.loop-e-test.true w.if-is_that.true c.is_that.ensures c.entry_at-p.ensures.0)
-    | else-is_that w ↦ rw (w.list-is, w.count-is) (pick_out c.loop-e.invariant c.loop-e-test.true w.if-is_that.false c.is_that.ensures c.entry_at-p.ensures.0) ]
+    elim c.if-is_that.branch [
+      | then-is_that w ↦ rw (w.list-is, w.count-is) (pick_in c.loop-e.invariant c.loop-e-test.true w.if-is_that.true c.is_that.ensures c.entry_at-p.ensures.0)
+      | else-is_that w ↦ rw (w.list-is, w.count-is) (pick_out c.loop-e.invariant c.loop-e-test.true w.if-is_that.false c.is_that.ensures c.entry_at-p.ensures.0)
+    ]
 
 pub returns : goal.returns
 returns c = that_stored _ _ _ (pick_end c.loop-e.invariant c.loop-e-test.false) refl

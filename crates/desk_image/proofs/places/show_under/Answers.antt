@@ -4,6 +4,5 @@ use native.Mathlib.Omega.{arith}
 use lib.ListN.{length-take}
 use Rattle.desk_image.proofs.places.show_under.Goals as goal
 
-
 pub show_text-requires : goal.show_text-requires
 show_text-requires c = simp length-take (omega arith)
