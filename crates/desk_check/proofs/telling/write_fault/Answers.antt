@@ -1,7 +1,0 @@
--- `desk_check::telling::write_fault` is safe and ends: what was stored lies within its buffer.
--- Assumes nothing.
-use Rattle.desk.proofs.Results.{result_held}
-use Rattle.desk_check.proofs.telling.write_fault.Goals as goal
-
-pub write_told-requires : goal.write_told-requires
-write_told-requires c = search result_held
