@@ -1,9 +1,8 @@
 -- A file that was read from a disk lies within its buffer.
 -- Assumes nothing.
-use Prim.Native.Nat.{ℕ, ◌≤◌, ◌<◌}
+use Prim.Native.Nat.{ℕ, ◌≤◌}
 use mathlib.Core.Path.{◌≡◌, sym}
 use mathlib.Core.List.{List}
-use native.Mathlib.Omega.{arith}
 use lib.ListN.{length, take}
 use lib.Seq.{length-take-le}
 use Rattle.base_refusals.specs.Answer.{Answer}
@@ -15,5 +14,5 @@ use Rattle.base_refusals.specs.declared.Refusal.{Refusal}
 pub read_within : (a : Answer (List ℕ)) (buffer : List ℕ) {r : (Result ℕ Refusal)} {n : ℕ} {after : List ℕ} → r ≡ Ok n → left r after ≡ into_buffer a buffer → n ≤ length after
 read_within a buffer {r} {after = after} is e = result_count after is (result_held a buffer r e)
 
-pub read_count : (a : Answer (List ℕ)) (buffer : List ℕ) {r : Result ℕ Refusal} {n : ℕ} {after : List ℕ} → r ≡ Ok n → left r after ≡ into_buffer a buffer → n ≡ length (take n after)
-read_count a buffer {n = n} {after = after} is e = sym (length-take-le n after (read_within a buffer is e))
+pub read_whole : (a : Answer (List ℕ)) (buffer : List ℕ) {r : (Result ℕ Refusal)} {n : ℕ} {after : List ℕ} → r ≡ Ok n → left r after ≡ into_buffer a buffer → n ≡ length (take n after)
+read_whole a buffer {after = after} is e = sym (length-take-le _ after (read_within a buffer is e))

@@ -1,4 +1,4 @@
--- `desk_check::telling::Teller::write_fault` is safe and ends: what was stored lies within its buffer.
+-- `desk_check::telling::Teller::write_fault` is safe and ends: the line lies within its buffer.
 -- Assumes nothing.
 use Rattle.desk.proofs.Results.{result_held}
 use Rattle.desk_check.proofs.telling.Teller.write_fault.Goals as goal
