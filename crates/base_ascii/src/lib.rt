@@ -62,7 +62,7 @@ pub fn is_ascii(s: &[u8]) -> bool
     s.iter().all(|b| *b < 0x80)
 }
 
-// How many bytes of white space stand in front. This loop and the next run for each text line, so they do not call `search`.
+// How many bytes of white space stand in front. This and the next run for each text line, so they do not call `search`, which asks for the kind at each byte.
 pub fn leading_space(s: &[u8]) -> usize
     ensures { result ≡ front is_space s.now }
 {

@@ -2,10 +2,10 @@
 ghost use Rattle.std.specs.Prelude.{◌≡◌, ◌≤◌, take};
 ghost use Rattle.base_steps.specs.Decimal.{decimal};
 ghost use Rattle.say_put.specs.Clipped.{Clipped};
-ghost use Rattle.say_shown.specs.Shown.{shown};
+ghost use Rattle.say_shown.specs.Shown.{shown, shown_line};
 
 use say_put::{put_decimal, put_text};
-use say_shown::put_shown;
+use say_shown::{put_line, put_shown};
 
 #[derive(Drop)]
 pub struct Line<const N: usize> {
@@ -44,6 +44,13 @@ impl<const N: usize> Line<N> {
         ensures { Clipped self.old.bytes self.old.end (shown text.now) self.new.end self.new.bytes }
     {
         self.end = put_shown(&mut self.bytes, self.end, text);
+    }
+
+    // The same of words that are a line of their own, with its end.
+    pub fn put_line(&mut self, words: &[u8])
+        ensures { Clipped self.old.bytes self.old.end (shown_line words.now) self.new.end self.new.bytes }
+    {
+        self.end = put_line(&mut self.bytes, self.end, words);
     }
 
     // What there is.

@@ -1,5 +1,7 @@
 // What is said to a person. Every sentence of a program goes through here: whatever it has of a text, an image, a disk or a name is shown by crate
 // `say_shown`, and the only control in it is its line's end.
+ghost use Rattle.std.specs.Prelude.{◌≡◌, is_ok};
+
 use crate::line::Line;
 use desk_calls::reasons;
 use std::io::{Error, Print, Result};
@@ -13,8 +15,7 @@ fn words_of(line: &[u8]) -> &[u8] {
 fn write_shown<P: Print>(to: &P, line: &[u8]) -> Result<()> {
     // No sentence has more than 9,216 bytes, and no byte is shown by more than five.
     let mut shown = Line::<46_592>::new();
-    shown.put_shown(words_of(line));
-    shown.put(b"\n");
+    shown.put_line(words_of(line));
     to.write_all(shown.bytes())
 }
 
@@ -29,7 +30,9 @@ pub fn say(rt: &HostRuntime, line: &[u8]) -> bool {
 }
 
 // Whether a call of the system succeeded; where it did not, standard error tells.
-pub fn is_done(rt: &HostRuntime, name: &[u8], came: Result<()>) -> bool {
+pub fn is_done(rt: &HostRuntime, name: &[u8], came: Result<()>) -> bool
+    ensures { result ≡ is_ok came }
+{
     came.inspect_err(|why| fail(rt, name, *why)).is_ok()
 }
 

@@ -37,7 +37,9 @@ fn save(rt: &HostRuntime, disk: &mut [u8]) {
 }
 
 // The name that a word stands for, at the start of a buffer.
-fn given_name<'a>(rt: &HostRuntime, name: &'a mut [u8]) -> &'a [u8] {
+fn given_name<'a>(rt: &HostRuntime, name: &'a mut [u8]) -> &'a [u8]
+    ensures { length result.now ≤ length name.old }
+{
     let mut text = io::buffer();
     let count = disk_names::given(names::name(rt, NAME, &mut text), name);
     &name[..count]

@@ -61,8 +61,7 @@ impl Report<'_> {
         if self.page.bytes().len() > PAGE - LONGEST {
             self.flush();
         }
-        self.page.put_shown(line);
-        self.page.put(b"\n");
+        self.page.put_line(line);
     }
 
     // A line, which begins with the name of the file.

@@ -65,7 +65,7 @@ module _ {d l : List ℕ} {end place left next : ℕ} (s : Seeking d l end place
   seek_in = omega (arith, s.ends)
 
   small : get_or l (next / 8) 0 < 768
-  small = s.below.small (next / 8) seek_in
+  small = s.below.lies.small (next / 8) seek_in
 
   pub seek_fits : Fits w64 (256 * get_or l (next / 8) 0)
   seek_fits = omega (arith, small)
@@ -77,7 +77,7 @@ module _ {d l : List ℕ} {end place left next : ℕ} (s : Seeking d l end place
   seek_fits_3 = omega (arith, small)
 
   stands : x + 30 ≤ length d
-  stands = omega (arith, s.below.within (next / 8) seek_in)
+  stands = omega (arith, s.below.lies.within (next / 8) seek_in)
 
   pub seek_room : 256 * get_or l (next / 8) 0 + 2 + 32 * (next % 8) < length d
   seek_room = omega (arith, stands)
@@ -138,8 +138,11 @@ module _ {d : List ℕ} {tracks : ℕ} (h : Holds d tracks) where
   below_all w e f =
       record {
         few = f;
-        small = λ i g. omega (arith, each_at (Of (Tracks tracks)) 0 w.sectors e i g, h.few);
-        within = λ i g. omega (arith, each_at (Of (Tracks tracks)) 0 w.sectors e i g, h.size);
+        lies =
+            record {
+              small = λ i g. omega (arith, each_at (Of (Tracks tracks)) 0 w.sectors e i g, h.few);
+              within = λ i g. omega (arith, each_at (Of (Tracks tracks)) 0 w.sectors e i g, h.size);
+            };
       }
 
   module _ {r : Followed} {after : List ℕ} {marks marks' : List Bool} where

@@ -15,7 +15,7 @@ use borrow.Author.Tests.{eq-eqb, ne_eqb}
 use Rattle.base_lent.proofs.Storing.{sets_append}
 use Rattle.disk_rules.specs.Calls.{payload, chain_bytes}
 use Rattle.disk_chains.specs.ChainHelpers.{Sectors}
-use Rattle.disk_bytes.specs.ByteHelpers.{Below}
+use Rattle.disk_bytes.specs.ByteHelpers.{Below, Lies}
 
 module _ (d : List ℕ) (n : ℕ) (e : 256 * n + 256 ≤ length d) where
   room : (k : ℕ) → k ≤ 254 → k ≡ length (take k (drop (256 * n + 2) d))
@@ -32,9 +32,12 @@ pub sectors_below : {d l : List ℕ} → length d ≡ 174848 → Sectors l → l
 sectors_below e s h =
     record {
       few = omega arith;
-      small = λ i g. omega (arith, s.below i g);
-      within = λ i g. omega (arith, s.below i g);
+      lies = record { small = λ i g. omega (arith, s.below i g); within = λ i g. omega (arith, s.below i g) };
     }
+
+-- a list that `measure` takes is one that `take_out` takes
+pub below_lies : {d l : List ℕ} → Below d l → Lies d l
+below_lies s = s.lies
 
 -- ---- how many
 
@@ -49,7 +52,7 @@ measure_start d s = record { sectors = s; within = omega arith; few = omega arit
 
 module _ {d l : List ℕ} {count i : ℕ} (m : Measuring d l count i) where
   pub measure_below : i < length l → 256 * get_or l i 0 + 256 ≤ length d
-  measure_below h = m.sectors.within i h
+  measure_below h = m.sectors.lies.within i h
 
   pub measure_turn : {r : ℕ} → i < length l → r ≡ length (payload d (get_or l i 0)) → r ≤ 254 → Measuring d l (count + r) (i + 1)
   unfolding chain_bytes
@@ -76,12 +79,12 @@ take_exact (suc k) [] = refl
 take_exact (suc k) (a ∷ x) = ap (λ (r : List ℕ). a ∷ r) (take_exact k x)
 
 pub record Taking (d l out₀ out : List ℕ) (to i : ℕ) : Type 0 where
-  pub sectors : Below d l
+  pub sectors : Lies d l
   pub sized : length out ≡ length out₀
   pub room : to + length (chain_bytes d (drop i l)) ≤ length out₀
   pub stores : sets out to (chain_bytes d (drop i l)) ≡ sets out₀ 0 (chain_bytes d l)
 
-pub take_start : (d : List ℕ) {l out : List ℕ} → Below d l → length (chain_bytes d l) ≤ length out → Taking d l out out 0 0
+pub take_start : (d : List ℕ) {l out : List ℕ} → Lies d l → length (chain_bytes d l) ≤ length out → Taking d l out out 0 0
 take_start d s h = record { sectors = s; sized = refl; room = omega arith; stores = refl }
 
 module _ {d l out₀ out : List ℕ} {to i : ℕ} (t : Taking d l out₀ out to i) where

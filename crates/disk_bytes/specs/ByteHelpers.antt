@@ -3,7 +3,11 @@
 use Rattle.std.specs.Prelude.{ℕ, ◌+◌, ◌*◌, ◌≤◌, ◌<◌, List, length, get_or}
 
 -- each number of a list is a sector of the image
-pub record Below (disk l : List ℕ) : Type 0 where
-  pub few : length l ≤ 768
+pub record Lies (disk l : List ℕ) : Type 0 where
   pub small : (i : ℕ) → i < length l → get_or l i 0 < 768
   pub within : (i : ℕ) → i < length l → 256 * get_or l i 0 + 256 ≤ length disk
+
+-- and there are no more of them than an image has sectors
+pub record Below (disk l : List ℕ) : Type 0 where
+  pub few : length l ≤ 768
+  pub lies : Lies disk l

@@ -5,7 +5,7 @@ ghost use Rattle.std.specs.Prelude.{◌≡◌, ◌+◌, ◌*◌, ◌-◌, ◌≤
 ghost use Rattle.std.proofs.lemmas.List.Edits.{sets};
 ghost use Rattle.disk_rules.specs.Calls.{sector_bytes, laid, payload, chain_bytes};
 ghost use Rattle.disk_chains.specs.ChainHelpers.{Sectors};
-ghost use Rattle.disk_bytes.specs.ByteHelpers.{Below};
+ghost use Rattle.disk_bytes.specs.ByteHelpers.{Below, Lies};
 
 use disk_sectors::{sector_of, track_of};
 
@@ -77,7 +77,7 @@ pub fn measure(disk: &[u8], list: &[usize]) -> usize
 
 // Stores the bytes of a chain's sectors at a buffer's start.
 pub fn take_out(disk: &[u8], list: &[usize], out: &mut [u8])
-    requires { Below disk.now list.now × (length (chain_bytes disk.now list.now) ≤ length out.old) }
+    requires { Lies disk.now list.now × (length (chain_bytes disk.now list.now) ≤ length out.old) }
     ensures { out.new ≡ sets out.old 0 (chain_bytes disk.now list.now) }
 {
     let mut to: usize = 0;

@@ -177,6 +177,12 @@ module _ {blank : Kind} {line marks levels : List ℕ} {size room count : ℕ} {
         stands = rw from_there (stands_other _ q k.stands a b);
       }
 
+pub marking_space : {blank : Kind} {line marks levels : List ℕ} {size room count : ℕ} {ahead : Bool} {n : ℕ} → Marking blank line size room marks levels count ahead n → n < length line
+    → get_or line (length line - 1 - n) 0 ≡ 0x20 → of_kind blank 0x20 ≡ true → Marking blank line size room marks levels count ahead (n + 1)
+marking_space {blank} {line} {marks} {levels} {size} {room} {count} {ahead} {n} k h e t =
+    let b : ℕ = get_or line (length line - 1 - n) 0 in
+    marking_on k h (sym (ap (λ (x : Bool). cond x ahead (eqb b 0x3D)) (ap (of_kind blank) e ∙ t))) (λ f. omega arith) (λ f. omega arith)
+
 -- ---- marks of a part, and what they say
 
 marked_drop : (blank : Kind) (marks : List ℕ) (a : ℕ) (t : List ℕ) → Marked blank marks t → Marked blank marks (drop a t)

@@ -7,12 +7,16 @@ use crate::lists;
 use base_ascii::search;
 use base_ascii::search::Kind;
 
-// How many bytes a list takes behind its opening parenthesis: up to the closing one, or to the end.
+// How many bytes a list takes behind its opening parenthesis: up to the closing one, or to the end. Most bytes are above both parentheses,
+// and one test passes them.
 fn closing(text: &[u8]) -> usize
     ensures { result ≡ closing_of 0 text.now }
 {
     let mut depth: usize = 0;
     for (i, b) in text.iter().enumerate() {
+        if *b > b')' {
+            continue;
+        }
         match *b {
             b'(' => depth += 1,
             b')' => {

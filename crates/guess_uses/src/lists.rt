@@ -52,6 +52,7 @@ fn equals_ahead(b: u8, blank: Kind, behind: bool) -> bool
 }
 
 // Each ) adds a bit to `levels`: whether = follows. Each ( takes the last one away, which is that of the ) that ends its list.
+// A space is asked for first, since no byte is more frequent: where it is a blank, it changes nothing.
 fn mark_lists(line: &[u8], blank: Kind, marks: &mut [u8], levels: &mut [u8])
     requires { (length line.now ≤ 8 * length marks.old) × (length line.now ≤ 8 * length levels.old) }
     ensures { MarksOf blank line.now marks.new }
@@ -60,6 +61,9 @@ fn mark_lists(line: &[u8], blank: Kind, marks: &mut [u8], levels: &mut [u8])
     let mut ahead = false;
     for n in 0..line.len() {
         let b = line[line.len() - 1 - n];
+        if b == b' ' && search::is_kind(b' ', blank) {
+            continue;
+        }
         if b == b')' {
             put_bit(levels, count, ahead);
             count += 1;

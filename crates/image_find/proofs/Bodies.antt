@@ -23,7 +23,7 @@ use Rattle.image_readers.proofs.Reading.{lines_lead}
 use Rattle.image_find.specs.Sought.{limit_reached, at, within, line_sought, body_in}
 use Rattle.image_find.proofs.Seeking.{sought_from}
 use Rattle.std.specs.Prelude.{Option, Some, None, MatchOption, slice_range, ◌⊎◌}
-use Rattle.std.specs.Option.{UnwrapsOrElse}
+use Rattle.std.specs.Option.{unwrap_or}
 use Rattle.std.specs.Borrow.{Bor}
 use mathlib.Core.Logic.{inl, inr}
 
@@ -46,16 +46,16 @@ module _ (s : List ℕ) (l : Line) where
   unfolding body_in
   body_there h k = simp (le-ltb _ _ k, le-ltb _ _ h)
 
--- the part of the image that was got, or nothing
-pub body_got : (s : List ℕ) (l : Line) (r : Option (Bor (List ℕ))) (x : Bor (List ℕ))
+-- the part of the image that was got, or its empty one
+pub body_got : (s : List ℕ) (l : Line) (r : Option (Bor (List ℕ))) {x y : Bor (List ℕ)}
     → MatchOption r ((l.to < l.from) ⊎ (length s < l.to)) (λ y. (l.from ≤ l.to) × (l.to ≤ length s) × (y.now ≡ slice_range s l.from l.to) × (length y.now + l.from ≡ l.to))
-    → UnwrapsOrElse r (λ y. y.now ≡ []) x → x.now ≡ body_in s l
-body_got s l None x h e = e ∙ none h
+    → y.now ≡ [] → x ≡ unwrap_or r y → x.now ≡ body_in s l
+body_got s l None h g e = ap (λ (z : Bor (List ℕ)). z.now) e ∙ g ∙ none h
   where
     none : (l.to < l.from) ⊎ (length s < l.to) → [] ≡ body_in s l
     none (inl b) = body_backward s l b
     none (inr b) = body_beyond s l b
-body_got s l (Some y) x h e = ap (λ (z : Bor (List ℕ)). z.now) e ∙ h.2 ∙ body_there s l h.0 h.1
+body_got s l (Some y) h g e = ap (λ (z : Bor (List ℕ)). z.now) e ∙ h.2 ∙ body_there s l h.0 h.1
 
 -- ---- the line that is answered
 

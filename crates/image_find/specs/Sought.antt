@@ -47,7 +47,7 @@ unfoldable pub line_sought : ℕ → ℕ → List ℕ → Answer Visit
 unfolding within lined_from link_step
 line_sought number limit s = sized s (within number limit 0 (lined_from link_step s 2).lines (lined_from link_step s 2).ending)
 
--- the enum's cases as document 02 numbers them
+-- what is found, or the refusal, as document 02 numbers them
 abbrev pub sought_answer : Result Sought Refusal → Answer Visit
 sought_answer (Ok (Found visited l)) = done (at visited l)
 sought_answer (Ok (Nowhere visited)) = done (nowhere visited)

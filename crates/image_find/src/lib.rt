@@ -56,5 +56,5 @@ pub fn find_line(image: &[u8], number: u16, limit: usize) -> Result<Sought, Refu
 pub fn body(image: &[u8], line: Line) -> &[u8]
     ensures { result.now ≡ body_in image.now line }
 {
-    image.get(line.from..line.to).unwrap_or_default()
+    image.get(line.from..line.to).unwrap_or(&image[..0])
 }

@@ -35,7 +35,7 @@ module _ (s : List ℕ) (p : ℕ) where
     unfolding link_step
     link_end h e = let g : p + 2 ≤ length s = omega arith in simp (le-ltb _ _ long, le-ltb _ _ short, le-ltb _ _ g, eq-eqb _ _ e)
 
-    -- a link that is not the None's
+    -- a link that is not the end's
     module _ (h : p ≤ length s - 2) (e : get_or s (p + 1) 0 ≡ 0 → ⊥) {t : ℕ} where
       link_follow : t ≡ target_at s p → follow s p t ≡ link_step s p
       unfolding link_step

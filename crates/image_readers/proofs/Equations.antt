@@ -30,7 +30,7 @@ pub record Sound (step : Reader) : Type 0 where
   pub lies : (s : List ℕ) (p : ℕ) {l : Line} → step s p ≡ done (Some l) → LiesAt s p l
 
 module _ {step : Reader} (sound : Sound step) (s : List ℕ) where
-  -- the next offset is nearer to the image's None
+  -- the next offset is nearer to the image's end
   pub next_nearer : (p : ℕ) {l : Line} → step s p ≡ done (Some l) → length s - l.next < length s - p
   next_nearer p {l} e = let d : LiesAt s p l = sound.lies s p e in omega arith
 

@@ -46,7 +46,7 @@ module _ {step : Reader} (sound : Sound step) (s : List ℕ) where
   chain_lined here f = f
   chain_lined (on {p = p} {l = l} h c) f = lined_line p h ∙ ap (λ (x : Lined). record { lines = l ∷ x.lines; ending = x.ending }) (chain_lined c f)
 
-  -- an image that the reader accepts: its lines, and then the None; one that it refuses: some lines, and then the fault
+  -- an image that the reader accepts: its lines, and then the end; one that it refuses: some lines, and then the fault
   pub accepted : {ls : List Line} → lines_of step s ≡ done ls → lined_from step s 2 ≡ record { lines = ls; ending = ended }
   accepted e = let k = subst (Leads step s 2) e (lines_lead sound s 2) in chain_lined k.1 (lined_end k.0 k.2)
 

@@ -34,7 +34,7 @@ module _ {step : Reader} (sound : Sound step) (s : List ℕ) where
   chain_then (on {p = p} {q = q} {l = l} {ls = ls} e c) =
       lines_line sound s p e ∙ ap (map_done (λ ms. l ∷ ms)) (chain_then c) ∙ then_these l ls (lines_from step s q)
 
-  -- lines found one after the other up to the None are all the lines from p on; up to a refusal they are none
+  -- lines found one after the other up to the end are all the lines from p on; up to a refusal they are none
   pub chain_end : {p q : ℕ} {ls : List Line} → Chain (step s) p ls q → step s q ≡ done None → lines_from step s p ≡ done ls
   chain_end {q = q} {ls = ls} c e = chain_then c ∙ ap (map_done (λ ms. ls ++ ms)) (lines_end step s q e) ∙ ap done (append-nil ls)
 
@@ -51,7 +51,7 @@ module _ {step : Reader} (sound : Sound step) (s : List ℕ) where
   leads_onward p (done None) e ih = (p, here, e)
   leads_onward p (refused n) e ih = ([], p, here, e)
 
-  -- steps one after the other from p on find exactly the lines from p on, and then the None; or they come to the refusal
+  -- steps one after the other from p on find exactly the lines from p on, and then the end; or they come to the refusal
   pub lines_lead : (p : ℕ) → Leads step s p (lines_from step s p)
   lines_lead =
       by_lines sound s (λ q. Leads step s q (lines_from step s q))

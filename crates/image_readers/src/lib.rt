@@ -75,7 +75,7 @@ pub fn body_by(image: &[u8], offset: usize, by: By) -> &[u8]
 {
     match step_by(image, offset, by) {
         Ok(Some(line)) => &image[line.from..line.to],
-        Ok(None) | Err(_) => &[],
+        Ok(None) | Err(_) => &image[..0],
     }
 }
 

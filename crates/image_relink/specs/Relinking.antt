@@ -95,7 +95,7 @@ relink_from s p = again endless (relink_on s) 65537 p
 unfoldable pub relinking : List ℕ → Answer Relinking
 relinking s = sized s (done (relink_from s 2))
 
--- the enum's cases
+-- what the routine makes, or the refusal
 abbrev pub relinked_answer : Result Relinked Refusal → Answer Relinking
 relinked_answer (Ok Same) = done same
 relinked_answer (Ok (Changed offset link)) = done (changed offset link)

@@ -1,18 +1,20 @@
 -- What a byte of a body is, case by case: the tests that were taken say which case of the definition holds.
 -- Assumes nothing.
-use Prim.Native.Nat.{ℕ, ◌≤◌, ◌<◌}
+use Prim.Native.Nat.{ℕ, ◌+◌, ◌≤◌, ◌<◌}
 use mathlib.Core.Logic.{◌⊎◌, inl, inr}
 use mathlib.Core.Path.{◌≡◌, refl, ◌∙◌}
 use mathlib.Core.Bool.{true, false, cond}
 use mathlib.Core.List.{List}
 use native.Mathlib.Omega.{arith}
+use lib.ListN.{length, get_or, drop}
+use lib.Seq.{drop-cons}
 use borrow.Author.Tests.{eq-eqb, ne_eqb, lt-leb, le-leb}
 use Rattle.image_units.specs.declared.Mode.{Mode}
 use Rattle.image_units.specs.declared.Mode.TheVariants.{Plain, Quoted, Remark, Data, QuotedData}
 use Rattle.image_units.specs.declared.Rules.{Rules}
 use Rattle.image_units.specs.declared.Taken.{Taken}
 use Rattle.image_units.specs.declared.Unit.{Unit}
-use Rattle.image_units.specs.declared.Unit.TheVariants.{Char, Remarked}
+use Rattle.image_units.specs.declared.Unit.TheVariants.{Char, Pair, Remarked}
 use Rattle.image_units.specs.Units.{toggled_mode, mode_behind, one_unit, token_unit, prefixed_unit, unquoted_unit, quoted_unit, unit_at}
 
 -- the mode behind a byte
@@ -58,6 +60,11 @@ behind_other rules b Quoted n m = refl
 behind_other rules b Remark n m = refl
 behind_other rules b Data n m = absurd (m refl)
 behind_other rules b QuotedData n m = refl
+
+-- a prefix with a byte behind it is a pair, and opens nothing
+pub prefixed_pair : (body : List ℕ) (i : ℕ) (mode : Mode)
+    → i + 1 < length body → ◌≡◌ {A = Taken} (record { unit = Pair (get_or body (i + 1) 0); used = 2; mode = mode }) (prefixed_unit mode (drop (i + 1) body))
+prefixed_pair body i mode h = rw (drop-cons body (i + 1) 0 h)
 
 -- an unquoted byte
 module _ (rules : Rules) (mode : Mode) (b : ℕ) (rest : List ℕ) {r : Taken} {m : Mode} where
@@ -110,3 +117,6 @@ module _ (rules : Rules) {mode : Mode} (b : ℕ) (rest : List ℕ) {r : Taken} w
   pub unit_remarked : mode ≡ Remark → r ≡ one_unit (Remarked b) Remark → r ≡ unit_at rules mode b rest
   unfolding unit_at
   unit_remarked is e = e ∙ rw is
+
+pub unit_in : (rules : Rules) {mode x : Mode} (b : ℕ) (rest : List ℕ) {r : Taken} → mode ≡ x → r ≡ unit_at rules x b rest → r ≡ unit_at rules mode b rest
+unit_in rules b rest is e = rw is e

@@ -56,7 +56,8 @@ pub fn unit_at(body: &[u8], i: usize, mode: Mode, rules: Rules) -> Taken
     ensures { result ≡ unit_at rules mode (get_or body.now i 0) (drop (i + 1) body.now) }
 {
     match mode {
-        Mode::Plain | Mode::Data => unquoted(body, i, mode, rules),
+        Mode::Plain => unquoted(body, i, Mode::Plain, rules),
+        Mode::Data => unquoted(body, i, Mode::Data, rules),
         Mode::Quoted | Mode::QuotedData => quoted(body[i], mode),
         Mode::Remark => one(Unit::Remarked(body[i]), Mode::Remark),
     }
@@ -142,10 +143,16 @@ fn toggled(mode: Mode) -> Mode
 fn behind(rules: Rules, mode: Mode, b: u8) -> Mode
     ensures { result ≡ mode_behind rules mode b }
 {
-    match (mode, b) {
-        (Mode::Plain, 0x8F) if rules.remarks => Mode::Remark,
-        (Mode::Plain, 0x83) if rules.items => Mode::Data,
-        (Mode::Data, 0x3A) => Mode::Plain,
+    match mode {
+        Mode::Plain => match b {
+            0x8F if rules.remarks => Mode::Remark,
+            0x83 if rules.items => Mode::Data,
+            _ => mode,
+        },
+        Mode::Data => match b {
+            0x3A => Mode::Plain,
+            _ => mode,
+        },
         _ => mode,
     }
 }

@@ -5,8 +5,6 @@ ghost use Rattle.std.specs.Prelude.{◌≡◌, [], ◌∷◌, ◌%◌, get_or};
 ghost use Rattle.list_bytes.specs.ByteTexts.{hex_digits, byte_text, remark_text};
 ghost use Rattle.list_bytes.specs.HeldHelpers.{held};
 
-const HEX_DIGITS: [u8; 16] = *b"0123456789ABCDEF";
-
 // A text of at most six bytes: the first len of them, and zeros behind.
 #[derive(Clone, Copy)]
 pub struct ByteText {
@@ -64,5 +62,9 @@ pub fn remark_to_string(b: u8) -> ByteText
 pub fn hex_digit(value: u8) -> u8
     ensures { result ≡ get_or hex_digits (value % 16) 0 }
 {
-    HEX_DIGITS[usize::from(value % 16)]
+    let digit = value % 16;
+    if digit < 10 {
+        return 0x30 + digit;
+    }
+    0x41 + (digit - 10)
 }

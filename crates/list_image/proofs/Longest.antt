@@ -72,7 +72,7 @@ overview_by : (by : By) (image : List ℕ) {a : Answer (List NumberedBody)} → 
 overview_by by image f = overview_bodies (step_by by) image ∙ ap (map_done (overview_of image)) f
 
 module _ (by : By) (rules : Rules) (image buffer : List ℕ) {r : Result Overview Refusal} (e : answered r ≡ overview (step_by by) image) where
-  -- an image that was read to its None has a listing, and the buffer has room for it
+  -- an image that was read to its end has a listing, and the buffer has room for it
   pub ninefold_room : {v : Overview} → r ≡ Ok v → length image ≤ length buffer / 9 → ((i : ℕ) → Fits w8 (get_or image i 0)) → HasRoom buffer (listing_by by rules image)
   unfolding listing_by
   ninefold_room is few bytes = go (bodies_from (step_by by) image 2) refl

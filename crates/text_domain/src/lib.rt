@@ -19,8 +19,7 @@ fn is_pi(text: &[u8]) -> bool
     text.starts_with(b"\xCF\x80")
 }
 
-// So many bytes in front are below 80, and perhaps more: two eights are passed at a time, which is faster than a byte at a time (measured in
-// bench/, see docs/SPEED.md).
+// So many bytes in front are below 80, and perhaps more: two eights are passed at a time.
 fn passed_by_eights(text: &[u8]) -> usize
     ensures { result ≤ front is_low text.now }
 {

@@ -45,7 +45,7 @@ fn end_mark(text: &[u8], rule: LineRule) -> usize
 }
 
 // Passes the run of one byte that begins at a place: all of it, or all but fewer than four bytes. Most runs are short. Behind sixteen bytes a
-// run is passed four bytes at a time. The loops of this crate run for each text line and count by hand, as measured in bench/ (docs/SPEED.md).
+// run is passed four bytes at a time.
 fn behind_run(text: &[u8], from: usize, b: u8) -> usize
     ensures { run_end b text.now result ≡ run_end b text.now from }
 {

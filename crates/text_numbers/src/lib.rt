@@ -55,14 +55,21 @@ fn digits_in(text: &[u8]) -> Digits
     }
 }
 
-// What a line is: both ends trimmed, then its digits, then spaces, then the body.
+// What a line is: both ends trimmed, then its digits, then spaces, then the body. Most blank lines are empty, and asked for that alone, so that
+// this much stands where the call does.
 pub fn number_line(line: &[u8]) -> Numbering
     ensures { result ≡ numbering line.now }
 {
-    // Most blank lines are empty.
     if line.is_empty() {
         return Numbering::Blank;
     }
+    number_filled(line)
+}
+
+// The same of a line that mostly has bytes.
+fn number_filled(line: &[u8]) -> Numbering
+    ensures { result ≡ numbering line.now }
+{
     let text = base_ascii::trim(line);
     if text.is_empty() {
         return Numbering::Blank;

@@ -3,3 +3,4 @@ pub mod Order
 pub mod Runs
 pub mod Sameness
 pub mod Search
+pub mod Storing

@@ -3,6 +3,7 @@
 use mathlib.Core.Path.{sym}
 use native.Mathlib.Omega.{arith}
 use lib.Seq.{length-take-le}
+use Rattle.disk_bytes.proofs.Taking.{below_lies}
 use Rattle.disk.proofs.Calling.{traced_below, entry_none, entry_read}
 use borrow.Author.Rules.{rules}
 use Rattle.disk.proofs.read_entry.Goals as goal
@@ -20,7 +21,7 @@ pub slice_bounds-take_out-end : goal.slice_bounds-take_out-end
 slice_bounds-take_out-end c = sym (length-take-le _ _ (omega arith))
 
 pub take_out-requires : goal.take_out-requires
-take_out-requires c = search (rules, traced_below)
+take_out-requires c = search (rules, below_lies, traced_below)
 
 pub returns : goal.returns
 returns c = search entry_read

@@ -3,6 +3,7 @@
 use mathlib.Core.Path.{sym}
 use native.Mathlib.Omega.{arith}
 use lib.Seq.{length-take-le}
+use Rattle.disk_bytes.proofs.Taking.{below_lies}
 use Rattle.disk_any.proofs.Locating.{file_below, file_stopped, file_no_room, file_done}
 use borrow.Author.Rules.{rules}
 use Rattle.disk_any.proofs.file_on.Goals as goal
@@ -23,7 +24,7 @@ pub slice_bounds-take_out-end : goal.slice_bounds-take_out-end
 slice_bounds-take_out-end c = sym (length-take-le _ _ (omega arith))
 
 pub take_out-requires : goal.take_out-requires
-take_out-requires c = search (rules, file_below)
+take_out-requires c = search (rules, below_lies, file_below)
 
 pub returns : goal.returns
 returns c = search file_done

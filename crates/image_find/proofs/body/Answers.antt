@@ -1,7 +1,8 @@
 -- `image_find::body` meets its contract.
 -- Assumes nothing.
+use mathlib.Core.Path.{refl}
 use Rattle.image_find.proofs.Bodies.{body_got}
 use Rattle.image_find.proofs.body.Goals as goal
 
 pub returns : goal.returns
-returns c = body_got c.args.image.now c.args.line c.get.result c.unwrap_or_default.result c.get.ensures.lookup.0 c.unwrap_or_default.ensures
+returns c = body_got c.args.image.now c.args.line c.get.result c.get.ensures.lookup.0 refl c.unwrap_or.ensures

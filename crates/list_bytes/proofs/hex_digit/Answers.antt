@@ -1,8 +1,10 @@
 -- `list_bytes::hex_digit` meets its contract.
 -- Assumes nothing.
-use Rattle.list_bytes.specs.ByteTexts.{hex_digits}
+use Rattle.list_bytes.proofs.ByteTexts.{digit_low, digit_high}
 use Rattle.list_bytes.proofs.hex_digit.Goals as goal
 
+pub returns-then-digit-lt10 : goal.returns-then-digit-lt10
+returns-then-digit-lt10 c = search digit_low
+
 pub returns : goal.returns
-unfolding hex_digits
-returns c = rw c.from.ensures
+returns c = search digit_high

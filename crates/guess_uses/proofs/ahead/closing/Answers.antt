@@ -1,5 +1,6 @@
 -- `guess_uses::ahead::closing` meets its contract.
 -- Assumes nothing.
+use native.Mathlib.Omega.{arith}
 use Rattle.guess_uses.proofs.Behind.{listed_start, listed_closed, listed_up, listed_down, listed_on, listed_told}
 use Rattle.guess_uses.proofs.ahead.closing.Goals as goal
 use Rattle.guess_uses.proofs.ahead.closing.Goals.{in-40, in-41+else-depth-eq0, in_default}
@@ -20,3 +21,6 @@ loop-i-preserved c =
 
 pub returns : goal.returns
 returns c = listed_told c.loop-i-test.false c.loop-i.auto.i-end c.loop-i.invariant
+
+pub loop-i-preserved-then-b-gt41 : goal.loop-i-preserved-then-b-gt41
+loop-i-preserved-then-b-gt41 c = listed_on (λ e. omega (arith, c.if-b-gt41.true)) (λ e. omega (arith, c.if-b-gt41.true)) c.loop-i-test.true c.loop-i.invariant

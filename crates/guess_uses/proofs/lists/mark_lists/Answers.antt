@@ -1,6 +1,7 @@
 -- `guess_uses::lists::mark_lists` meets its contract.
 -- Assumes nothing.
-use Rattle.guess_uses.proofs.Marks.{marking_start, marking_close, marking_open, marking_on, marking_end}
+use mathlib.Core.Path.{sym, ◌∙◌}
+use Rattle.guess_uses.proofs.Marks.{marking_start, marking_close, marking_open, marking_on, marking_space, marking_end}
 use Rattle.guess_uses.proofs.lists.mark_lists.Goals as goal
 use Rattle.guess_uses.proofs.lists.mark_lists.Goals.{then-b-eq41, else-b-eq41+then-b-eq40, else-b-eq41+else-b-eq40}
 use borrow.Author.Rules.{rules}
@@ -22,3 +23,6 @@ loop-n-preserved c =
 
 pub returns : goal.returns
 returns c = search marking_end
+
+pub loop-n-preserved-then-is_kind : goal.loop-n-preserved-then-is_kind
+loop-n-preserved-then-is_kind c = marking_space c.loop-n.invariant c.loop-n-test.true c.if-b-eq32.true (sym c.is_kind.ensures ∙ c.if-is_kind.true)
