@@ -122,7 +122,7 @@ fn put_ends(out: &mut [u8], at: usize, text: &[u8])
 }
 
 // The TSB word of 64 and the byte behind it; empty where there is none.
-pub fn tsb_word<'a>(texts: Texts<'a>, b: u8) -> &'a [u8]
+pub fn tsb_word<'a, 's>(texts: Texts<'a, 's>, b: u8) -> &'a [u8]
     ensures { result.now ≡ tsb_text b }
 {
     let id = tsb_id(b);

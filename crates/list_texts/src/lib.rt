@@ -334,14 +334,14 @@ pub const TEXT_STARTS: [u16; 307] = [
 
 // The words that a listing writes, as one run of bytes with a start for each: the run spells them.
 #[derive(Clone, Copy)]
-pub struct Texts<'a> {
+pub struct Texts<'a, 's> {
     pub bytes: &'a [u8],
-    pub starts: &'a [u16],
+    pub starts: &'s [u16],
     ghost spelt: { SpellsTexts bytes.now starts.now },
 }
 
 // The run, lent.
-pub fn stored_texts() -> Texts<'static>
+pub fn stored_texts() -> Texts<'static, 'static>
     ensures { SpellsTexts result.bytes.now result.starts.now }
 {
     Texts {
@@ -351,14 +351,14 @@ pub fn stored_texts() -> Texts<'static>
 }
 
 // The word of a byte; empty where it has none.
-pub fn word_at<'a>(texts: Texts<'a>, k: u8) -> &'a [u8]
+pub fn word_at<'a, 's>(texts: Texts<'a, 's>, k: u8) -> &'a [u8]
     ensures { result.now ≡ listed_word k }
 {
     word_search::word_at(texts.bytes, texts.starts, usize::from(k))
 }
 
 // The word of a byte under BASIC 3.5.
-pub fn word35_at<'a>(texts: Texts<'a>, k: u8) -> &'a [u8]
+pub fn word35_at<'a, 's>(texts: Texts<'a, 's>, k: u8) -> &'a [u8]
     ensures { result.now ≡ listed_word35 k }
 {
     match k {
