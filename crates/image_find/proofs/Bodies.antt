@@ -47,15 +47,15 @@ module _ (s : List ℕ) (l : Line) where
   body_there h k = simp (le-ltb _ _ k, le-ltb _ _ h)
 
 -- the part of the image that was got, or its empty one
-pub body_got : (s : List ℕ) (l : Line) (r : Option (Bor (List ℕ))) {x y : Bor (List ℕ)}
+pub body_got : (s : List ℕ) (l : Line) (r : Option (Bor (List ℕ))) (x y : Bor (List ℕ))
     → MatchOption r ((l.to < l.from) ⊎ (length s < l.to)) (λ y. (l.from ≤ l.to) × (l.to ≤ length s) × (y.now ≡ slice_range s l.from l.to) × (length y.now + l.from ≡ l.to))
     → y.now ≡ [] → x ≡ unwrap_or r y → x.now ≡ body_in s l
-body_got s l None h g e = ap (λ (z : Bor (List ℕ)). z.now) e ∙ g ∙ none h
+body_got s l None x y h g e = ap (λ (z : Bor (List ℕ)). z.now) e ∙ g ∙ none h
   where
     none : (l.to < l.from) ⊎ (length s < l.to) → [] ≡ body_in s l
     none (inl b) = body_backward s l b
     none (inr b) = body_beyond s l b
-body_got s l (Some y) h g e = ap (λ (z : Bor (List ℕ)). z.now) e ∙ h.2 ∙ body_there s l h.0 h.1
+body_got s l (Some z) x y h g e = ap (λ (z : Bor (List ℕ)). z.now) e ∙ h.2 ∙ body_there s l h.0 h.1
 
 -- ---- the line that is answered
 
