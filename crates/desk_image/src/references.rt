@@ -54,6 +54,8 @@ fn show_in(rt: &HostRuntime, index: &mut [u8], image: &[u8]) {
     }
 }
 
+// A call of its own, so that no other command takes the stack of these buffers.
+#[inline(never)]
 pub fn show(rt: &HostRuntime, image: &[u8]) {
     let mut index = [0u8; 131_072];
     show_in(rt, &mut index, image);
