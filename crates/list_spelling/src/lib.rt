@@ -81,8 +81,8 @@ pub fn put_unit(out: &mut [u8], at: usize, texts: Texts, unit: Unit) -> usize
     }
 }
 
-// Stores the text of a token that has this word from a place on, and answers the place behind it. Most units are tokens, and a call took a
-// quarter of their time.
+// Stores the text of a token that has this word from a place on, and answers the place behind it. Most units are tokens, so it
+// stands where it is called.
 #[inline(always)]
 fn put_token(out: &mut [u8], at: usize, word: &[u8], b: u8) -> usize
     requires { Room out.old at (or_digits b word.now) }
