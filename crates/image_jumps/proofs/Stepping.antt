@@ -1,7 +1,6 @@
 -- The steps over a body: one byte of a list, one unit of the text, and the loop over them.
 -- Assumes nothing.
-use Prim.Native.Nat.{ℕ, ◌+◌, ◌-◌, ◌*◌, ◌≤◌, ◌<◌, min}
-use Rattle.std.specs.Option.{unwrap_or}
+use Prim.Native.Nat.{ℕ, ◌+◌, ◌-◌, ◌*◌, ◌≤◌, ◌<◌}
 use mathlib.Core.Path.{◌≡◌, refl, sym, ap, ◌∙◌}
 use mathlib.Core.Bool.{Bool, true, false, cond}
 use mathlib.Core.List.{List, [], ◌∷◌, ◌++◌, map, map-append, append-nil}
@@ -30,11 +29,16 @@ use Rattle.std.specs.Prelude.{Option, Some, None}
 
 -- ---- a digit
 
--- a digit more, where no number that 64 bits cannot hold is read
-pub digit_more : (part : Option ℕ) (d : ℕ) {v t a n : ℕ} → d < 256 → v ≡ unwrap_or part 0 → t ≡ min (v * 10) 18446744073709551615 → a ≡ min (t + d) 18446744073709551615 → n ≡ low a
-    → Some n ≡ low_part (with_digit part d)
-digit_more None d h v t a n = ap Some (omega arith)
-digit_more (Some u) d h v t a n = ap Some (omega arith)
+-- a digit more
+pub digit_first : {part : Option ℕ} (d : ℕ) → part ≡ None → d < 256 → Some d ≡ low_part (with_digit part d)
+digit_first d e h = rw e (ap Some (omega arith))
+
+module _ {part : Option ℕ} {v : ℕ} (d : ℕ) (e : part ≡ Some v) where
+  pub digit_cut : 6553 < v → Some 65536 ≡ low_part (with_digit part d)
+  digit_cut h = rw e (ap Some (omega arith))
+
+  pub digit_more : {n : ℕ} → n ≡ low (v * 10 + d) → Some n ≡ low_part (with_digit part d)
+  digit_more is = rw e (ap Some is)
 
 pub digit_low : (b : ℕ) {r : Bool} → r ≡ is_digit b → r ≡ true → 48 ≤ b
 digit_low b e t = (between_in 48 57 b (sym e ∙ t)).0

@@ -86,10 +86,9 @@ fn step(body: &[u8], cursor: Cursor) -> Moved
     ensures { Moves body.now cursor result }
 {
     if cursor.listed {
-        list_step(body, cursor)
-    } else {
-        text_step(body, cursor)
+        return list_step(body, cursor);
     }
+    text_step(body, cursor)
 }
 
 // One byte of a list, or the first byte behind it, which is left to be read as any other.
@@ -131,8 +130,15 @@ fn lead(told: Option<usize>, at: usize, mode: Mode, listed: bool, part: Option<u
 fn with_digit(part: Option<usize>, digit: u8) -> Option<usize>
     ensures { result ≡ low_part (with_digit part digit) }
 {
-    let tens = part.unwrap_or(0).saturating_mul(10);
-    Some(cut(tens.saturating_add(usize::from(digit))))
+    match part {
+        None => Some(usize::from(digit)),
+        Some(value) => {
+            if value > 6553 {
+                return Some(65536);
+            }
+            Some(cut(value * 10 + usize::from(digit)))
+        }
+    }
 }
 
 // A target, cut at 65536.

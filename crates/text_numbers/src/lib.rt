@@ -55,8 +55,9 @@ fn digits_in(text: &[u8]) -> Digits
     }
 }
 
-// What a line is: both ends trimmed, then its digits, then spaces, then the body. Most blank lines are empty, and asked for that alone, so that
-// this much stands where the call does.
+// What a line is: both ends trimmed, then its digits, then spaces, then the body. Most blank lines are empty, and that
+// test alone stands where the call does.
+#[inline(always)]
 pub fn number_line(line: &[u8]) -> Numbering
     ensures { result ≡ numbering line.now }
 {
