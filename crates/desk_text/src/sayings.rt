@@ -99,7 +99,7 @@ pub fn cut(s: &[u8], from: usize, to: usize) -> &[u8]
     ensures { result.now ≡ take (to - from) (drop from s.now) }
 {
     let end = to.min(s.len());
-    if from < end { &s[from..end] } else { &[] }
+    if from < end { &s[from..end] } else { &s[..0] }
 }
 
 // Puts a sentence into a line, with a part of the text in the place of its mark.

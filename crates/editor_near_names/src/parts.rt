@@ -28,7 +28,7 @@ pub fn count_part(inside: &[u8]) -> &[u8]
     }
     let star = search::before(text, Kind::Is(b'*'));
     if text.len() <= star {
-        return b"";
+        return &text[..0];
     }
     digits_of(base_ascii::trim(&text[star + 1..]))
 }

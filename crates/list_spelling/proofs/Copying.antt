@@ -1,4 +1,4 @@
--- A text stored: one byte; its first four and its last four; or in one copy.
+-- A text stored: one byte; its front and its end; or in one copy.
 -- Assumes nothing.
 use Prim.Native.Nat.{ℕ, zero, suc, ◌+◌, ◌-◌, ◌≤◌}
 use mathlib.Core.Path.{◌≡◌, refl, sym, ap, ◌∙◌}
@@ -6,7 +6,7 @@ use mathlib.Core.List.{List, [], ◌∷◌, ◌++◌, append_assoc}
 use native.Mathlib.Omega.{arith}
 use native.Mathlib.Nat.{add-zero}
 use lib.ListN.{length, get_or, take, drop, set, length-drop}
-use lib.Seq.{sets, sets-eq, length-sets, set-set, take_all, drop-drop}
+use lib.Seq.{sets, sets-eq, set-set, take_all, drop-drop}
 use Rattle.std.proofs.lemmas.List.{length-take-le}
 use borrow.Rule.Slice.PartMut.{put_mid}
 use Rattle.base_lent.specs.Stores.{Room, Put}
@@ -22,7 +22,7 @@ module _ {text : List ℕ} {at : ℕ} {buffer : List ℕ} where
       go (b ∷ []) h = refl
       go (b ∷ (c ∷ t)) h = absurd (omega arith)
 
--- a text of four to eight bytes, stored by its first four and its last four
+-- a text stored by its front and its end
 again : (l : List ℕ) (at j : ℕ) (t : List ℕ) → sets (sets l at (take j t)) at t ≡ sets l at t
 again l at zero t = refl
 again l at (suc j) [] = refl
@@ -49,11 +49,14 @@ copied d t at size h e =
 pub all_stored : {d t part : List ℕ} {at : ℕ} → Room d at t → part ≡ t → Put d at t (at + length t) (put_mid at (at + length t - at) d part)
 all_stored {d} {t} {part} {at} r e = record { ends = refl; stored = copied d t at {k = at + length t - at} (omega arith) (omega (arith, r.room)) e }
 
-pub ends_stored : (d t : List ℕ) (at : ℕ) {p q : List ℕ} → Room d at t → p ≡ take 4 t → q ≡ take (length t - (length t - 4)) (drop (length t - 4) t) → 4 ≤ length t → length t ≤ 8
-    → put_mid (at + (length t - 4)) (at + (length t - 4) + 4 - (at + (length t - 4))) (put_mid at (at + 4 - at) d p) q ≡ sets d at t
-ends_stored d t at r e f low high =
-    let i = length t - 4 in
-    rw (copied d (take 4 t) at {k = at + 4 - at} (omega (arith, length-take-le 4 t low)) (omega (arith, r.room)) e)
-    (copied (sets d at (take 4 t)) (drop i t) (at + i) {k = at + i + 4 - (at + i)} (omega (arith, length-drop i t)) (omega (arith, r.room, length-sets d at (take 4 t)))
-    (f ∙ take_all (length t - i) (drop i t) (omega (arith, length-drop i t)))
-    ∙ overlapping d at i 4 t (omega arith))
+-- the part at a text's front, and the part at its end
+pub front_stored : (d t : List ℕ) (at n : ℕ) {part : List ℕ} → at + n ≤ length d → n ≤ length t → part ≡ take n t → put_mid at (at + n - at) d part ≡ sets d at (take n t)
+front_stored d t at n h low e = copied d (take n t) at (omega (arith, length-take-le n t low)) (omega arith) e
+
+pub ends_stored : (d t : List ℕ) (at n : ℕ) → n ≤ length t → length t ≤ n + n
+    → sets (sets d at (take n t)) (at + (length t - n)) (take n (take (length t - (length t - n)) (drop (length t - n) t))) ≡ sets d at t
+ends_stored d t at n low high =
+    let i = length t - n in
+    let all = take_all (length t - i) (drop i t) (omega (arith, length-drop i t)) in
+    let part = take_all n (drop i t) (omega (arith, length-drop i t)) in
+    rw (all, part) (overlapping d at i n t (omega arith))

@@ -1,7 +1,7 @@
 // How the units of a body are spelt in a listing.
 #![tactic(auto)]
 
-ghost use Rattle.std.specs.Prelude.{◌≡◌, ◌≤◌, length};
+ghost use Rattle.std.specs.Prelude.{◌≡◌, ◌+◌, ◌≤◌, length, take};
 ghost use Rattle.std.proofs.lemmas.List.Edits.{sets};
 ghost use Rattle.base_lent.specs.Stores.{Room, Put};
 ghost use Rattle.list_texts.specs.TextsHelpers.{or_digits};
@@ -97,8 +97,8 @@ fn put_token(out: &mut [u8], at: usize, word: &[u8], b: u8) -> usize
     }
 }
 
-// Stores a text from a place on, and answers the place behind it. One byte is stored at once, and four to eight, as most words have, by
-// the first four and the last four: a copy of a known size takes no call.
+// Stores a text from a place on, and answers the place behind it. One byte is stored at once, and two to eight, as most words have, by the
+// first two or four and as many at the end: a copy of a known size takes no call.
 pub fn put(out: &mut [u8], at: usize, text: &[u8]) -> usize
     requires { Room out.old at text.now }
     ensures { Put out.old at text.now result out.new }
@@ -106,21 +106,34 @@ pub fn put(out: &mut [u8], at: usize, text: &[u8]) -> usize
     let end = at + text.len();
     match text.len() {
         1 => out[at] = text[0],
-        4..=8 => put_ends(out, at, text),
+        2..=3 => put_ends::<2>(out, at, text),
+        4..=8 => put_ends::<4>(out, at, text),
         _ => out[at..end].copy_from_slice(text),
     }
     end
 }
 
-// Stores the first four bytes of a text, and the last four: of four to eight, that is all.
-fn put_ends(out: &mut [u8], at: usize, text: &[u8])
-    requires { Room out.old at text.now × (4 ≤ length text.now) × (length text.now ≤ 8) }
+// Stores the first N bytes of a text, and the last N: of N to twice as many, that is all. It stands where it is called, since a call would
+// cost more than the copy.
+#[inline(always)]
+fn put_ends<const N: usize>(out: &mut [u8], at: usize, text: &[u8])
+    requires { Room out.old at text.now × (N ≤ length text.now) × (length text.now ≤ N + N) }
     ensures { out.new ≡ sets out.old at text.now }
 {
-    let last = text.len() - 4;
-    let end = at + last;
-    out[at..at + 4].copy_from_slice(&text[..4]);
-    out[end..end + 4].copy_from_slice(&text[last..]);
+    let last = text.len() - N;
+    put_front::<N>(out, at, text);
+    put_front::<N>(out, at + last, &text[last..]);
+}
+
+// Stores the first N bytes of a text. All are read before one is stored, so that they move as one. It stands where it is called, for the same
+// reason.
+#[inline(always)]
+fn put_front<const N: usize>(out: &mut [u8], at: usize, text: &[u8])
+    requires { (at + N ≤ length out.old) × (N ≤ length text.now) }
+    ensures { out.new ≡ sets out.old at (take N text.now) }
+{
+    let front = *text.first_chunk::<N>().unwrap();
+    out[at..at + N].copy_from_slice(&front);
 }
 
 // The TSB word of 64 and the byte behind it; empty where there is none.
@@ -131,7 +144,7 @@ pub fn tsb_word<'a, 's>(texts: Texts<'a, 's>, b: u8) -> &'a [u8]
     if id < 0x80 {
         list_texts::word_at(texts, id)
     } else {
-        &[]
+        &texts.bytes[..0]
     }
 }
 

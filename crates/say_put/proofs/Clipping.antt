@@ -6,7 +6,7 @@ use mathlib.Core.Bool.{Bool, true, false}
 use mathlib.Core.List.{List, [], ◌∷◌, ◌++◌, append_assoc}
 use native.Mathlib.Omega.{arith}
 use lib.Dec.{leb}
-use lib.ListN.{length, take, drop, length-append, drop_of_length-le, take-append-drop}
+use lib.ListN.{length, get_or, set, take, drop, length-append, drop_of_length-le, take-append-drop}
 use lib.Seq.{sets, sets-eq, length-sets, set_out, length-take-le, drop-drop}
 use borrow.Author.Tests.{leb-true, leb-false}
 use borrow.Rule.Slice.PartMut.{put_mid}
@@ -98,3 +98,18 @@ clip_copied d text at {c} {part} h m e =
         let size : length (take c text) ≡ c = length-take-le c text (omega arith) in
         ap (sets d at) (sym (take-append-drop c text)) ∙ sets_append d at (take c text) (drop c text)
         ∙ ap (λ (n : ℕ). sets (sets d at (take c text)) (at + n) (drop c text)) size ∙ rest
+
+-- a text of one byte
+pub clip_one : {d text : List ℕ} {at behind : ℕ} {after : List ℕ} → length text ≡ 1 → Clipped d at (get_or text 0 0 ∷ []) behind after → Clipped d at text behind after
+clip_one {text = t} e p = clip_as (go t e) p
+  where
+    go : (s : List ℕ) → length s ≡ 1 → (get_or s 0 0 ∷ []) ≡ s
+    go [] h = absurd (omega arith)
+    go (b ∷ []) h = refl
+    go (b ∷ (a ∷ s)) h = absurd (omega arith)
+
+pub one_full : (d : List ℕ) (at b : ℕ) → at ≤ length d → length d ≤ at → Clipped d at (b ∷ []) at d
+one_full d at b h f = record { ends = omega arith; stored = sym (set_out d at b f) }
+
+pub one_put : (d : List ℕ) (at b : ℕ) → at < length d → Clipped d at (b ∷ []) (at + 1) (set d at b)
+one_put d at b h = record { ends = omega arith; stored = refl }

@@ -2,7 +2,7 @@
 // of a text is stored, or nothing, and the room that it needs is told.
 #![tactic(auto)]
 
-ghost use Rattle.std.specs.Prelude.{◌≡◌, ◌+◌, ◌≤◌, ◌<◌, length, drop};
+ghost use Rattle.std.specs.Prelude.{◌≡◌, ◌+◌, ◌≤◌, ◌<◌, [], ◌∷◌, length, drop};
 ghost use Rattle.base_steps.specs.Decimal.{decimal};
 ghost use Rattle.base_refusals.specs.Answer.{done};
 ghost use Rattle.base_lent.specs.Lent.{into_buffer, left};
@@ -12,13 +12,29 @@ ghost use Rattle.say_put.specs.SpeltHelpers.{Spelt};
 
 use base_refusals::Refusal;
 
+// One byte is put by itself: a copy of a size that is not known takes a call.
 pub fn put_text(out: &mut [u8], at: usize, text: &[u8]) -> usize
     requires { at ≤ length out.old }
     ensures { Clipped out.old at text.now result out.new }
 {
+    if text.len() == 1 {
+        return put_one(out, at, text[0]);
+    }
     let count = text.len().min(out.len() - at);
     out[at..at + count].copy_from_slice(&text[..count]);
     at + count
+}
+
+// Puts one byte, where there is room.
+fn put_one(out: &mut [u8], at: usize, b: u8) -> usize
+    requires { at ≤ length out.old }
+    ensures { Clipped out.old at (b ∷ []) result out.new }
+{
+    if at >= out.len() {
+        return at;
+    }
+    out[at] = b;
+    at + 1
 }
 
 fn digit(n: usize) -> u8

@@ -53,9 +53,9 @@ pub fn dialect_by_name(word: &[u8]) -> Result<Dialect, Refusal>
         return Err(Refusal::UnknownDialect);
     }
     let name = base_ascii::trim(word);
-    for (known, dialect) in NAMES {
+    for (known, dialect) in &NAMES {
         if word_search::alike(known, name) {
-            return Ok(dialect);
+            return Ok(*dialect);
         }
     }
     Err(Refusal::UnknownDialect)

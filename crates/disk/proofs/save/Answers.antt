@@ -9,10 +9,10 @@ use Rattle.disk.proofs.Saving.{save_taken, save_full, save_on, save_refused}
 use Rattle.disk.proofs.save.Goals as goal
 
 pub returns-then-is_some : goal.returns-then-is_some
-returns-then-is_some c = save_taken _ _ _ c.in_ok-sought.ensures refl c.is_some.ensures c.if-is_some.true
+returns-then-is_some c = search (save_taken c.args.disk.now c.args.name.now c.args.image.now c.in_ok-sought.ensures refl)
 
 pub returns-then-sought-gt143 : goal.returns-then-sought-gt143
-returns-then-sought-gt143 c = save_full _ _ _ c.in_ok-sought.ensures refl c.is_some.ensures c.if-is_some.false c.if-sought-gt143.true
+returns-then-sought-gt143 c = search (save_full c.args.disk.now c.args.name.now c.args.image.now c.in_ok-sought.ensures refl)
 
 pub slice_bounds-sectors-end : goal.slice_bounds-sectors-end
 slice_bounds-sectors-end c = known_few c.in_ok-sought.ensures refl (omega arith)
@@ -29,4 +29,4 @@ returns-in_err-sought c =
     let p = err_from_is_err_and c.from_residual.result c.from_residual.ensures.1 in rw (p.1, p.2) (save_refused c.args.disk.now c.args.name.now c.args.image.now c.in_err-sought.ensures refl)
 
 pub returns : goal.returns
-returns c = save_on _ _ _ c.in_ok-sought.ensures refl c.is_some.ensures c.if-is_some.false c.if-sought-gt143.false c.save_new.ensures
+returns c = search (save_on c.args.disk.now c.args.name.now c.args.image.now c.in_ok-sought.ensures refl)
