@@ -23,6 +23,7 @@ use Rattle.disk_ways.specs.declared.Followed.{Followed}
 use Rattle.disk_ways.proofs.Logged.{Of, way_each, entry_each, followed_start}
 use Rattle.disk_any.specs.Any.{disk_kind, directory_on, listed_by, any_listed, spot_from, file_on, ReadInto, read_by}
 use Rattle.disk_bytes.specs.ByteHelpers.{Below}
+use Rattle.disk_bytes.proofs.Taking.{lies_below}
 use Rattle.disk_any.specs.AnyHelpers.{Holds, Placed}
 use Rattle.disk_any.specs.declared.DiskKind.{DiskKind}
 use Rattle.disk_any.specs.declared.DiskKind.TheVariants.{D64, D71, D81, Other}
@@ -136,14 +137,11 @@ module _ {d : List ℕ} {tracks : ℕ} (h : Holds d tracks) where
 
   below_all : (w : Way) → Each (Of (Tracks tracks)) w.sectors → length w.sectors ≤ 768 → Below d w.sectors
   below_all w e f =
-      record {
-        few = f;
-        lies =
-            record {
-              small = λ i g. omega (arith, each_at (Of (Tracks tracks)) 0 w.sectors e i g, h.few);
-              within = λ i g. omega (arith, each_at (Of (Tracks tracks)) 0 w.sectors e i g, h.size);
-            };
-      }
+      lies_below f
+      (record {
+        small = λ i g. omega (arith, each_at (Of (Tracks tracks)) 0 w.sectors e i g, h.few);
+        within = λ i g. omega (arith, each_at (Of (Tracks tracks)) 0 w.sectors e i g, h.size);
+      })
 
   module _ {r : Followed} {after : List ℕ} {marks marks' : List Bool} where
     module _ (f : Follows (way (Tracks tracks) 768 d (λ m. get_or (replicate 768 false) m false) 358) (replicate 768 0) marks r after marks') where

@@ -27,17 +27,17 @@ module _ (d : List ℕ) (n : ℕ) (e : 256 * n + 256 ≤ length d) where
   pub pay_last : {k : ℕ} → get_or d (256 * n) 0 ≡ 0 → k ≡ get_or d (256 * n + 1) 0 - 1 → get_or d (256 * n + 1) 0 < 256 → k ≡ length (payload d n)
   pay_last {k} z f g = rw (eq-eqb (get_or d (256 * n) 0) 0 z, ← f) (room k (omega arith))
 
--- the sectors of a disk of 35 tracks
-pub sectors_below : {d l : List ℕ} → length d ≡ 174848 → Sectors l → length l ≤ 683 → Below d l
-sectors_below e s h =
-    record {
-      few = omega arith;
-      lies = record { small = λ i g. omega (arith, s.below i g); within = λ i g. omega (arith, s.below i g) };
-    }
-
 -- a list that `measure` takes is one that `take_out` takes
 pub below_lies : {d l : List ℕ} → Below d l → Lies d l
 below_lies s = s.lies
+
+-- and one that `take_out` takes is one that `measure` takes, where it is no longer than an image has sectors
+pub lies_below : {d l : List ℕ} → length l ≤ 768 → Lies d l → Below d l
+lies_below h s = record { few = h; lies = s }
+
+-- the sectors of a disk of 35 tracks
+pub sectors_below : {d l : List ℕ} → length d ≡ 174848 → Sectors l → length l ≤ 683 → Below d l
+sectors_below e s h = lies_below (omega arith) (record { small = λ i g. omega (arith, s.below i g); within = λ i g. omega (arith, s.below i g) })
 
 -- ---- how many
 
